@@ -1,0 +1,56 @@
+-- Numbers that stand in a list, and a list of unique numbers with one spell more at its end. Assumes nothing.
+use mathlib.Core.Path.{_≡_, refl, sym, ap, _∙_}
+use mathlib.Core.Bool.{Bool, true, false, not, _&&_, _||_, true≢false}
+use mathlib.Core.List.{List, [], _∷_, _++_}
+use Prim.Native.Nat.{ℕ}
+use borrow.Author.Tests.{ne-eqb, eqb-false, not-true}
+use lib.Dec.{eqb}
+use Rattle.spell.specs.declared.Spell.{Spell}
+use Rattle.spell.specs.Listing.{stands, distinct}
+use Rattle.spell.proofs.Entered.{both}
+
+pub neither : (a b : Bool) → a || b ≡ false → (a ≡ false) × (b ≡ false)
+neither true b e = absurd (true≢false e)
+neither false b e = (refl, e)
+
+pub other-way : (a b : ℕ) → eqb a b ≡ false → eqb b a ≡ false
+other-way a b h = ne-eqb b a (λ e. eqb-false a b h (sym e))
+
+pub stands-append : (l m : List Spell) (k : ℕ) → stands (l ++ m) k ≡ stands l k || stands m k
+unfolding stands
+stands-append [] m k = refl
+stands-append (a ∷ l) m k = go (eqb (a .number) k) (stands-append l m k)
+  where
+    go : (t : Bool) → stands (l ++ m) k ≡ stands l k || stands m k → t || stands (l ++ m) k ≡ t || stands l k || stands m k
+    go true h = refl
+    go false h = h
+
+pub stands-more : (l : List Spell) (x : Spell) (k : ℕ) → stands (l ++ (x ∷ [])) k ≡ stands l k || eqb (x .number) k
+unfolding stands
+stands-more l x k = stands-append l (x ∷ []) k ∙ ap (λ (t : Bool). stands l k || t) (last (eqb (x .number) k))
+  where
+    last : (t : Bool) → t || false ≡ t
+    last true = refl
+    last false = refl
+
+pub distinct-fresh : (l : List Spell) (x : Spell) (m : List Spell) → distinct (l ++ x ∷ m) ≡ true → stands l (x .number) ≡ false
+unfolding stands distinct
+distinct-fresh [] x m h = refl
+distinct-fresh (a ∷ l) x m h =
+    let p = both (not (stands (l ++ x ∷ m) (a .number))) (distinct (l ++ x ∷ m)) h in
+    let free = sym (stands-append l (x ∷ m) (a .number)) ∙ not-is (stands (l ++ x ∷ m) (a .number)) (p .0) in
+    let other = neither (eqb (x .number) (a .number)) (stands m (a .number)) (neither (stands l (a .number)) (stands (x ∷ m) (a .number)) free .1) .0 in
+    rw (other-way (x .number) (a .number) other) (distinct-fresh l x m (p .1))
+  where
+    not-is : (t : Bool) → not t ≡ true → t ≡ false
+    not-is t e = not-true t e
+
+pub distinct-more : (l : List Spell) (x : Spell) → distinct l ≡ true → stands l (x .number) ≡ false → distinct (l ++ (x ∷ [])) ≡ true
+unfolding stands distinct
+distinct-more [] x h k = refl
+distinct-more (a ∷ l) x h k =
+    let p = both (not (stands l (a .number))) (distinct l) h in
+    let q = neither (eqb (a .number) (x .number)) (stands l (x .number)) k in
+    let free = not-true (stands l (a .number)) (p .0) in
+    let other = other-way (a .number) (x .number) (q .0) in
+    rw (stands-more l x (a .number), free, other) (distinct-more l x (p .1) (q .1))

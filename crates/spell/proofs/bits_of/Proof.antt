@@ -1,0 +1,21 @@
+-- `spell::bits_of` meets its contract. Assumes nothing.
+use mathlib.Core.Path.{_≡_, refl, sym, ap, _∙_}
+use borrow.Author.Needs.{needs}
+use lib.Ieee.{binary32, nan, toBits}
+use lib.Ieee.Compare.{differs-from-itself}
+use Rattle.spell.proofs.Floats.{no-nan}
+use Rattle.spell.proofs.bits_of.Statement.{statement}
+use Rattle.spell.proofs.bits_of.Tie as tie
+
+returns : tie.Need-returns
+unfolding toBits
+returns c = rw (differs-from-itself (c .before .args .x) (rw (c .if1 .taken) tt))
+
+float-to-bits-result : tie.Need-float-to-bits-result
+float-to-bits-result c = no-nan (c .before .args .x) (c .if1 .left)
+
+returns-2 : tie.Need-returns-2
+returns-2 c = search needs
+
+pub bits-of-spec : {M : Type 1} → statement M
+bits-of-spec = tie.close (tie.spec returns float-to-bits-result returns-2)

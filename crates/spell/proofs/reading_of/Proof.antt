@@ -1,0 +1,28 @@
+use borrow.Author.Needs.{needs}
+use borrow.Author.Tests.{lt-ltb, le-ltb}
+use mathlib.Core.Path.{_≡_, refl, sym, ap, _∙_}
+use mathlib.Core.Bool.{Bool, true, false}
+use lib.Dec.{T}
+use lib.Ieee.{Float, nan, inf, fin, binary32, div, isNan, ofBits, nanBits}
+use lib.Ieee.Bits.{nanBits-is, nanBits-above}
+use Rattle.spell.proofs.Equal.{is-nan}
+use Rattle.spell.proofs.reading_of.Statement.{statement}
+use Rattle.spell.proofs.reading_of.Tie as tie
+
+no-number : div binary32 (ofBits binary32 0) (ofBits binary32 0) ≡ nan
+unfolding div ofBits
+no-number = refl
+
+returns : tie.Need-returns
+returns c =
+    let n = c .before .args .n in
+    no-number ∙ sym (is-nan (ofBits binary32 n) (rw (sym (nanBits-is binary32 n) ∙ nanBits-above binary32 n ∙ lt-ltb _ _ (c .if1 .taken)) tt))
+
+float-from-bits-result : tie.Need-float-from-bits-result
+float-from-bits-result c = let n = c .before .args .n in rw (nanBits-above binary32 n ∙ le-ltb _ _ (c .if1 .left)) tt
+
+returns-2 : tie.Need-returns-2
+returns-2 c = search needs
+
+pub reading-of-spec : {M : Type 1} → statement M
+reading-of-spec = tie.close (tie.spec returns float-from-bits-result returns-2)

@@ -1,0 +1,85 @@
+use borrow.Author.Needs.{needs}
+use borrow.Author.Tests.{eq-eqb, ne-eqb, lt-ltb, le-ltb, not-true, not-false}
+use mathlib.Core.Path.{_≡_, _∙_, sym}
+use mathlib.Core.Bool.{Bool, true, false}
+use lib.Dec.{eqb, ltb}
+use Rattle.spell.specs.Entry.{dayOk, urgencyOk}
+use Rattle.spell.proofs.refusal_of.Statement.{statement}
+use Rattle.spell.proofs.refusal_of.Tie as tie
+
+-- what each test that was passed leaves
+numbered : (c : tie.Else1) → eqb (c .before .before .args .s .number) 0 ≡ false
+numbered c = ne-eqb _ _ (c .if1 .left)
+
+named : (c : tie.Else2) → eqb (c .before .before .before .before .args .s .candidate) 0 ≡ false
+named c = ne-eqb _ _ (c .if2 .left)
+
+first-in : (c : tie.Else3) → dayOk (c .before .before .before .before .before .before .args .s .first) ≡ true
+first-in c = sym (c .before .day-ok .ensures) ∙ not-false _ (c .if3 .left)
+
+last-in : (c : tie.Else4) → dayOk (c .before .before .before .before .before .before .before .before .args .s .last) ≡ true
+last-in c = sym (c .before .day-ok2 .ensures) ∙ not-false _ (c .if4 .left)
+
+returns : tie.Need-returns
+returns c = simp (eq-eqb _ _ (c .if1 .taken))
+
+returns-2 : tie.Need-returns-2
+returns-2 c = simp (numbered (c .before .before), eq-eqb _ _ (c .if2 .taken))
+
+day-ok-requires : tie.Need-day-ok-requires
+day-ok-requires c κs = search needs
+
+returns-3 : tie.Need-returns-3
+returns-3 c =
+    let e2 = c .before .before in
+    simp (numbered (e2 .before .before), named e2, sym (c .before .day-ok .ensures), not-true (c .before .day-ok .result) (c .if3 .taken))
+
+day-ok-requires-2 : tie.Need-day-ok-requires-2
+day-ok-requires-2 c κs = search needs
+
+returns-4 : tie.Need-returns-4
+returns-4 c =
+    let e3 = c .before .before in
+    let e2 = e3 .before .before in
+    simp (numbered (e2 .before .before), named e2, first-in e3, sym (c .before .day-ok2 .ensures), not-true (c .before .day-ok2 .result) (c .if4 .taken))
+
+returns-5 : tie.Need-returns-5
+returns-5 c =
+    let e4 = c .before .before in
+    let e3 = e4 .before .before in
+    let e2 = e3 .before .before in
+    simp (numbered (e2 .before .before), named e2, first-in e3, last-in e4, lt-ltb _ _ (c .if5 .taken))
+
+urgency-ok-requires : tie.Need-urgency-ok-requires
+urgency-ok-requires c κs = search needs
+
+returns-6 : tie.Need-returns-6
+returns-6 c =
+    let e5 = c .before .before in
+    let e4 = e5 .before .before in
+    let e3 = e4 .before .before in
+    let e2 = e3 .before .before in
+    simp (numbered (e2 .before .before), named e2, first-in e3, last-in e4, le-ltb _ _ (e5 .if5 .left), sym (c .before .urgency-ok .ensures), not-true (c .before .urgency-ok .result) (c .if6 .taken))
+
+returns-7 : tie.Need-returns-7
+returns-7 c =
+    let e5 = c .before .before in
+    let e4 = e5 .before .before in
+    let e3 = e4 .before .before in
+    let e2 = e3 .before .before in
+    simp (numbered (e2 .before .before), named e2, first-in e3, last-in e4, le-ltb _ _ (e5 .if5 .left), sym (c .before .urgency-ok .ensures), not-false (c .before .urgency-ok .result) (c .if6 .left))
+
+pub refusal-of-spec : {M : Type 1} → statement M
+refusal-of-spec =
+    tie.close
+    (tie.spec
+    returns
+    returns-2
+    day-ok-requires
+    returns-3
+    day-ok-requires-2
+    returns-4
+    returns-5
+    urgency-ok-requires
+    returns-6
+    returns-7)
