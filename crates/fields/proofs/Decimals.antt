@@ -1,0 +1,176 @@
+-- A decimal is read as it was written, and what is read is what is written. Assumes nothing.
+use mathlib.Core.Path.{_≡_, refl, sym, ap, _∙_}
+use mathlib.Core.Bool.{Bool, true, false, _&&_, cond, false≢true}
+use mathlib.Core.Logic.{_⊎_, inl, inr}
+use mathlib.Core.List.{List, [], _∷_}
+use Prim.Native.Nat.{ℕ, zero, suc, _+_, _-_, _*_, _/_, _%_, _≤_, _<_}
+use native.Mathlib.Omega.{arith}
+use borrow.Author.Tests.{lt-ltb, le-ltb, le-leb, lt-leb, eq-eqb, ne-eqb, leb-true, eqb-true, eqb-false}
+use native.Mathlib.Decide.{decLe}
+use lib.Dec.{leb, ltb, eqb}
+use Rattle.fields.specs.Fields.{Found, found, unreadable, onward, passed, isDigit, readDigits, readDecimal, readNumber, digitsOf, decimalOf}
+
+pub which : (t : Bool) → (t ≡ true) ⊎ (t ≡ false)
+which true = inl refl
+which false = inr refl
+
+pub never : {A : Type 0} {a : A} {rest : List ℕ} → unreadable ≡ found a rest → ⊥
+never h = let z : _≡_ {A = ℕ} 0 1 = cc in omega arith
+
+-- ---- bytes that are digits
+pub digit-is : (b : ℕ) → 48 ≤ b → b ≤ 57 → isDigit b ≡ true
+digit-is b h k = rw (le-leb 48 b h) (le-leb b 57 k)
+
+pub low-not : (b : ℕ) → b < 48 → isDigit b ≡ false
+low-not b h = rw (lt-leb 48 b h)
+
+pub digit-low : (b : ℕ) → isDigit b ≡ true → 48 ≤ b
+digit-low b h = go (leb 48 b) refl h
+  where
+    go : (t : Bool) → leb 48 b ≡ t → t && leb b 57 ≡ true → 48 ≤ b
+    go true e k = leb-true 48 b e
+    go false e k = absurd (false≢true k)
+
+pub digit-high : (b : ℕ) → isDigit b ≡ true → b ≤ 57
+digit-high b h = go (leb 48 b) refl h
+  where
+    go : (t : Bool) → leb 48 b ≡ t → t && leb b 57 ≡ true → b ≤ 57
+    go true e k = leb-true b 57 k
+    go false e k = absurd (false≢true k)
+
+-- ---- one more digit
+-- below 10, 100, ..
+limit : ℕ → ℕ
+limit zero = 10
+limit (suc k) = 10 * limit k
+
+-- one place more than needed changes nothing
+more : (k n : ℕ) (rest : List ℕ) → n < limit k → digitsOf (suc k) n rest ≡ digitsOf k n rest
+unfolding digitsOf limit
+more zero n rest h = rw (lt-ltb n 10 h)
+more (suc k) n rest h = ap (cond (ltb n 10) ((48 + n) ∷ rest)) (more k (n / 10) ((48 + n % 10) ∷ rest) (omega arith))
+
+pub decimal-one : (n : ℕ) (rest : List ℕ) → n < 10 → decimalOf n rest ≡ (48 + n) ∷ rest
+unfolding decimalOf digitsOf
+decimal-one n rest h = rw (lt-ltb n 10 h)
+
+pub decimal-more : (n : ℕ) (rest : List ℕ) → 10 ≤ n → n ≤ 65535 → decimalOf n rest ≡ decimalOf (n / 10) ((48 + n % 10) ∷ rest)
+unfolding decimalOf digitsOf limit
+decimal-more n rest h k = rw (le-ltb n 10 h) (sym (more 3 (n / 10) ((48 + n % 10) ∷ rest) (omega arith)))
+
+pub decimal-short : (n : ℕ) (rest : List ℕ) → n < 10000 → decimalOf n rest ≡ digitsOf 3 n rest
+unfolding decimalOf limit
+decimal-short n rest h = more 3 n rest h
+
+pub digits-on : (v b : ℕ) (s : List ℕ) → isDigit b ≡ true → 10 * v + (b - 48) ≤ 65535 → readDigits v (b ∷ s) ≡ readDigits (10 * v + (b - 48)) s
+unfolding readDigits
+digits-on v b s d h = rw (d, le-leb (10 * v + (b - 48)) 65535 h)
+
+pub digits-above : (v b : ℕ) (s : List ℕ) → isDigit b ≡ true → 65535 < 10 * v + (b - 48) → readDigits v (b ∷ s) ≡ unreadable
+unfolding readDigits
+digits-above v b s d h = rw (d, lt-leb (10 * v + (b - 48)) 65535 h)
+
+pub digits-end : (v b : ℕ) (s : List ℕ) → isDigit b ≡ false → readDigits v (b ∷ s) ≡ found v (b ∷ s)
+unfolding readDigits
+digits-end v b s d = rw d
+
+-- ---- what is written is read
+first-digit : (n : ℕ) (rest : List ℕ) → 0 < n → n < 10 → readDecimal ((48 + n) ∷ rest) ≡ readDigits n rest
+unfolding readDecimal
+first-digit n rest z h =
+    let back : 48 + n - 48 ≡ n = omega arith in
+    rw (ne-eqb (48 + n) 48 (λ e. omega arith), digit-is (48 + n) (omega arith) (omega arith), back)
+
+-- reading the digits of n is having read n
+read-digits : (k n : ℕ) (rest : List ℕ) → 0 < n → n ≤ 65535 → n < limit k → readDecimal (digitsOf k n rest) ≡ readDigits n rest
+unfolding digitsOf limit
+read-digits zero n rest z h l = first-digit n rest z l
+read-digits (suc k) n rest z h l = elim (decLe 10 n) [
+  | yes m ↦
+      let back : 10 * (n / 10) + (48 + n % 10 - 48) ≡ n = omega arith in
+      rw (
+        le-ltb n 10 m,
+        read-digits k (n / 10) ((48 + n % 10) ∷ rest) (omega arith) (omega arith) (omega arith),
+        digits-on (n / 10) (48 + n % 10) rest (digit-is (48 + n % 10) (omega arith) (omega arith)) (omega arith),
+        back,
+      )
+  | no m ↦ let s : n < 10 = omega arith in rw (lt-ltb n 10 s) (first-digit n rest z s)
+]
+
+pub read-decimal : (n : ℕ) (rest : List ℕ) → 0 < n → n ≤ 65535 → readDecimal (decimalOf n rest) ≡ readDigits n rest
+unfolding decimalOf limit
+read-decimal n rest z h = read-digits 4 n rest z h (omega arith)
+
+-- a number followed by a byte that ends it
+pub read-number : (e n : ℕ) (rest : List ℕ) → e < 48 → n ≤ 65535 → readNumber e (decimalOf n (e ∷ rest)) ≡ found n rest
+unfolding passed
+read-number e zero rest h k = rw (decimal-one 0 (e ∷ rest) (omega arith)) (unfold readDecimal in rw (eq-eqb e e refl))
+read-number e (suc n) rest h k =
+    rw (read-decimal (suc n) (e ∷ rest) (omega arith) k, digits-end (suc n) e rest (low-not e h)) (rw (eq-eqb e e refl))
+
+-- ---- what is read is what is written
+decimal-digit : (v b : ℕ) (s : List ℕ) → 0 < v → 48 ≤ b → b ≤ 57 → 10 * v + (b - 48) ≤ 65535 → decimalOf v (b ∷ s) ≡ decimalOf (10 * v + (b - 48)) s
+decimal-digit v b s z l h k =
+    let up : (10 * v + (b - 48)) / 10 ≡ v = omega arith in
+    let low : 48 + (10 * v + (b - 48)) % 10 ≡ b = omega arith in
+    sym (decimal-more (10 * v + (b - 48)) s (omega arith) k ∙ rw (up, low))
+
+write-digits : (v : ℕ) (s : List ℕ) (n : ℕ) (rest : List ℕ) → 0 < v → v ≤ 65535 → readDigits v s ≡ found n rest
+    → (n ≤ 65535) × (decimalOf v s ≡ decimalOf n rest)
+write-digits v [] n rest z h e =
+    let same : v ≡ n = unfold readDigits in cc in
+    let ends : [] ≡ rest = unfold readDigits in cc in
+    (omega arith, cc)
+write-digits v (b ∷ s) n rest z h e = elim (which (isDigit b)) [
+  | inl d ↦ elim (decLe (10 * v + (b - 48)) 65535) [
+    | yes m ↦
+        let later = write-digits (10 * v + (b - 48)) s n rest (omega arith) m (sym (digits-on v b s d m) ∙ e) in
+        (later .0, decimal-digit v b s z (digit-low b d) (digit-high b d) m ∙ later .1)
+    | no m ↦ absurd (never (sym (digits-above v b s d (omega arith)) ∙ e))
+  ]
+  | inr d ↦
+      let ends = sym (digits-end v b s d) ∙ e in
+      let same : v ≡ n = cc in
+      (omega arith, cc)
+]
+
+write-decimal : (s : List ℕ) (n : ℕ) (rest : List ℕ) → readDecimal s ≡ found n rest → (n ≤ 65535) × (s ≡ decimalOf n rest)
+unfolding readDecimal
+write-decimal [] n rest e = absurd (never e)
+write-decimal (b ∷ s) n rest e = elim (which (eqb b 48)) [
+  | inl z ↦
+      let here = rw z at e in
+      let same : 0 ≡ n = cc in
+      let after : s ≡ rest = cc in
+      (omega arith, rw (eqb-true b 48 z, ← same, ← after) (sym (decimal-one 0 s (omega arith))))
+  | inr z ↦ elim (which (isDigit b)) [
+    | inl d ↦
+        let here = rw (z, d) at e in
+        let k = digit-high b d in
+        let l = digit-low b d in
+        let ne = eqb-false b 48 z in
+        let front : 48 + (b - 48) ≡ b = omega arith in
+        let later = write-digits (b - 48) s n rest (omega arith) (omega arith) here in
+        (later .0, (rw front at (sym (decimal-one (b - 48) s (omega arith)))) ∙ later .1)
+    | inr d ↦ absurd (never (rw (z, d) at e))
+  ]
+]
+
+-- the byte that was passed stands before what follows
+pub write-passed : {A : Type 0} (e : ℕ) (a : A) (s : List ℕ) (x : A) (rest : List ℕ) → passed e a s ≡ found x rest → (a ≡ x) × (s ≡ e ∷ rest)
+unfolding passed
+write-passed e a [] x rest h = absurd (never h)
+write-passed e a (b ∷ s) x rest h = elim (which (eqb b e)) [
+  | inl t ↦ let here = rw t at h in let same = eqb-true b e t in (cc, cc)
+  | inr t ↦ absurd (never (rw t at h))
+]
+
+pub write-number : (e : ℕ) (s : List ℕ) (n : ℕ) (rest : List ℕ) → readNumber e s ≡ found n rest → (n ≤ 65535) × (s ≡ decimalOf n (e ∷ rest))
+write-number e s n rest h = go (readDecimal s) refl h
+  where
+    go : (f : Found ℕ) → readDecimal s ≡ f → onward f (passed e) ≡ found n rest → (n ≤ 65535) × (s ≡ decimalOf n (e ∷ rest))
+    go unreadable d h = absurd (never h)
+    go (found m t) d h =
+        let p = write-passed e m t n rest h in
+        let w = write-decimal s m t d in
+        (omega (arith, p .0), w .1 ∙ rw (p .0, p .1))

@@ -1,0 +1,115 @@
+-- What stands at a place of a text. Assumes nothing.
+use mathlib.Core.Path.{_≡_, sym, ap, _∙_}
+use mathlib.Core.Bool.{true, false, false≢true}
+use mathlib.Core.List.{List, [], _∷_}
+use Prim.Native.Nat.{ℕ, suc, _+_, _-_, _*_, _≤_, _<_}
+use native.Mathlib.Numerals.{add-one}
+use native.Mathlib.Omega.{arith}
+use borrow.Author.Tests.{eq-eqb, ne-eqb, lt-ltb, le-ltb}
+use native.Mathlib.Decide.{decLe}
+use lib.ListN.{length, drop, getD, drop-of-length-le, length-drop}
+use lib.Seq.{drop-cons}
+use Rattle.fields.specs.declared.Field.{Field}
+use Rattle.fields.specs.declared.Field.the-variants.{Value as FieldValue}
+use Rattle.fields.specs.declared.Bits.{Bits}
+use Rattle.fields.specs.declared.Bits.the-variants.{Value as BitsValue}
+use Rattle.fields.specs.Fields.{Found, found, unreadable, passed, isAt, isDigit, readDigits, readDecimal, hexValue, readHex}
+use Rattle.fields.specs.Answers.{placeOf, fieldAt, fieldOf, bitsAt, bitsOf, Reads}
+use Rattle.fields.proofs.Decimals.{digits-on, digits-above, digits-end}
+use Rattle.fields.proofs.Hex.{hex-on, hex-bad, hex-short}
+
+module _ (s : List ℕ) (i : ℕ) where
+  pub here : i < length s → drop i s ≡ getD s i 0 ∷ drop (i + 1) s
+  here h = rw add-one (drop-cons s i 0 h)
+
+  pub past-end : length s ≤ i → drop i s ≡ []
+  past-end h = drop-of-length-le s h
+
+  -- ---- digits
+  pub digits-on-at : (v : ℕ) → i < length s → isDigit (getD s i 0) ≡ true → 10 * v + (getD s i 0 - 48) ≤ 65535
+      → readDigits v (drop i s) ≡ readDigits (10 * v + (getD s i 0 - 48)) (drop (i + 1) s)
+  digits-on-at v h d k = rw (here h) (digits-on v (getD s i 0) (drop (i + 1) s) d k)
+
+  pub digits-above-at : (v : ℕ) → i < length s → isDigit (getD s i 0) ≡ true → 65535 < 10 * v + (getD s i 0 - 48) → readDigits v (drop i s) ≡ unreadable
+  digits-above-at v h d k = rw (here h) (digits-above v (getD s i 0) (drop (i + 1) s) d k)
+
+  pub digits-end-at : (v : ℕ) → i < length s → isDigit (getD s i 0) ≡ false → readDigits v (drop i s) ≡ found v (drop i s)
+  digits-end-at v h d = rw (here h) (digits-end v (getD s i 0) (drop (i + 1) s) d)
+
+  pub digits-past : (v : ℕ) → length s ≤ i → readDigits v (drop i s) ≡ found v (drop i s)
+  unfolding readDigits
+  digits-past v h = rw (past-end h)
+
+  -- ---- a decimal
+  pub decimal-past : length s ≤ i → readDecimal (drop i s) ≡ unreadable
+  unfolding readDecimal
+  decimal-past h = rw (past-end h)
+
+  pub decimal-zero : i < length s → getD s i 0 ≡ 48 → readDecimal (drop i s) ≡ found 0 (drop (i + 1) s)
+  unfolding readDecimal
+  decimal-zero h z = rw (here h, eq-eqb (getD s i 0) 48 z)
+
+  pub decimal-other : i < length s → (getD s i 0 ≡ 48 → ⊥) → isDigit (getD s i 0) ≡ false → readDecimal (drop i s) ≡ unreadable
+  unfolding readDecimal
+  decimal-other h z d = rw (here h, ne-eqb (getD s i 0) 48 z, d)
+
+  pub decimal-digits : i < length s → (getD s i 0 ≡ 48 → ⊥) → isDigit (getD s i 0) ≡ true → readDecimal (drop i s) ≡ readDigits (getD s i 0 - 48) (drop (i + 1) s)
+  unfolding readDecimal
+  decimal-digits h z d = rw (here h, ne-eqb (getD s i 0) 48 z, d)
+
+  -- ---- the byte that ends a field
+  pub at-inside : (e : ℕ) → isAt s i e ≡ true → i < length s
+  at-inside e h = elim (decLe (length s) i) [
+    | yes m ↦ absurd (false≢true (rw (le-ltb i (length s) m) at h))
+    | no m ↦ omega arith
+  ]
+
+  module _ {A : Type 0} (e : ℕ) (a : A) where
+    pub passed-not : isAt s i e ≡ false → passed e a (drop i s) ≡ unreadable
+    unfolding passed
+    passed-not h = elim (decLe (length s) i) [
+      | yes m ↦ rw (past-end m)
+      | no m ↦
+          let l : i < length s = omega arith in
+          rw (here l, rw (lt-ltb i (length s) l) at h)
+    ]
+
+    pub passed-at : isAt s i e ≡ true → passed e a (drop i s) ≡ found a (drop (i + 1) s)
+    unfolding passed
+    passed-at h =
+        let l = at-inside e h in
+        rw (here l, rw (lt-ltb i (length s) l) at h)
+
+  -- ---- hex digits
+  pub hex-past-at : (k v : ℕ) → length s ≤ i → readHex (suc k) v (drop i s) ≡ unreadable
+  hex-past-at k v h = rw (past-end h) (hex-short k v)
+
+  pub hex-bad-at : (k v : ℕ) → i < length s → 16 ≤ hexValue (getD s i 0) → readHex (suc k) v (drop i s) ≡ unreadable
+  hex-bad-at k v h b = rw (here h) (hex-bad k v (getD s i 0) (drop (i + 1) s) b)
+
+  pub hex-on-at : (k v : ℕ) → i < length s → hexValue (getD s i 0) < 16 → readHex (suc k) v (drop i s) ≡ readHex k (16 * v + hexValue (getD s i 0)) (drop (i + 1) s)
+  hex-on-at k v h b = rw (here h) (hex-on k v (getD s i 0) (drop (i + 1) s) b)
+
+-- an answer whose next place is inside the text is that of the rest from there on
+pub place-back : (text : List ℕ) (next : ℕ) → next ≤ length text → next ≡ placeOf text (drop next text)
+place-back text next h = omega (arith, length-drop next text)
+
+-- an answer made of what is found
+pub reads-as : {R A : Type 0} {At : List ℕ → Found A → R} {Of : List ℕ → R → Found A} {text : List ℕ} {r : R} {f : Found A} (g : Found A) → f ≡ g
+    → r ≡ At text g → Of text r ≡ g → Reads At Of text r f
+reads-as {At = At} {text = text} g e a s = record { answer = a ∙ ap (At text) (sym e); says = s ∙ sym e }
+
+-- the next place of a value is that of the rest
+pub field-next : {text : List ℕ} {r : Field} {f : Found ℕ} {v next : ℕ} → Reads fieldAt fieldOf text r f → r ≡ FieldValue v next
+    → next ≡ placeOf text (drop next text)
+field-next {text} {r} {f} {v} {next} p e =
+    let is : f ≡ found v (drop next text) = sym (p .says) ∙ ap (fieldOf text) e in
+    let same : FieldValue v next ≡ FieldValue v (placeOf text (drop next text)) = sym e ∙ p .answer ∙ ap (fieldAt text) is in
+    cc
+
+pub bits-next : {text : List ℕ} {r : Bits} {f : Found ℕ} {v next : ℕ} → Reads bitsAt bitsOf text r f → r ≡ BitsValue v next
+    → next ≡ placeOf text (drop next text)
+bits-next {text} {r} {f} {v} {next} p e =
+    let is : f ≡ found v (drop next text) = sym (p .says) ∙ ap (bitsOf text) e in
+    let same : BitsValue v next ≡ BitsValue v (placeOf text (drop next text)) = sym e ∙ p .answer ∙ ap (bitsAt text) is in
+    cc

@@ -1,0 +1,86 @@
+-- Document 01's Register A, read and written, and single refusals. Assumes nothing.
+use mathlib.Core.Path.{_≡_, refl}
+use mathlib.Core.List.{List, [], _∷_}
+use Prim.Native.Nat.{ℕ}
+use lib.Ieee.{binary32, isNan, ofBits, toBits}
+use Rattle.spell.specs.declared.Urgency.{Urgency}
+use Rattle.spell.specs.declared.Urgency.the-variants.{Grade, Reading}
+use Rattle.spell.specs.declared.Spell.{Spell}
+use Rattle.spell.specs.Order.{earlierOf}
+use Rattle.spell.specs.Listing.{stands}
+use Rattle.fields.specs.Fields.{digitsOf, decimalOf, hexDigit, hexOf, passed, readDigits, readDecimal, hexValue, readHex}
+use Rattle.register.specs.Text.{lineText, textOnto, writeAll, readLetter, readValue, readUrgency, readLine, follows, lineRefusal, accepted, refused, lineAnswer, nextLine, readLines, readText}
+
+abbrev spell : ℕ → ℕ → ℕ → ℕ → Urgency → Spell
+spell n c f l u = record { number = n; candidate = c; first = f; last = l; urgency = u }
+
+abbrev reading : ℕ → Urgency
+reading n = Reading (ofBits binary32 n)
+
+-- Register A, line by line
+abbrev text : List ℕ
+text =
+    49 ∷ 49 ∷ 9 ∷ 55 ∷ 9 ∷ 49 ∷ 9 ∷ 49 ∷ 48 ∷ 9 ∷ 71 ∷ 9 ∷ 50 ∷ 10
+    ∷ 49 ∷ 50 ∷ 9 ∷ 56 ∷ 9 ∷ 51 ∷ 9 ∷ 52 ∷ 9 ∷ 67 ∷ 9 ∷ 51 ∷ 70 ∷ 56 ∷ 48 ∷ 48 ∷ 48 ∷ 48 ∷ 48 ∷ 10
+    ∷ 49 ∷ 52 ∷ 9 ∷ 57 ∷ 9 ∷ 53 ∷ 9 ∷ 54 ∷ 9 ∷ 71 ∷ 9 ∷ 52 ∷ 10
+    ∷ 49 ∷ 51 ∷ 9 ∷ 57 ∷ 9 ∷ 53 ∷ 9 ∷ 56 ∷ 9 ∷ 71 ∷ 9 ∷ 49 ∷ 10
+    ∷ 49 ∷ 53 ∷ 9 ∷ 55 ∷ 9 ∷ 55 ∷ 9 ∷ 49 ∷ 50 ∷ 9 ∷ 67 ∷ 9 ∷ 48 ∷ 48 ∷ 48 ∷ 48 ∷ 48 ∷ 48 ∷ 48 ∷ 48 ∷ 10
+    ∷ 49 ∷ 54 ∷ 9 ∷ 53 ∷ 9 ∷ 57 ∷ 9 ∷ 57 ∷ 9 ∷ 71 ∷ 9 ∷ 51 ∷ 10 ∷ []
+
+abbrev register : List Spell
+register =
+    spell 11 7 1 10 (Grade 2)
+    ∷ spell 12 8 3 4 (reading 0x3F80_0000)
+    ∷ spell 14 9 5 6 (Grade 4)
+    ∷ spell 13 9 5 8 (Grade 1)
+    ∷ spell 15 7 7 12 (reading 0)
+    ∷ spell 16 5 9 9 (Grade 3)
+    ∷ []
+
+a-read : readText text ≡ accepted register
+unfolding isNan ofBits toBits earlierOf stands passed readDigits readDecimal hexValue readHex readLetter readValue readUrgency readLine follows lineRefusal lineAnswer nextLine readLines readText
+a-read = refl
+
+a-written : writeAll register ≡ text
+unfolding ofBits toBits digitsOf decimalOf hexDigit hexOf lineText textOnto
+a-written = refl
+
+-- the empty text is the empty list
+none-read : readText [] ≡ accepted []
+unfolding isNan ofBits toBits earlierOf stands passed readDigits readDecimal hexValue readHex readLetter readValue readUrgency readLine follows lineRefusal lineAnswer nextLine readLines readText
+none-read = refl
+
+-- a leading zero
+leading-zero : readText (48 ∷ 49 ∷ 9 ∷ 49 ∷ 9 ∷ 49 ∷ 9 ∷ 49 ∷ 9 ∷ 71 ∷ 9 ∷ 49 ∷ 10 ∷ []) ≡ refused 12 1
+unfolding isNan ofBits toBits earlierOf stands passed readDigits readDecimal hexValue readHex readLetter readValue readUrgency readLine follows lineRefusal lineAnswer nextLine readLines readText
+leading-zero = refl
+
+-- the last line without its LF
+no-last-lf : readText (49 ∷ 9 ∷ 49 ∷ 9 ∷ 49 ∷ 9 ∷ 49 ∷ 9 ∷ 71 ∷ 9 ∷ 49 ∷ []) ≡ refused 12 1
+unfolding isNan ofBits toBits earlierOf stands passed readDigits readDecimal hexValue readHex readLetter readValue readUrgency readLine follows lineRefusal lineAnswer nextLine readLines readText
+no-last-lf = refl
+
+-- a number above 65,535
+above-range : readText (54 ∷ 53 ∷ 53 ∷ 51 ∷ 54 ∷ 9 ∷ 49 ∷ 9 ∷ 49 ∷ 9 ∷ 49 ∷ 9 ∷ 71 ∷ 9 ∷ 49 ∷ 10 ∷ []) ≡ refused 12 1
+unfolding isNan ofBits toBits earlierOf stands passed readDigits readDecimal hexValue readHex readLetter readValue readUrgency readLine follows lineRefusal lineAnswer nextLine readLines readText
+above-range = refl
+
+-- a lower-case hex digit
+lower-case : readText (49 ∷ 9 ∷ 49 ∷ 9 ∷ 49 ∷ 9 ∷ 49 ∷ 9 ∷ 67 ∷ 9 ∷ 51 ∷ 102 ∷ 56 ∷ 48 ∷ 48 ∷ 48 ∷ 48 ∷ 48 ∷ 10 ∷ []) ≡ refused 12 1
+unfolding isNan ofBits toBits earlierOf stands passed readDigits readDecimal hexValue readHex readLetter readValue readUrgency readLine follows lineRefusal lineAnswer nextLine readLines readText
+lower-case = refl
+
+-- minus zero
+minus-zero : readText (49 ∷ 9 ∷ 49 ∷ 9 ∷ 49 ∷ 9 ∷ 49 ∷ 9 ∷ 67 ∷ 9 ∷ 56 ∷ 48 ∷ 48 ∷ 48 ∷ 48 ∷ 48 ∷ 48 ∷ 48 ∷ 10 ∷ []) ≡ refused 5 1
+unfolding isNan ofBits toBits earlierOf stands passed readDigits readDecimal hexValue readHex readLetter readValue readUrgency readLine follows lineRefusal lineAnswer nextLine readLines readText
+minus-zero = refl
+
+-- the same line twice: its number is taken, which is checked before its place
+taken-and-misplaced : readText (49 ∷ 9 ∷ 49 ∷ 9 ∷ 49 ∷ 9 ∷ 49 ∷ 9 ∷ 71 ∷ 9 ∷ 49 ∷ 10 ∷ 49 ∷ 9 ∷ 49 ∷ 9 ∷ 49 ∷ 9 ∷ 49 ∷ 9 ∷ 71 ∷ 9 ∷ 49 ∷ 10 ∷ []) ≡ refused 6 2
+unfolding isNan ofBits toBits earlierOf stands passed readDigits readDecimal hexValue readHex readLetter readValue readUrgency readLine follows lineRefusal lineAnswer nextLine readLines readText
+taken-and-misplaced = refl
+
+-- a line that is not after the one before
+misplaced : readText (50 ∷ 9 ∷ 49 ∷ 9 ∷ 49 ∷ 9 ∷ 49 ∷ 9 ∷ 71 ∷ 9 ∷ 49 ∷ 10 ∷ 49 ∷ 9 ∷ 49 ∷ 9 ∷ 49 ∷ 9 ∷ 49 ∷ 9 ∷ 71 ∷ 9 ∷ 49 ∷ 10 ∷ []) ≡ refused 13 2
+unfolding isNan ofBits toBits earlierOf stands passed readDigits readDecimal hexValue readHex readLetter readValue readUrgency readLine follows lineRefusal lineAnswer nextLine readLines readText
+misplaced = refl
