@@ -1,0 +1,12 @@
+pub mod Marks
+pub mod Links
+pub mod Walk
+pub mod Steps
+pub mod Starts
+pub mod Cases
+pub mod Days
+pub mod Wording
+pub mod Listing
+pub mod Claims
+pub mod Columns
+pub mod Block

@@ -1,0 +1,122 @@
+-- The walk's recursions with no fuel to follow: what code that goes by the links is proved against. Assumes nothing.
+use Prim.Native.Nat.{ℕ, zero, suc, _+_, _-_, _≤_, _<_, zero-le}
+use native.Mathlib.Nat.{le-refl}
+use native.Mathlib.Omega.{arith}
+use mathlib.Core.Bool.{Bool, true, false, not, _&&_}
+use mathlib.Core.List.{List, [], _∷_, _++_}
+use mathlib.Core.Path.{_≡_, refl, sym, ap, _∙_}
+use lib.ListN.{length, length-append}
+use lib.Dec.{leb}
+use borrow.Author.Tests.{le-leb, lt-leb}
+use Rattle.stabbing.specs.Tree.{Sorted, keep, Found, push, tick, day, head, next, parent, child, leftSibling, lastChild, compare, chain, rise, climb}
+use Rattle.stabbing.proofs.Marks.{by-test, by-mark, by-eq, untrue, keep-hit, keep-miss, keep-skip}
+use Rattle.stabbing.proofs.Links.{Head, bottom, parent-is, Stretch, own, upper, lower, c-head, c-parent, c-under, c-over, c-longest, c-child, c-left}
+use Rattle.stabbing.proofs.Walk.{reach, compare-none, compare-yes, compare-no}
+
+module _ (fs ls : List ℕ) (l : ℕ) where
+  pub compare-same : (m : ℕ) (go go′ : ℕ → Found → Found) (s : Found) → ((p : ℕ) → m ≡ suc p → (t : Found) → go p t ≡ go′ p t) → compare fs ls l m go s ≡ compare fs ls l m go′ s
+  compare-same m go go′ s f = by-mark m
+      (λ z. compare-none fs ls l m go s z ∙ sym (compare-none fs ls l m go′ s z))
+      (λ p z. by-test (reach fs ls l p)
+      (λ e. compare-yes fs ls l m p go s z e ∙ f p z (tick s) ∙ sym (compare-yes fs ls l m p go′ s z e))
+      (λ e. compare-no fs ls l m p go s z e ∙ sym (compare-no fs ls l m p go′ s z e)))
+
+  rise-more : (f m v c : ℕ) (s : Found) → Stretch fs ls m v → v ≤ m + f → child fs ls m v ≡ suc c → rise fs ls l (suc f) c s ≡ rise fs ls l f c s
+  unfolding rise
+  rise-more zero m v c s r h e = absurd (omega (arith, c-over fs ls m v r c e, c-under fs ls m v r c e))
+  rise-more (suc f) m v c s r h e =
+      let over = c-over fs ls m v r c e in
+      let under = c-under fs ls m v r c e in
+      let R : ℕ → Found → Found = rise fs ls l (suc f) in
+      let R′ : ℕ → Found → Found = rise fs ls l f in
+      let a : compare fs ls l (lastChild fs ls c) R s ≡ compare fs ls l (lastChild fs ls c) R′ s
+      = compare-same (lastChild fs ls c) R R′ s (λ p z t. rise-more f (suc c) v p t (upper fs ls m v r c e) (omega arith) (sym (c-child fs ls m v r c e) ∙ z)) in
+      let s₁ : Found = chain fs ls l c (compare fs ls l (lastChild fs ls c) R′ s) in
+      let b : compare fs ls l (leftSibling fs ls c) R s₁ ≡ compare fs ls l (leftSibling fs ls c) R′ s₁
+      = compare-same (leftSibling fs ls c) R R′ s₁ (λ p z t. rise-more f m c p t (lower fs ls m v r c e) (omega arith) (sym (c-left fs ls m v r c e) ∙ z)) in
+      ap (λ (t : Found). compare fs ls l (leftSibling fs ls c) R (chain fs ls l c t)) a ∙ b
+
+  -- one head of a rightmost path
+  pub rise-step : (m v c : ℕ) (s : Found) → Stretch fs ls m v → child fs ls m v ≡ suc c
+      → rise fs ls l (length fs) c s
+      ≡ compare fs ls l (leftSibling fs ls c) (rise fs ls l (length fs)) (chain fs ls l c (compare fs ls l (lastChild fs ls c) (rise fs ls l (length fs)) s))
+  unfolding rise
+  rise-step m v c s r e = sym (rise-more (length fs) m v c s r (omega (arith, r .inside)) e)
+
+  climb-more : (f m : ℕ) (s : Found) → m ≤ f → climb fs ls l (suc f) m s ≡ climb fs ls l f m s
+  unfolding climb
+  climb-more zero zero s h = refl
+  climb-more zero (suc v) s h = absurd (omega arith)
+  climb-more (suc f) zero s h = refl
+  climb-more (suc f) (suc v) s h = climb-more f (parent fs ls v) _ (omega (arith, parent-is fs ls v .within))
+
+  -- one head of the path
+  pub climb-step : (v : ℕ) (s : Found) → v < length fs
+      → climb fs ls l (length fs) (suc v) s
+      ≡ climb fs ls l (length fs) (parent fs ls v) (compare fs ls l (leftSibling fs ls v) (rise fs ls l (length fs)) (chain fs ls l v s))
+  unfolding climb
+  climb-step v s h = sym (climb-more (length fs) (suc v) s h)
+
+-- ---- the measure: the heads of a stretch, none of them visited yet
+
+module _ (fs ls : List ℕ) where
+  pub heads : ℕ → ℕ → ℕ
+  heads m v = length (keep (head fs ls) v) - length (keep (head fs ls) m)
+
+module _ (t : ℕ → Bool) where
+  keep-one : (p : ℕ) → t p ≡ true → length (keep t (suc p)) ≡ suc (length (keep t p))
+  keep-one p e = rw (keep-hit t p e) (omega (arith, length-append (keep t p) (p ∷ [])))
+
+  keep-grows : (lo hi : ℕ) → lo ≤ hi → length (keep t lo) ≤ length (keep t hi)
+  keep-grows lo zero h = let z : lo ≡ 0 = omega arith in rw z (le-refl _)
+  keep-grows lo (suc k) h = by-eq lo (suc k) h (λ z. rw z (le-refl _)) (λ lt.
+      let ih = keep-grows lo k (omega arith) in
+      by-test (t k) (λ e. omega (arith, keep-one k e)) (λ e. rw (keep-miss t k e) ih))
+
+  pub keep-room : (lo hi : ℕ) → lo ≤ hi → length (keep t hi) + lo ≤ length (keep t lo) + hi
+  keep-room lo zero h = let z : lo ≡ 0 = omega arith in rw z (le-refl _)
+  keep-room lo (suc k) h = by-eq lo (suc k) h (λ z. rw z (le-refl _)) (λ lt.
+      let ih = keep-room lo k (omega arith) in
+      by-test (t k) (λ e. omega (arith, keep-one k e)) (λ e. rw (keep-miss t k e) (omega arith)))
+
+module _ (fs ls : List ℕ) (m v : ℕ) (r : Stretch fs ls m v) (c : ℕ) (e : child fs ls m v ≡ suc c) where
+  pub heads-upper : heads fs ls (suc c) v < heads fs ls m v
+  unfolding heads
+  heads-upper =
+      let t : ℕ → Bool = head fs ls in
+      let one : length (keep t (suc c)) ≡ suc (length (keep t c)) = keep-one t c (c-head fs ls m v r c e) in
+      omega (arith, keep-grows t m c (c-over fs ls m v r c e), keep-grows t (suc c) v (c-under fs ls m v r c e))
+
+  pub heads-lower : heads fs ls m c < heads fs ls m v
+  unfolding heads
+  heads-lower =
+      let t : ℕ → Bool = head fs ls in
+      let one : length (keep t (suc c)) ≡ suc (length (keep t c)) = keep-one t c (c-head fs ls m v r c e) in
+      omega (arith, keep-grows t m c (c-over fs ls m v r c e), keep-grows t (suc c) v (c-under fs ls m v r c e))
+
+-- ---- where the stretch of a last child ends: at the first later head that lasts longer
+
+-- the least position from p on, of the next f, that passes the test; p + f where none does
+unfoldable pub above : (ℕ → Bool) → ℕ → ℕ → ℕ
+above t p zero = p
+above t p (suc f) = elim (t p) [ true ↦ p | false ↦ above t (suc p) f ]
+
+pub above-is : (t : ℕ → Bool) (p f v : ℕ) → p ≤ v → v ≤ p + f → t v ≡ true → ((x : ℕ) → p ≤ x → x < v → t x ≡ false) → above t p f ≡ v
+unfolding above
+above-is t p zero v h k e n = omega arith
+above-is t p (suc f) v h k e n = by-eq p v h
+    (λ z. rw (ap t z ∙ e, above) z)
+    (λ lt. rw (n p (le-refl p) lt, above) (above-is t (suc p) f v lt (omega arith) e (λ x a b. n x (omega arith) b)))
+
+module _ (fs ls : List ℕ) where
+  unfoldable pub over : ℕ → ℕ
+  over w = above (λ y. head fs ls y && not (leb (day ls y) (day ls w))) (suc w) (length fs)
+
+  pub over-is : (m v : ℕ) (r : Stretch fs ls m v) (c : ℕ) → child fs ls m v ≡ suc c → over c ≡ v
+  unfolding over
+  over-is m v r c e =
+      above-is _ (suc c) (length fs) v (c-under fs ls m v r c e) (omega (arith, r .inside))
+      (rw (r .top, lt-leb (day ls v) (day ls c) (r .low c (c-over fs ls m v r c e) (c-under fs ls m v r c e) (c-head fs ls m v r c e))))
+      (λ x g h. by-test (head fs ls x)
+      (λ hx. rw (hx, le-leb (day ls x) (day ls c) (c-longest fs ls m v r c e x (omega (arith, c-over fs ls m v r c e)) h hx)))
+      (λ nx. rw nx))

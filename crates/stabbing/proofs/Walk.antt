@@ -1,0 +1,295 @@
+-- The walk lists what lasts to l, falling, and its comparisons are the formula's. Assumes nothing.
+use Prim.Native.Nat.{ℕ, zero, suc, _+_, _*_, _≤_, _<_, zero-le}
+use native.Mathlib.Nat.{le-refl}
+use native.Mathlib.Omega.{arith}
+use mathlib.Core.Bool.{Bool, true, false, not, _&&_, _||_}
+use mathlib.Core.List.{List, [], _∷_, _++_, append-assoc, append-nil}
+use mathlib.Core.Logic.{_≢_}
+use mathlib.Core.Path.{_≡_, refl, sym, ap, subst, _∙_}
+use lib.ListN.{length, getD}
+use lib.Dec.{leb, eqb}
+use borrow.Author.Tests.{eqb-true, eqb-false, eq-eqb, ne-eqb, leb-true, leb-false, le-leb, lt-leb}
+use Rattle.stabbing.specs.Tree.{Sorted, below, keep, count, one, some, Found, nothing, push, tick, day, head, next, parent, child, leftSibling, lastChild, fits, start, onPath, compare, chain, rise, climb, walk, hasNext, hasLeft, hasChild, formula}
+use Rattle.stabbing.proofs.Marks.{by-test, by-mark, by-eq, both, clash, untrue, Below, below-is, below-skip, keep-hit, keep-miss, keep-skip, keep-ext, count-last, count-le}
+use Rattle.stabbing.proofs.Links as Links
+use Rattle.stabbing.proofs.Links.{Head, bottom, bottom-is, Parent, parent-is, Stretch, own, upper, lower, c-head, c-parent, c-under, c-over, c-child, c-left, next-some, next-bottom, chain-up, Top, top, barren, left-is}
+
+module _ (fs ls : List ℕ) (l : ℕ) where
+  abbrev pub reach : ℕ → Bool
+  reach p = leb l (day ls p)
+
+  pub compare-none : (m : ℕ) (go : ℕ → Found → Found) (s : Found) → m ≡ 0 → compare fs ls l m go s ≡ s
+  unfolding compare
+  compare-none m go s e = rw e
+
+  pub compare-yes : (m p : ℕ) (go : ℕ → Found → Found) (s : Found) → m ≡ suc p → reach p ≡ true → compare fs ls l m go s ≡ go p (tick s)
+  unfolding compare
+  compare-yes m p go s e r = rw e (rw (r, compare))
+
+  pub compare-no : (m p : ℕ) (go : ℕ → Found → Found) (s : Found) → m ≡ suc p → reach p ≡ false → compare fs ls l m go s ≡ tick s
+  unfolding compare
+  compare-no m p go s e r = rw e (rw (r, compare))
+
+  pub climb-none : (f : ℕ) (s : Found) → climb fs ls l f 0 s ≡ s
+  unfolding climb
+  climb-none zero s = refl
+  climb-none (suc f) s = refl
+
+module _ (fs ls : List ℕ) (sorted : Sorted fs ls) (l : ℕ) (on : ℕ → Bool) where
+  abbrev pub next? : ℕ → Bool
+  next? = hasNext fs ls
+
+  abbrev pub left? : ℕ → Bool
+  left? = hasLeft fs ls
+
+  abbrev pub child? : ℕ → Bool
+  child? = hasChild fs ls on
+
+  -- what lasts to l below k, and the comparisons due for it
+  abbrev pub upto : ℕ → List ℕ
+  upto k = keep (reach fs ls l) k
+
+  pub due : ℕ → ℕ
+  due k = count next? (upto k) + count left? (upto k) + count child? (upto k)
+
+  -- from hi down to lo, s has become s′: all that lasts to l is listed, and all but e of the comparisons due, and e′ more, are made
+  pub record Went (hi : ℕ) (s : Found) (lo : ℕ) (s′ : Found) (e e′ : ℕ) : Type 0 where
+    pub list : upto lo ++ s′ .list ≡ upto hi ++ s .list
+    pub comparisons : due lo + s′ .comparisons + e ≡ due hi + s .comparisons + e′
+
+  pub due-hit : (p : ℕ) → reach fs ls l p ≡ true → due (suc p) ≡ due p + one (next? p) + (one (left? p) + one (child? p))
+  unfolding due
+  due-hit p e = rw (keep-hit (reach fs ls l) p e) (omega (arith, count-last next? (upto p) p, count-last left? (upto p) p, count-last child? (upto p) p))
+
+  pub due-miss : (p : ℕ) → reach fs ls l p ≡ false → due (suc p) ≡ due p
+  unfolding due
+  due-miss p e = rw (keep-miss (reach fs ls l) p e)
+
+  upto-hit : (p : ℕ) (xs : List ℕ) → reach fs ls l p ≡ true → upto p ++ (p ∷ xs) ≡ upto (suc p) ++ xs
+  upto-hit p xs e = rw (keep-hit (reach fs ls l) p e) (sym (append-assoc (upto p) (p ∷ []) xs))
+
+  -- nothing lasts to l from lo up to hi
+  skip : (lo hi : ℕ) (s : Found) → lo ≤ hi → ((x : ℕ) → lo ≤ x → x < hi → l ≤ day ls x → ⊥) → (upto hi ≡ upto lo) × (due hi ≡ due lo)
+  unfolding due
+  skip lo hi s h f =
+      let e : upto hi ≡ upto lo = keep-skip (reach fs ls l) lo hi h (λ x a b t. f x a b (leb-true _ _ t)) in
+      (e, rw e)
+
+  -- the chain from p down to its bottom lo; what is due for p as a head is left open
+  chain-went : (lo p : ℕ) (s : Found) → p < length fs → lo ≤ p → next fs ls lo ≡ 0 → ((x : ℕ) → lo ≤ x → x < p → head fs ls x ≡ false)
+      → reach fs ls l p ≡ true → Went (suc p) s lo (chain fs ls l p s) (one (left? p) + one (child? p)) 0
+  unfolding chain
+  chain-went lo zero s h g nx f e =
+      let z : lo ≡ 0 = omega arith in
+      let k : one (next? 0) ≡ 0 = rw (rw z at nx) in
+      rw z (record { list = upto-hit 0 (s .list) e; comparisons = omega (arith, due-hit 0 e) })
+  chain-went lo (suc p) s h g nx f e = by-eq lo (suc p) g
+      (λ z.
+      let nx′ : next fs ls (suc p) ≡ 0 = rw z at nx in
+      let k : one (next? (suc p)) ≡ 0 = rw nx′ in
+      rw (z, compare-none fs ls l _ (λ _. chain fs ls l p) (push (suc p) s) nx′)
+      (record { list = upto-hit (suc p) (s .list) e; comparisons = omega (arith, due-hit (suc p) e) }))
+      (λ lt.
+      let np : head fs ls p ≡ false = f p (omega arith) (le-refl _) in
+      let nx′ : next fs ls (suc p) ≡ suc p = next-some fs ls p (omega arith) np in
+      let k : one (next? (suc p)) ≡ 1 = rw nx′ in
+      let s₁ : Found = push (suc p) s in
+      let due₁ = due-hit (suc p) e in
+      by-test (reach fs ls l p)
+      (λ r.
+      let ih : Went (suc p) (tick s₁) lo (chain fs ls l p (tick s₁)) (one (left? p) + one (child? p)) 0
+      = chain-went lo p (tick s₁) (omega arith) (omega arith) nx (λ x a b. f x a (omega arith)) r in
+      let no-left : one (left? p) ≡ 0 = rw np in
+      let no-child : one (child? p) ≡ 0 = rw np in
+      rw (compare-yes fs ls l _ p (λ _. chain fs ls l p) s₁ nx′ r)
+      (record { list = ih .list ∙ upto-hit (suc p) (s .list) e; comparisons = omega (arith, ih .comparisons) }))
+      (λ r.
+      let d = skip lo (suc p) s (omega arith) (λ x a b t.
+      omega (arith, leb-false l (day ls p) r, chain-up fs ls sorted lo p (omega arith) (λ y a′ b′. f y a′ (omega arith)) x a (omega arith))) in
+      rw (compare-no fs ls l _ p (λ _. chain fs ls l p) s₁ nx′ r)
+      (record { list = ap (λ (ys : List ℕ). ys ++ (suc p ∷ s .list)) (sym (d .0)) ∙ upto-hit (suc p) (s .list) e; comparisons = omega (arith, d .1) })))
+
+  -- a head's whole chain
+  pub chain-of : (v : ℕ) (s : Found) → Head fs ls v → v < length fs → reach fs ls l v ≡ true
+      → Went (suc v) s (bottom fs ls v) (chain fs ls l v s) (one (left? v) + one (child? v)) 0
+  chain-of v s hv h e = chain-went (bottom fs ls v) v s h (bottom-is fs ls v .within) (next-bottom fs ls v h)
+      (λ x a b. untrue (head fs ls x) (bottom-is fs ls v .miss x a b)) e
+
+  -- what `rise f` does, as the fuel f is enough for the stretch
+  abbrev pub Rises : ℕ → Type 0
+  Rises f = (m v c : ℕ) (s : Found) → Stretch fs ls m v → ((x : ℕ) → m ≤ x → x < v → Head fs ls x → on x ≡ false) → v ≤ m + f
+      → child fs ls m v ≡ suc c → reach fs ls l c ≡ true → Went (bottom fs ls v) s m (rise fs ls l f c s) 0 0
+
+  -- a comparison with the last child of a stretch, and what follows
+  pub compare-went : (f : ℕ) → Rises f → (m v : ℕ) (s : Found) → Stretch fs ls m v → ((x : ℕ) → m ≤ x → x < v → Head fs ls x → on x ≡ false) → v ≤ m + f
+      → Went (bottom fs ls v) s m (compare fs ls l (child fs ls m v) (rise fs ls l f) s) 0 (one (some (child fs ls m v)))
+  compare-went f ih m v s r off h = by-mark (child fs ls m v)
+      (λ z.
+      let d = skip m (bottom fs ls v) s (r .base) (barren fs ls sorted m v r l (λ c e. absurd (omega arith))) in
+      rw (compare-none fs ls l _ (rise fs ls l f) s z, z)
+      (record { list = ap (λ (ys : List ℕ). ys ++ s .list) (sym (d .0)); comparisons = omega (arith, d .1) }))
+      (λ c z. by-test (reach fs ls l c)
+      (λ e.
+      let w = ih m v c (tick s) r off h z e in
+      rw (compare-yes fs ls l _ c (rise fs ls l f) s z e, z)
+      (record { list = w .list; comparisons = omega (arith, w .comparisons) }))
+      (λ e.
+      let d = skip m (bottom fs ls v) s (r .base) (barren fs ls sorted m v r l (λ c′ e′.
+      let q : c ≡ c′ = omega arith in rw q at (leb-false l (day ls c) e))) in
+      rw (compare-no fs ls l _ c (rise fs ls l f) s z e, z)
+      (record { list = ap (λ (ys : List ℕ). ys ++ s .list) (sym (d .0)); comparisons = omega (arith, d .1) })))
+
+  pub rise-went : (f : ℕ) → Rises f
+  unfolding rise
+  rise-went zero m v c s r off h e t = absurd (omega (arith, c-over fs ls m v r c e, c-under fs ls m v r c e))
+  rise-went (suc f) m v c s r off h e t =
+      let ih : Rises f = rise-went f in
+      let over = c-over fs ls m v r c e in
+      let under = c-under fs ls m v r c e in
+      let hc = c-head fs ls m v r c e in
+      let s₁ : Found = compare fs ls l (lastChild fs ls c) (rise fs ls l f) s in
+      let w₁ : Went (bottom fs ls v) s (suc c) s₁ 0 (one (some (lastChild fs ls c)))
+      = rw (c-child fs ls m v r c e) (compare-went f ih (suc c) v s (upper fs ls m v r c e) (λ x a b. off x (omega arith) b) (omega arith)) in
+      let s₂ : Found = chain fs ls l c s₁ in
+      let w₂ = chain-of c s₁ hc (omega (arith, r .inside)) t in
+      let s₃ : Found = compare fs ls l (leftSibling fs ls c) (rise fs ls l f) s₂ in
+      let w₃ : Went (bottom fs ls c) s₂ m s₃ 0 (one (some (leftSibling fs ls c)))
+      = rw (c-left fs ls m v r c e) (compare-went f ih m c s₂ (lower fs ls m v r c e) (λ x a b. off x a (omega arith)) (omega arith)) in
+      let k₁ : one (left? c) ≡ one (some (leftSibling fs ls c)) = rw hc in
+      let k₂ : one (child? c) ≡ one (some (lastChild fs ls c)) = rw (hc, off c over under hc) in
+      record { list = w₃ .list ∙ w₂ .list ∙ w₁ .list; comparisons = omega (arith, w₁ .comparisons, w₂ .comparisons, w₃ .comparisons) }
+
+  -- the path upward from the head v, where `on` is that path
+  path-under : (f m x : ℕ) → m ≤ x → onPath fs ls f m x ≡ false
+  unfolding onPath
+  path-under zero m x h = refl
+  path-under (suc f) zero x h = refl
+  path-under (suc f) (suc v) x h = rw (ne-eqb x v (λ z. omega arith)) (path-under f (parent fs ls v) x (omega (arith, parent-is fs ls v .within)))
+
+  path-here : (f v : ℕ) → onPath fs ls (suc f) (suc v) v ≡ true
+  unfolding onPath
+  path-here f v = rw (eq-eqb v v refl)
+
+  path-up : (f v x : ℕ) → x < v → onPath fs ls (suc f) (suc v) x ≡ onPath fs ls f (parent fs ls v) x
+  unfolding onPath
+  path-up f v x h = rw (ne-eqb x v (λ z. omega arith))
+
+  climb-went : (f v : ℕ) (s : Found) → v < f → v < length fs → Head fs ls v → reach fs ls l v ≡ true
+      → ((x : ℕ) → x ≤ v → on x ≡ onPath fs ls f (suc v) x) → Went (suc v) s 0 (climb fs ls l f (suc v) s) 0 0
+  unfolding climb
+  climb-went zero v s b h hv t path = absurd (omega arith)
+  climb-went (suc f) v s b h hv t path =
+      let s₁ : Found = chain fs ls l v s in
+      let w₁ = chain-of v s hv h t in
+      let path′ : (x : ℕ) → x < v → on x ≡ onPath fs ls f (parent fs ls v) x = λ x lt. path x (omega arith) ∙ path-up f v x lt in
+      let s₂ : Found = compare fs ls l (leftSibling fs ls v) (rise fs ls l (length fs)) s₁ in
+      let w₂ : Went (bottom fs ls v) s₁ (parent fs ls v) s₂ 0 (one (some (leftSibling fs ls v)))
+      = rw (left-is fs ls v) (compare-went (length fs) (rise-went (length fs)) (parent fs ls v) v s₁ (own fs ls v hv h) (λ x a b _. path′ x b ∙ path-under f _ x a) (omega arith)) in
+      let k₁ : one (left? v) ≡ one (some (leftSibling fs ls v)) = rw hv in
+      let k₂ : one (child? v) ≡ 0 = rw (hv, path v (le-refl v) ∙ path-here f v) in
+      let w : Went (suc v) s (parent fs ls v) s₂ 0 0 = record { list = w₂ .list ∙ w₁ .list; comparisons = omega (arith, w₁ .comparisons, w₂ .comparisons) } in
+      let i = parent-is fs ls v in
+      by-mark (parent fs ls v)
+      (λ z. rw (ap (λ (m : ℕ). climb fs ls l f m s₂) z ∙ climb-none fs ls l f s₂) (rw z at w))
+      (λ u z.
+      let a : u < v = omega (arith, i .within) in
+      let ih = climb-went f u s₂ (omega arith) (omega arith) (i .hit u z .0)
+      (le-leb l (day ls u) (omega (arith, i .hit u z .1, leb-true l (day ls v) t)))
+      (λ x le. rw z at (path′ x (omega arith))) in
+      let w′ : Went (suc v) s (suc u) s₂ 0 0 = rw z at w in
+      rw (ap (λ (m : ℕ). climb fs ls l f m s₂) z)
+      (record { list = ih .list ∙ w′ .list; comparisons = omega (arith, ih .comparisons, w′ .comparisons) }))
+
+module _ (fs ls : List ℕ) (sorted : Sorted fs ls) where
+  pub days-rise : (x v : ℕ) → x ≤ v → v < length fs → day fs x ≤ day fs v
+  days-rise x zero h k = let z : x ≡ 0 = omega arith in rw z (le-refl _)
+  days-rise x (suc v) h k = by-eq x (suc v) h (λ z. rw z (le-refl _)) (λ lt. omega (arith, days-rise x v (omega arith) (omega arith), sorted .rise v k))
+
+  module _ (h l : ℕ) where
+    pub fits-of : (p : ℕ) → fits fs ls h l p ≡ true → (day fs p ≤ h) × (l ≤ day ls p)
+    unfolding fits
+    fits-of p e = let q = both (leb (day fs p) h) (leb l (day ls p)) e in (leb-true _ _ (q .0), leb-true _ _ (q .1))
+
+    pub of-fits : (p : ℕ) → day fs p ≤ h → l ≤ day ls p → fits fs ls h l p ≡ true
+    unfolding fits
+    of-fits p a b = rw (le-leb _ _ a, le-leb _ _ b)
+
+    reach-fits : (p : ℕ) → day fs p ≤ h → reach fs ls l p ≡ fits fs ls h l p
+    unfolding fits
+    reach-fits p a = rw (le-leb (day fs p) h a)
+
+    -- what the start is: a head that fits, and no position from it on fits
+    pub record Start (m : ℕ) : Type 0 where
+      pub within : m ≤ length fs
+      pub hit : (v : ℕ) → m ≡ suc v → Head fs ls v × (day fs v ≤ h) × (l ≤ day ls v)
+      pub miss : (x : ℕ) → m ≤ x → x < length fs → fits fs ls h l x ≡ true → ⊥
+
+    pub start-is : Start (start fs ls h l)
+    unfolding start
+    start-is =
+        let t : ℕ → Bool = λ p. head fs ls p && fits fs ls h l p in
+        let i : Below t (length fs) (below t (length fs)) = below-is t (length fs) in
+        record {
+          within = i .within;
+          hit = λ v e. let q = both (head fs ls v) (fits fs ls h l v) (i .hit v e) in let r = fits-of v (q .1) in (q .0, r .0, r .1);
+          miss = λ x a b e.
+              let q = top fs ls sorted x b in
+              let y : Top fs ls sorted x (q .0) = q .1 in
+              let r = fits-of x e in
+              i .miss (q .0) (omega (arith, y .above)) (y .inside) (rw (y .is) (of-fits (q .0) (rw (y .first) at (r .0)) (omega (arith, y .last))));
+        }
+
+    -- THE LISTING and THE LOOKS
+    pub record Right (m : ℕ) (w : Found) : Type 0 where
+      pub list : w .list ≡ keep (fits fs ls h l) (length fs)
+      pub comparisons : w .comparisons ≡ formula fs ls m (w .list)
+
+    walk-none : Start 0 → Right 0 (walk fs ls l 0)
+    unfolding walk formula count keep
+    walk-none i = rw (climb-none fs ls l (length fs) nothing)
+        (record { list = sym (keep-skip (fits fs ls h l) 0 (length fs) zero-le (i .miss)); comparisons = refl })
+
+    walk-some : (v : ℕ) → Start (suc v) → Right (suc v) (walk fs ls l (suc v))
+    unfolding walk formula keep due count
+    walk-some v i =
+        let q = i .hit v refl in
+        let inside : v < length fs = i .within in
+        let on : ℕ → Bool = onPath fs ls (length fs) (suc v) in
+        let r : ℕ → Bool = reach fs ls l in
+        let w = climb-went fs ls sorted l on (length fs) v nothing inside inside (q .0) (le-leb l (day ls v) (q .2)) (λ x _. refl) in
+        let a : walk fs ls l (suc v) .list ≡ keep r (suc v) = w .list ∙ append-nil (keep r (suc v)) in
+        let b : keep r (suc v) ≡ keep (fits fs ls h l) (suc v) = keep-ext r (fits fs ls h l) (suc v) (λ p k.
+        reach-fits p (omega (arith, days-rise p v (omega arith) inside, q .1))) in
+        let c : keep (fits fs ls h l) (length fs) ≡ keep (fits fs ls h l) (suc v) = keep-skip (fits fs ls h l) (suc v) (length fs) (i .within) (i .miss) in
+        record { list = a ∙ b ∙ sym c; comparisons = rw a (omega (arith, w .comparisons)) }
+
+    pub walk-right : (m : ℕ) → Start m → Right m (walk fs ls l m)
+    walk-right zero i = walk-none i
+    walk-right (suc v) i = walk-some v i
+
+-- never more than three comparisons for each spell listed
+pub formula-le : (fs ls : List ℕ) (m : ℕ) (ps : List ℕ) → formula fs ls m ps ≤ 3 * length ps
+unfolding formula
+formula-le fs ls m ps = omega (arith, count-le (hasNext fs ls) ps, count-le (hasLeft fs ls) ps, count-le (hasChild fs ls (onPath fs ls (length fs) m)) ps)
+
+-- THE THEOREMS, for any two days
+module _ (fs ls : List ℕ) (sorted : Sorted fs ls) (h l : ℕ) where
+  pub right : Right fs ls sorted h l (start fs ls h l) (walk fs ls l (start fs ls h l))
+  right = walk-right fs ls sorted h l (start fs ls h l) (start-is fs ls sorted h l)
+
+  pub listing : walk fs ls l (start fs ls h l) .list ≡ keep (fits fs ls h l) (length fs)
+  listing = right .list
+
+  pub comparisons-formula : walk fs ls l (start fs ls h l) .comparisons ≡ formula fs ls (start fs ls h l) (keep (fits fs ls h l) (length fs))
+  comparisons-formula = right .comparisons ∙ ap (formula fs ls (start fs ls h l)) listing
+
+  pub comparisons-few : walk fs ls l (start fs ls h l) .comparisons ≤ 3 * length (walk fs ls l (start fs ls h l) .list)
+  comparisons-few = rw (right .comparisons) (formula-le fs ls (start fs ls h l) (walk fs ls l (start fs ls h l) .list))
+
+  pub comparisons-none : walk fs ls l (start fs ls h l) .list ≡ [] → walk fs ls l (start fs ls h l) .comparisons ≡ 0
+  unfolding formula count
+  comparisons-none e = right .comparisons ∙ ap (formula fs ls (start fs ls h l)) e
+
+  pub unlisted : start fs ls h l ≡ 0 → walk fs ls l (start fs ls h l) .list ≡ []
+  unfolding keep
+  unlisted e = listing ∙ keep-skip (fits fs ls h l) 0 (length fs) zero-le (λ p _ k. start-is fs ls sorted h l .miss p (rw e zero-le) k)

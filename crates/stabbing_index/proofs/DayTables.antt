@@ -1,0 +1,158 @@
+-- The steps of the tables by day, apart from the code. Assumes nothing.
+use Prim.Native.Nat.{ℕ, suc, _+_, _≤_, _<_, zero-le}
+use native.Mathlib.Omega.{arith}
+use native.Mathlib.Numerals.{add-one}
+use mathlib.Core.Bool.{Bool}
+use mathlib.Core.List.{List}
+use mathlib.Core.Logic.{_≢_}
+use mathlib.Core.Path.{_≡_, sym, ap, _∙_}
+use lib.Dec.{leb}
+use lib.ListN.{length, getD, set, length-set}
+use lib.Seq.{getD-set-same, getD-set-other}
+use borrow.Author.Tests.{leb-true, leb-false, le-leb}
+use Rattle.stabbing_index.specs.declared.Way.{Way}
+use Rattle.stabbing.specs.Tree.{Sorted, below, day, head, parent, nearest, start, latest}
+use Rattle.stabbing.proofs.Marks.{by-test, by-mark, by-eq, both, below-is, below-skip, below-hit}
+use Rattle.stabbing.proofs.Links.{Head, Top, top}
+use Rattle.stabbing.proofs.Walk.{start-is}
+use Rattle.stabbing.proofs.Starts.{latest-is, latest-before, lasting, nearest-is, start-nearest}
+use Rattle.stabbing_index.specs.Passes.{Columns, ClimbAt, Climbed, Dayed, AdvanceAt, DaysAt, DayAt}
+
+module _ (fs ls : List ℕ) (sorted : Sorted fs ls) where
+  -- where no row begins on day d + 1, its start is the nearest that lasts to it from the start of day d upward
+  pub start-next : (d : ℕ) → latest fs ls (suc d) ≡ latest fs ls d → start fs ls (suc d) (suc d) ≡ nearest fs ls (suc d) (length fs) (start fs ls d d)
+  start-next d e =
+      let i = latest-is fs ls sorted d in
+      let m : ℕ = latest fs ls d in
+      let t : ℕ → Bool = lasting fs ls sorted d in
+      let u : ℕ → Bool = lasting fs ls sorted (suc d) in
+      let head-m : (v : ℕ) → m ≡ suc v → Head fs ls v = λ v z. i .hit v z .0 in
+      let b = below-is t m in
+      let s : start fs ls d d ≡ below t m = start-nearest fs ls sorted d d ∙ nearest-is fs ls sorted d (length fs) m (i .within) head-m in
+      let a : start fs ls (suc d) (suc d) ≡ below u m
+      = start-nearest fs ls sorted (suc d) (suc d) ∙ ap (nearest fs ls (suc d) (length fs)) e ∙ nearest-is fs ls sorted (suc d) (length fs) m (i .within) head-m in
+      let c : below u m ≡ below u (below t m) = below-skip u (below t m) m (b .within) (λ x g h z.
+      let p = both (head fs ls x) (leb (suc d) (day ls x)) z in
+      b .miss x g h (rw (p .0, le-leb d (day ls x) (omega (arith, leb-true (suc d) (day ls x) (p .1)))))) in
+      a ∙ c ∙ sym (ap (nearest fs ls (suc d) (length fs)) s
+      ∙ nearest-is fs ls sorted (suc d) (length fs) (below t m) (omega (arith, b .within, i .within)) (λ v z. both (head fs ls v) (leb d (day ls v)) (b .hit v z) .0))
+
+-- a row that begins by day d is below the latest's mark
+reached : (fs ls : List ℕ) (sorted : Sorted fs ls) (d x : ℕ) → x < length fs → day fs x ≤ d → x < latest fs ls d
+reached fs ls sorted d x h k = by-test (leb (latest fs ls d) x)
+    (λ e.
+    let y = top fs ls sorted x h in
+    let z : Top fs ls sorted x (y .0) = y .1 in
+    absurd (omega (arith, latest-is fs ls sorted d .miss (y .0) (omega (arith, z .above, leb-true (latest fs ls d) x e)) (z .inside) (z .is), z .first)))
+    (λ e. leb-false (latest fs ls d) x e)
+
+later : (fs ls : List ℕ) (sorted : Sorted fs ls) (d : ℕ) → latest fs ls d ≤ latest fs ls (suc d)
+later fs ls sorted d = by-mark (latest fs ls d) (λ z. rw z zero-le) (λ v z.
+    let i = latest-is fs ls sorted d in
+    rw z (reached fs ls sorted (suc d) v (omega (arith, i .within)) (omega (arith, i .hit v z .1))))
+
+module _ {xs ys fs ls : List ℕ} {n d m : ℕ} (q : AdvanceAt xs ys fs ls n d m) where
+  c : Columns xs ys fs ls n
+  c = q .columns
+
+  pub at-end : n ≤ m → m ≡ latest fs ls d
+  at-end h = omega (arith, q .below, latest-is fs ls (c .sorted) d .within, c .count)
+
+  module _ (h : m < n) where
+    pub stops : d < getD xs m 0 → m ≡ latest fs ls d
+    stops k = by-eq m (latest fs ls d) (q .below) (λ z. z) (λ lt. absurd (omega (arith, c .firsts m h, latest-before fs ls (c .sorted) d m lt)))
+
+    pub goes : getD xs m 0 ≤ d → AdvanceAt xs ys fs ls n d (m + 1)
+    goes k = record { columns = c; below = rw (add-one m) (reached fs ls (c .sorted) d m (omega (arith, c .count)) (omega (arith, c .firsts m h))) }
+
+  pub room : m < n → m < 1024
+  room h = omega (arith, c .few)
+
+module _ {xs ys fs ls : List ℕ} {n : ℕ} {ps : List ℕ} {d m e s : ℕ} (q : DayAt xs ys fs ls n ps d m e s) where
+  c₁ : Columns xs ys fs ls n
+  c₁ = q .rows .columns
+
+  -- a head begins on the day
+  pub begins-here : m ≢ e → e ≡ start fs ls (suc d) (suc d)
+  begins-here ne = by-mark e
+      (λ z. absurd (ne (omega (arith, later fs ls (c₁ .sorted) d, q .m-is, q .e-is))))
+      (λ v z.
+      let i = latest-is fs ls (c₁ .sorted) (suc d) in
+      let hit = i .hit v (sym (q .e-is) ∙ z) in
+      let v-in : v < length fs = omega (arith, i .within, q .e-is) in
+      let first : d < day fs v = latest-is fs ls (c₁ .sorted) d .miss v (omega (arith, later fs ls (c₁ .sorted) d, q .m-is, q .e-is, ne)) v-in (hit .0) in
+      let lasts : suc d ≤ day ls v = omega (arith, q .rows .forward v (rw (c₁ .count) at v-in)) in
+      z ∙ sym (start-nearest fs ls (c₁ .sorted) (suc d) (suc d)
+      ∙ nearest-is fs ls (c₁ .sorted) (suc d) (length fs) (latest fs ls (suc d)) (i .within) (λ u y. i .hit u y .0)
+      ∙ ap (below (lasting fs ls (c₁ .sorted) (suc d))) (sym (q .e-is) ∙ z)
+      ∙ below-hit (lasting fs ls (c₁ .sorted) (suc d)) v (rw (hit .0, le-leb (suc d) (day ls v) lasts))))
+
+  -- none does
+  pub asks-climb : ClimbAt xs ys fs ls n ps s
+  asks-climb =
+      let i = start-is fs ls (c₁ .sorted) d d in
+      record {
+        columns = c₁;
+        within = omega (arith, q .s-is, i .within, c₁ .count);
+        at-head = λ v z. i .hit v (sym (q .s-is) ∙ z) .0;
+        parents = λ v h hv. q .rows .parents v (omega (arith, q .s-is, i .within, c₁ .count)) hv;
+      }
+
+  pub from-before : m ≡ e → (w : Way) → Climbed fs ls (d + 1) s 0 w → w .parent ≡ start fs ls (suc d) (suc d)
+  from-before z w g = g .parent ∙ rw (add-one d, q .s-is) (sym (start-next fs ls (c₁ .sorted) d (sym (q .e-is) ∙ sym z ∙ q .m-is)))
+
+-- ---- the tables
+module _ {xs ys fs ls : List ℕ} {n : ℕ} {ps : List ℕ} (q : DaysAt xs ys fs ls n ps) where
+  c₂ : Columns xs ys fs ls n
+  c₂ = q .columns
+
+  pub latest-zero : 0 ≡ latest fs ls 0
+  latest-zero = by-mark (latest fs ls 0) (λ z. sym z) (λ v z.
+      let i = latest-is fs ls (c₂ .sorted) 0 in
+      absurd (omega (arith, i .hit v z .1, q .begins v (omega (arith, i .within, c₂ .count)))))
+
+  pub start-zero : 0 ≡ start fs ls 0 0
+  start-zero = by-mark (start fs ls 0 0) (λ z. sym z) (λ v z.
+      let i = start-is fs ls (c₂ .sorted) 0 0 in
+      absurd (omega (arith, i .hit v z .1, q .begins v (omega (arith, i .within, c₂ .count)))))
+
+  pub first-day : (ss bs : List ℕ) → length ss ≡ 4001 → length bs ≡ 4001 → Dayed fs ls (set ss 0 0) (set bs 0 0) (0 + 1)
+  first-day ss bs a b = record {
+    starts-size = length-set ss 0 0 ∙ a;
+    begun-size = length-set bs 0 0 ∙ b;
+    starts = λ x h. let z : x ≡ 0 = omega arith in rw z (getD-set-same ss 0 0 0 (omega arith) ∙ start-zero);
+    begun = λ x h. let z : x ≡ 0 = omega arith in rw z (getD-set-same bs 0 0 0 (omega arith) ∙ latest-zero);
+  }
+
+  module _ (d : ℕ) {m s : ℕ} {ss bs : List ℕ} (i : Dayed fs ls ss bs (d + 1)) (h : d < 4000) (m-is : m ≡ latest fs ls d) (s-is : s ≡ start fs ls d d) where
+    pub asks-advance : AdvanceAt xs ys fs ls n (d + 1) m
+    asks-advance = record { columns = c₂; below = rw (m-is, add-one d) (later fs ls (c₂ .sorted) d) }
+
+    module _ {e : ℕ} (e-is : e ≡ latest fs ls (d + 1)) where
+      pub asks-day : DayAt xs ys fs ls n ps d m e s
+      asks-day = record { rows = q; in-calendar = h; m-is = m-is; e-is = e-is ∙ ap (latest fs ls) (add-one d); s-is = s-is }
+
+      pub latest-small : e ≤ 1024
+      latest-small = omega (arith, e-is, latest-is fs ls (c₂ .sorted) (d + 1) .within, c₂ .count, c₂ .few)
+
+      module _ {r : ℕ} (r-is : r ≡ start fs ls (suc d) (suc d)) where
+        pub start-small : r ≤ 1024
+        start-small = omega (arith, r-is, start-is fs ls (c₂ .sorted) (suc d) (suc d) .within, c₂ .count, c₂ .few)
+
+        pub start-is-next : r ≡ start fs ls (d + 1) (d + 1)
+        start-is-next = rw (add-one d) r-is
+
+        pub next-day : Dayed fs ls (set ss (d + 1) r) (set bs (d + 1) e) (d + 1 + 1)
+        next-day = record {
+          starts-size = length-set ss _ _ ∙ i .starts-size;
+          begun-size = length-set bs _ _ ∙ i .begun-size;
+          starts = λ x k. by-eq x (d + 1) (omega arith)
+              (λ z. rw z (getD-set-same ss (d + 1) r 0 (omega (arith, i .starts-size)) ∙ start-is-next))
+              (λ lt. getD-set-other ss (d + 1) x r 0 (λ z. omega arith) ∙ i .starts x lt);
+          begun = λ x k. by-eq x (d + 1) (omega arith)
+              (λ z. rw z (getD-set-same bs (d + 1) e 0 (omega (arith, i .begun-size)) ∙ e-is))
+              (λ lt. getD-set-other bs (d + 1) x e 0 (λ z. omega arith) ∙ i .begun x lt);
+        }
+
+pub all-days : {fs ls ss bs : List ℕ} (d : ℕ) {n : ℕ} → d + 1 ≡ n → Dayed fs ls ss bs (d + 1) → Dayed fs ls ss bs n
+all-days d e q = rw e at q

@@ -1,0 +1,58 @@
+-- Words laid into a block from a place on. Assumes nothing.
+use Prim.Native.Nat.{ℕ, _+_, _≤_, _<_}
+use native.Mathlib.Omega.{arith}
+use mathlib.Core.List.{List, _++_, append-assoc}
+use mathlib.Core.Path.{_≡_, refl, sym, ap, _∙_}
+use lib.ListN.{length, getD, take, drop, set, length-set, length-drop}
+use lib.Seq.{getD-set-same, getD-set-other, getD-take, getD-drop, take-add, take-take, take-at, length-take-le, ext-getD}
+use Rattle.stabbing.specs.Index.{column}
+use Rattle.stabbing.proofs.Marks.{by-eq}
+use Rattle.stabbing.proofs.Columns.{column-only, column-at, column-length}
+use Rattle.stabbing_index.specs.Words.{Laid}
+
+-- k words from base on are those of f, and the words before base are kept
+pub record Laying (entry : List ℕ) (base k : ℕ) (f : ℕ → ℕ) (now : List ℕ) : Type 0 where
+  pub size : length now ≡ length entry
+  pub kept : (j : ℕ) → j < base → getD now j 0 ≡ getD entry j 0
+  pub words : (j : ℕ) → j < k → getD now (base + j) 0 ≡ f j
+
+module _ {entry : List ℕ} {base : ℕ} {f : ℕ → ℕ} where
+  pub laying-none : Laying entry base 0 f entry
+  laying-none = record { size = refl; kept = λ j h. refl; words = λ j h. absurd (omega arith) }
+
+  -- one word more
+  pub laying-next : {k : ℕ} {now : List ℕ} {x : ℕ} → Laying entry base k f now → base + k < length entry → x ≡ f k → Laying entry base (k + 1) f (set now (base + k) x)
+  laying-next {k} {now} {x} i h e = record {
+    size = length-set now (base + k) x ∙ i .size;
+    kept = λ j g. getD-set-other now (base + k) j x 0 (λ z. omega arith) ∙ i .kept j g;
+    words = λ j g. by-eq j k (omega arith)
+        (λ z. rw z (getD-set-same now (base + k) x 0 (omega (arith, i .size)) ∙ e))
+        (λ lt. getD-set-other now (base + k) (base + j) x 0 (λ z. omega arith) ∙ i .words j lt);
+  }
+
+  -- a whole column
+  pub laying-all : {k size to : ℕ} {now : List ℕ} → Laying entry base k f now → k ≡ size → to ≡ base + size → base + size ≤ length entry → Laid entry base to (column size f) now
+  laying-all {k} {size} {to} {now} i e t h =
+      let before : take base now ≡ take base entry = ext-getD 0 (take base now) (take base entry)
+      (length-take-le base now (omega (arith, i .size)) ∙ sym (length-take-le base entry (omega arith)))
+      (λ j g.
+      let b : j < base = omega (arith, length-take-le base now (omega (arith, i .size))) in
+      getD-take base now j 0 b ∙ i .kept j b ∙ sym (getD-take base entry j 0 b)) in
+      let d : size ≤ length (drop base now) = omega (arith, length-drop base now, i .size) in
+      let cells : take size (drop base now) ≡ column size f = column-only size f (take size (drop base now)) (length-take-le size (drop base now) d)
+      (λ j g. getD-take size (drop base now) j 0 g ∙ getD-drop base now j 0 ∙ i .words j (omega arith)) in
+      record { size = i .size; front = rw (t, take-add base size now, before, cells) }
+
+-- one column after another
+pub laid-more : {a b c : ℕ} {e m x us vs : List ℕ} → Laid e a b us m → Laid m b c vs x → Laid e a c (us ++ vs) x
+laid-more {a} {e = e} {us = us} {vs = vs} i j = record { size = j .size ∙ i .size; front = j .front ∙ rw (i .front) (append-assoc (take a e) us vs) }
+
+-- other words over them
+pub laid-over : {a b : ℕ} {e m x us vs : List ℕ} → a ≤ b → a ≤ length e → Laid e a b us m → Laid m a b vs x → Laid e a b vs x
+laid-over {a} {b} {e} {m} {us = us} h g i j =
+    let kept : take a m ≡ take a e = sym (take-take a b m h) ∙ ap (take a) (i .front) ∙ take-at (take a e) us a (length-take-le a e g) in
+    record { size = j .size ∙ i .size; front = j .front ∙ rw kept }
+
+-- the same columns, word by word
+pub column-ext : (n : ℕ) (f g : ℕ → ℕ) → ((p : ℕ) → p < n → f p ≡ g p) → column n f ≡ column n g
+column-ext n f g e = column-only n g (column n f) (column-length n f) (λ p h. column-at n f p h ∙ e p h)

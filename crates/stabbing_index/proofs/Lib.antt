@@ -1,0 +1,8 @@
+pub mod Rows
+pub mod Parents
+pub mod Links
+pub mod Chains
+pub mod DayTables
+pub mod Words
+pub mod Laying
+pub mod Assembling

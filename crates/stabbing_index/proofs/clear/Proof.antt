@@ -1,0 +1,64 @@
+-- `stabbing_index::clear` meets its contract: each need is a step of `proofs/Laying.antt`. Assumes nothing.
+use Prim.Native.Nat.{_-_, _≤_, zero-le}
+use native.Mathlib.Omega.{arith}
+use mathlib.Core.Path.{refl}
+use borrow.Author.Needs.{needs}
+use Rattle.stabbing_index.proofs.Laying as Steps
+use Rattle.stabbing_index.proofs.clear.Statement.{statement}
+use Rattle.stabbing_index.proofs.clear.Tie as tie
+
+abbrev Inv-loop : tie.InvT-loop
+Inv-loop index₀ k₀ index k = Steps.Laying index₀ 18242 k (λ _. 0) index × (k ≤ 65536)
+
+abbrev μ-loop : tie.MeasureT-loop
+μ-loop index₀ k₀ index k = 65536 - k
+
+loop-holds : tie.Need-loop-holds Inv-loop μ-loop
+loop-holds c = (Steps.laying-none, zero-le)
+
+add-index : tie.Need-add-index Inv-loop μ-loop
+add-index c = search needs
+
+mul-index : tie.Need-mul-index Inv-loop μ-loop
+mul-index c = search needs
+
+slice-write-index : tie.Need-slice-write-index Inv-loop μ-loop
+slice-write-index c = search needs
+
+add-k : tie.Need-add-k Inv-loop μ-loop
+add-k c = search needs
+
+loop-less : tie.Need-loop-less Inv-loop μ-loop
+loop-less c = search needs
+
+loop-again : tie.Need-loop-again Inv-loop μ-loop
+loop-again c =
+    let s = c .before .before in
+    let l = c .before .loop in
+    let t = c .loop-test .taken in
+    (Steps.laying-next (l .inv .0) (omega (arith, t, s .pre)) refl, omega (arith, t))
+
+same-length : tie.Need-same-length Inv-loop μ-loop
+same-length c = c .before .loop .inv .0 .size
+
+returns : tie.Need-returns Inv-loop μ-loop
+returns c =
+    let s = c .before .before in
+    let l = c .before .loop in
+    Steps.laying-all (l .inv .0) (omega (arith, l .inv .1, c .loop-test .left)) (omega arith) (omega (arith, s .pre))
+
+pub clear-spec : {M : Type 1} → statement M
+clear-spec =
+    tie.close
+    (tie.spec
+    Inv-loop
+    μ-loop
+    loop-holds
+    add-index
+    mul-index
+    slice-write-index
+    add-k
+    loop-less
+    loop-again
+    same-length
+    returns)

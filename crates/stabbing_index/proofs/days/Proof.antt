@@ -1,0 +1,101 @@
+-- `stabbing_index::days` meets its contract: each need is a step of `proofs/DayTables.antt`. Assumes nothing.
+use Prim.Native.Nat.{_+_, _-_, _≤_, zero-le}
+use native.Mathlib.Omega.{arith}
+use mathlib.Core.Path.{_≡_}
+use lib.ListN.{take}
+use borrow.Author.Needs.{needs}
+use Rattle.stabbing_index.proofs.DayTables as Steps
+use Rattle.stabbing.specs.Tree as Tree
+use Rattle.stabbing_index.specs.Passes.{Dayed}
+use Rattle.stabbing_index.proofs.days.Statement.{statement}
+use Rattle.stabbing_index.proofs.days.Tie as tie
+
+abbrev Inv-loop : tie.InvT-loop
+Inv-loop first last n parent start₀ begun₀ d₀ m₀ s₀ start begun d m s = Dayed (take n first) (take n last) start begun (d + 1) × (m ≡ Tree.latest (take n first) (take n last) d) × (s ≡ Tree.start (take n first) (take n last) d d) × (d ≤ 4000)
+
+abbrev μ-loop : tie.MeasureT-loop
+μ-loop first last n parent start₀ begun₀ d₀ m₀ s₀ start begun d m s = 4000 - d
+
+element-write-start : tie.Need-element-write-start Inv-loop μ-loop
+element-write-start c = search needs
+
+element-write-begun : tie.Need-element-write-begun Inv-loop μ-loop
+element-write-begun c = search needs
+
+loop-holds : tie.Need-loop-holds Inv-loop μ-loop
+loop-holds c =
+    let g = c .args in
+    let q = c .pre in
+    (Steps.first-day (q .0) (g .start .now) (g .begun .now) (q .1 .0) (q .1 .1), Steps.latest-zero (q .0), Steps.start-zero (q .0), zero-le)
+
+add-advance : tie.Need-add-advance Inv-loop μ-loop
+add-advance c = search needs
+
+advance-requires : tie.Need-advance-requires Inv-loop μ-loop
+advance-requires c κs =
+    let q = c .before .before .pre in
+    Steps.asks-advance (q .0) (c .before .loop .d) (c .before .loop .inv .0) (c .loop-test .taken) (c .before .loop .inv .1) (c .before .loop .inv .2)
+
+start-after-requires : tie.Need-start-after-requires Inv-loop μ-loop
+start-after-requires c κs =
+    let q = c .before .before .before .pre in
+    Steps.asks-day (q .0) (c .before .before .loop .d) (c .before .before .loop .inv .0) (c .before .loop-test .taken) (c .before .before .loop .inv .1) (c .before .before .loop .inv .2) (c .advance .ensures)
+
+add-d : tie.Need-add-d Inv-loop μ-loop
+add-d c = search needs
+
+cast-start : tie.Need-cast-start Inv-loop μ-loop
+cast-start c =
+    let q = c .before .before .before .before .pre in
+    record { fits = omega (arith, Steps.start-small (q .0) (c .before .before .before .loop .d) (c .before .before .before .loop .inv .0) (c .before .before .loop-test .taken) (c .before .before .before .loop .inv .1) (c .before .before .before .loop .inv .2) (c .before .advance .ensures) (c .start-after .ensures)) }
+
+mul-start : tie.Need-mul-start Inv-loop μ-loop
+mul-start c = search needs
+
+element-write-start-2 : tie.Need-element-write-start-2 Inv-loop μ-loop
+element-write-start-2 c = search needs
+
+cast-begun : tie.Need-cast-begun Inv-loop μ-loop
+cast-begun c =
+    let q = c .before .before .before .before .pre in
+    record { fits = omega (arith, Steps.latest-small (q .0) (c .before .before .before .loop .d) (c .before .before .before .loop .inv .0) (c .before .before .loop-test .taken) (c .before .before .before .loop .inv .1) (c .before .before .before .loop .inv .2) (c .before .advance .ensures)) }
+
+mul-begun : tie.Need-mul-begun Inv-loop μ-loop
+mul-begun c = search needs
+
+element-write-begun-2 : tie.Need-element-write-begun-2 Inv-loop μ-loop
+element-write-begun-2 c = search needs
+
+loop-less : tie.Need-loop-less Inv-loop μ-loop
+loop-less c = search needs
+
+loop-again : tie.Need-loop-again Inv-loop μ-loop
+loop-again c =
+    let q = c .before .before .before .before .pre in
+    (Steps.next-day (q .0) (c .before .before .before .loop .d) (c .before .before .before .loop .inv .0) (c .before .before .loop-test .taken) (c .before .before .before .loop .inv .1) (c .before .before .before .loop .inv .2) (c .before .advance .ensures) (c .start-after .ensures), c .before .advance .ensures, Steps.start-is-next (q .0) (c .before .before .before .loop .d) (c .before .before .before .loop .inv .0) (c .before .before .loop-test .taken) (c .before .before .before .loop .inv .1) (c .before .before .before .loop .inv .2) (c .before .advance .ensures) (c .start-after .ensures), omega (arith, c .before .before .loop-test .taken))
+
+returns : tie.Need-returns Inv-loop μ-loop
+returns c = Steps.all-days (c .before .loop .d) (omega (arith, c .before .loop .inv .3, c .loop-test .left)) (c .before .loop .inv .0)
+
+pub days-spec : {M : Type 1} → statement M
+days-spec =
+    tie.close
+    (tie.spec
+    Inv-loop
+    μ-loop
+    element-write-start
+    element-write-begun
+    loop-holds
+    add-advance
+    advance-requires
+    start-after-requires
+    add-d
+    cast-start
+    mul-start
+    element-write-start-2
+    cast-begun
+    mul-begun
+    element-write-begun-2
+    loop-less
+    loop-again
+    returns)

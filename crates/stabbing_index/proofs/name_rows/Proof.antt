@@ -1,0 +1,89 @@
+-- `stabbing_index::name_rows` meets its contract: each need is a step of `proofs/Words.antt`. Assumes nothing.
+use Prim.Native.Nat.{_-_, _≤_, zero-le}
+use native.Mathlib.Omega.{arith}
+use mathlib.Core.Path.{_≡_, refl}
+use borrow.Author.Needs.{needs}
+use Rattle.stabbing_index.proofs.Laying as Steps
+use Rattle.stabbing_index.proofs.Words as Names
+use Rattle.stabbing_index.specs.Words.{nameWord}
+use Rattle.stabbing_index.proofs.name_rows.Statement.{statement}
+use Rattle.stabbing_index.proofs.name_rows.Tie as tie
+
+abbrev Inv-loop : tie.InvT-loop
+Inv-loop index₀ number n k₀ index k = Steps.Laying index₀ 18242 65536 (nameWord number k) index × (k ≤ n)
+
+abbrev μ-loop : tie.MeasureT-loop
+μ-loop index₀ number n k₀ index k = n - k
+
+loop-holds : tie.Need-loop-holds Inv-loop μ-loop
+loop-holds c = (Names.nobody (c .before .args .index .now) (c .before .args .number .now) 18242 65536 (c .before .pre .1 .0 .empty), zero-le)
+
+mul-wide : tie.Need-mul-wide Inv-loop μ-loop
+mul-wide c = search needs
+
+element-copy-out-wide : tie.Need-element-copy-out-wide Inv-loop μ-loop
+element-copy-out-wide c = search needs
+
+wide-requires : tie.Need-wide-requires Inv-loop μ-loop
+wide-requires c κs = search needs
+
+add-index : tie.Need-add-index Inv-loop μ-loop
+add-index c = search needs
+
+cast-index : tie.Need-cast-index Inv-loop μ-loop
+cast-index c = search needs
+
+add-index-2 : tie.Need-add-index-2 Inv-loop μ-loop
+add-index-2 c = search needs
+
+mul-index : tie.Need-mul-index Inv-loop μ-loop
+mul-index c = search needs
+
+slice-write-index : tie.Need-slice-write-index Inv-loop μ-loop
+slice-write-index c = search needs
+
+add-k : tie.Need-add-k Inv-loop μ-loop
+add-k c = search needs
+
+loop-less : tie.Need-loop-less Inv-loop μ-loop
+loop-less c = search needs
+
+loop-again : tie.Need-loop-again Inv-loop μ-loop
+loop-again c =
+    let s = c .before .before .before .before .before in
+    let g = s .args in
+    let l = c .before .before .before .loop in
+    let t = c .before .before .loop-test .taken in
+    (Names.one-more (g .index .now) (g .number .now) 18242 65536 (l .k) (l .index) _ (l .inv .0) (omega (arith, s .pre .1 .1)) (c .wide .ensures .small) (c .wide .ensures .same), omega (arith, t))
+
+same-length : tie.Need-same-length Inv-loop μ-loop
+same-length c = c .before .loop .inv .0 .size
+
+returns : tie.Need-returns Inv-loop μ-loop
+returns c =
+    let s = c .before .before .before in
+    let g = s .args in
+    let l = c .before .loop in
+    let e : l .k ≡ g .n = omega (arith, l .inv .1, c .loop-test .left) in
+    Steps.laying-all (rw e at (l .inv .0)) refl (omega arith) (omega (arith, s .pre .1 .1))
+
+pub name-rows-spec : {M : Type 1} → statement M
+name-rows-spec =
+    tie.close
+    (tie.spec
+    Inv-loop
+    μ-loop
+    loop-holds
+    mul-wide
+    element-copy-out-wide
+    wide-requires
+    add-index
+    cast-index
+    add-index-2
+    mul-index
+    slice-write-index
+    add-k
+    loop-less
+    loop-again
+    same-length
+    returns)

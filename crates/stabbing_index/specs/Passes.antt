@@ -1,0 +1,137 @@
+-- What the two sweeps of the builder read, and what they have written: the contracts of its private functions. xs and ys are
+-- the columns of first and last days, fs and ls the days themselves. A record with `At` in its name is over any days; what
+-- the contracts cite, with `Of`, `In`, `Asks` or `Gives` in its name, is the same at the first n words of the columns.
+-- Assumes nothing.
+use Prim.Native.Nat.{ℕ, zero, suc, _+_, _≤_, _<_}
+use mathlib.Core.Bool.{Bool, true, false, not, _||_}
+use mathlib.Core.List.{List, []}
+use mathlib.Core.Path.{_≡_}
+use lib.Dec.{eqb, leb}
+use lib.ListN.{length, getD, take}
+use Rattle.stabbing_index.specs.declared.Way.{Way}
+use Rattle.stabbing.specs.Tree.{Sorted, day, next, parent, child, leftSibling, nearest, start, latest}
+use Rattle.stabbing.proofs.Links.{Head, bottom}
+
+-- a word of 16 bits as a number
+pub record Widened (x r : ℕ) : Type 0 where
+  pub same : r ≡ x
+  pub small : r < 65536
+
+-- ---- The columns
+
+-- the columns xs and ys hold the n first and last days fs and ls, which stand in the order
+pub record Columns (xs ys fs ls : List ℕ) (n : ℕ) : Type 0 where
+  pub count : length fs ≡ n
+  pub few : n ≤ 1024
+  pub sorted : Sorted fs ls
+  pub firsts : (p : ℕ) → p < n → getD xs p 0 ≡ day fs p
+  pub lasts : (p : ℕ) → p < n → getD ys p 0 ≡ day ls p
+
+abbrev pub ColumnsOf : List ℕ → List ℕ → ℕ → Type 0
+ColumnsOf xs ys n = Columns xs ys (take n xs) (take n ys) n
+
+-- is the position k of n, by the column of first days, a head?
+abbrev pub headAt : List ℕ → ℕ → ℕ → Bool
+headAt xs n k = eqb (suc k) n || not (eqb (getD xs k 0) (getD xs (suc k) 0))
+
+-- the next in the chain of the position k of n, which the first days alone show
+abbrev pub nextOf : List ℕ → ℕ → ℕ → ℕ
+nextOf xs n k = next (take n xs) [] k
+
+-- ---- The way from the mark m up to the nearest that lasts to l
+
+-- the head passed last on that way; k where none is passed
+unfoldable pub passed : List ℕ → List ℕ → ℕ → ℕ → ℕ → ℕ → ℕ
+passed fs ls l zero m k = k
+passed fs ls l (suc f) zero k = k
+passed fs ls l (suc f) (suc v) k = elim (leb l (day ls v)) [ true ↦ k | false ↦ passed fs ls l f (parent fs ls v) (suc v) ]
+
+-- m is the mark of a head, and the column ps holds the parents of the heads below it
+pub record ClimbAt (xs ys fs ls : List ℕ) (n : ℕ) (ps : List ℕ) (m : ℕ) : Type 0 where
+  pub columns : Columns xs ys fs ls n
+  pub within : m ≤ n
+  pub at-head : (v : ℕ) → m ≡ suc v → Head fs ls v
+  pub parents : (v : ℕ) → v < m → Head fs ls v → getD ps v 0 ≡ parent fs ls v
+
+abbrev pub ClimbAsks : List ℕ → List ℕ → ℕ → List ℕ → ℕ → Type 0
+ClimbAsks xs ys n ps m = ClimbAt xs ys (take n xs) (take n ys) n ps m
+
+-- where the way ends, and the head passed last
+pub record Climbed (fs ls : List ℕ) (l m k : ℕ) (w : Way) : Type 0 where
+  pub parent : w .parent ≡ nearest fs ls l (length fs) m
+  pub left : w .left ≡ passed fs ls l (length fs) m k
+
+abbrev pub ClimbGives : List ℕ → List ℕ → ℕ → ℕ → ℕ → ℕ → Way → Type 0
+ClimbGives xs ys n l m k w = Climbed (take n xs) (take n ys) l m k w
+
+-- ---- The links
+
+-- the columns ps, qs and cs hold the links of the heads below k: parents, left siblings, and of the children those below k
+pub record Linked (fs ls ps qs cs : List ℕ) (k : ℕ) : Type 0 where
+  pub parents-size : length ps ≡ 1024
+  pub lefts-size : length qs ≡ 1024
+  pub children-size : length cs ≡ 1024
+  pub parents : (v : ℕ) → v < k → Head fs ls v → getD ps v 0 ≡ parent fs ls v
+  pub lefts : (v : ℕ) → v < k → Head fs ls v → getD qs v 0 ≡ leftSibling fs ls v
+  pub children : (v : ℕ) → v < k → Head fs ls v → getD cs v 0 ≡ child fs ls (suc v) k
+
+abbrev pub LinkedOf : List ℕ → List ℕ → ℕ → List ℕ → List ℕ → List ℕ → ℕ → Type 0
+LinkedOf xs ys n ps qs cs k = Linked (take n xs) (take n ys) ps qs cs k
+
+-- the head k after those below it, the latest of which has the mark prev
+pub record HeadAt (xs ys fs ls : List ℕ) (n k prev : ℕ) (ps qs cs : List ℕ) : Type 0 where
+  pub columns : Columns xs ys fs ls n
+  pub inside : k < n
+  pub top : Head fs ls k
+  pub before : prev ≡ bottom fs ls k
+  pub links : Linked fs ls ps qs cs k
+
+abbrev pub HeadAsks : List ℕ → List ℕ → ℕ → ℕ → ℕ → List ℕ → List ℕ → List ℕ → Type 0
+HeadAsks xs ys n k prev ps qs cs = HeadAt xs ys (take n xs) (take n ys) n k prev ps qs cs
+
+-- ---- The tables by day
+
+-- m rows at least begin by day d
+pub record AdvanceAt (xs ys fs ls : List ℕ) (n d m : ℕ) : Type 0 where
+  pub columns : Columns xs ys fs ls n
+  pub below : m ≤ latest fs ls d
+
+abbrev pub AdvanceAsks : List ℕ → List ℕ → ℕ → ℕ → ℕ → Type 0
+AdvanceAsks xs ys n d m = AdvanceAt xs ys (take n xs) (take n ys) n d m
+
+abbrev pub latestIn : List ℕ → List ℕ → ℕ → ℕ → ℕ
+latestIn xs ys n d = latest (take n xs) (take n ys) d
+
+-- rows with their parents
+pub record DaysAt (xs ys fs ls : List ℕ) (n : ℕ) (ps : List ℕ) : Type 0 where
+  pub columns : Columns xs ys fs ls n
+  pub begins : (p : ℕ) → p < n → 1 ≤ day fs p
+  pub forward : (p : ℕ) → p < n → day fs p ≤ day ls p
+  pub parents : (v : ℕ) → v < n → Head fs ls v → getD ps v 0 ≡ parent fs ls v
+
+abbrev pub DaysAsks : List ℕ → List ℕ → ℕ → List ℕ → Type 0
+DaysAsks xs ys n ps = DaysAt xs ys (take n xs) (take n ys) n ps
+
+-- the day d + 1, of which e is the latest, after the day d, of which m is the latest and s the start
+pub record DayAt (xs ys fs ls : List ℕ) (n : ℕ) (ps : List ℕ) (d m e s : ℕ) : Type 0 where
+  pub rows : DaysAt xs ys fs ls n ps
+  pub in-calendar : d < 4000
+  pub m-is : m ≡ latest fs ls d
+  pub e-is : e ≡ latest fs ls (suc d)
+  pub s-is : s ≡ start fs ls d d
+
+abbrev pub DayAsks : List ℕ → List ℕ → ℕ → List ℕ → ℕ → ℕ → ℕ → ℕ → Type 0
+DayAsks xs ys n ps d m e s = DayAt xs ys (take n xs) (take n ys) n ps d m e s
+
+abbrev pub startIn : List ℕ → List ℕ → ℕ → ℕ → ℕ
+startIn xs ys n d = start (take n xs) (take n ys) d d
+
+-- the tables ss and bs hold the start and the latest of every day below d
+pub record Dayed (fs ls ss bs : List ℕ) (d : ℕ) : Type 0 where
+  pub starts-size : length ss ≡ 4001
+  pub begun-size : length bs ≡ 4001
+  pub starts : (x : ℕ) → x < d → getD ss x 0 ≡ start fs ls x x
+  pub begun : (x : ℕ) → x < d → getD bs x 0 ≡ latest fs ls x
+
+abbrev pub DayedOf : List ℕ → List ℕ → ℕ → List ℕ → List ℕ → ℕ → Type 0
+DayedOf xs ys n ss bs d = Dayed (take n xs) (take n ys) ss bs d

@@ -1,0 +1,506 @@
+// The builder of the index: rows that can be published become the block that the questions read. It finds the links of the
+// heads in one sweep, the tables by day in another, and then lays the block column by column.
+use stabbing::BEGUN;
+use stabbing::BY_NUMBER;
+use stabbing::CHILD;
+use stabbing::FIRST;
+use stabbing::INDEX;
+use stabbing::LAST;
+use stabbing::LEFT;
+use stabbing::NEXT;
+use stabbing::NUMBER;
+use stabbing::PARENT;
+use stabbing::ROWS;
+use stabbing::START;
+ghost use mathlib.Core.Path.{_≡_};
+ghost use mathlib.Core.Bool.{_&&_};
+ghost use mathlib.Core.List.{_++_};
+ghost use Prim.Native.Nat.{suc, _+_, _≤_, _<_};
+ghost use lib.ListN.{length, take, getD};
+ghost use Rattle.stabbing.specs.Index.{lastOf, rowOk, mayFollow, rowsOk, column, blockOf};
+ghost use Rattle.stabbing_index.specs.Build.{Builds};
+ghost use Rattle.stabbing_index.specs.Passes.{Widened, headAt, ColumnsOf, ClimbAsks, ClimbGives, HeadAsks, LinkedOf, nextOf, AdvanceAsks, latestIn, DaysAsks, DayAsks, startIn, DayedOf};
+ghost use Rattle.stabbing_index.specs.Words.{Laid, rowWord, headWord, nextWord, lastWord, nameWord, MarksIn, BlankFrom, linkWords, dayWords, RowsOf};
+
+fn wide(x: u16) -> usize
+    ensures { λ r. ⌜ Widened x r ⌝ }
+{
+    x as usize
+}
+
+// ---- rows that can be published
+
+// A row with the days g and m is right and may follow one with the days f and l.
+fn follows(f: u16, l: u16, g: u16, m: u16) -> bool
+    ensures { λ r. ⌜ r ≡ rowOk g m && mayFollow f l g m ⌝ }
+{
+    if g < 1 {
+        return false;
+    }
+    if m < g {
+        return false;
+    }
+    if 4000 < m {
+        return false;
+    }
+    if f < g {
+        return true;
+    }
+    if f != g {
+        return false;
+    }
+    l <= m
+}
+
+// The first n rows are right and in the order.
+fn in_order(first: &[u16], last: &[u16], n: usize) -> bool
+    requires { ⌜ n ≤ length (now first) ⌝ }
+    requires { ⌜ n ≤ length (now last) ⌝ }
+    ensures { λ r. ⌜ r ≡ rowsOk (take n (now (first .entry))) (take n (now (last .entry))) ⌝ }
+{
+    let mut f = 0;
+    let mut l = 0;
+    let mut k = 0;
+    while k < n {
+        let g = first[k];
+        let m = last[k];
+        if !follows(f, l, g, m) {
+            return false;
+        }
+        f = g;
+        l = m;
+        k += 1;
+    }
+    true
+}
+
+// ---- the links of the heads
+
+// A head's parent and its left sibling, as marks.
+struct Way {
+    pub parent: usize,
+    pub left: usize,
+}
+
+// Is the position k of n a head: the last of its first day?
+fn is_head(first: &[u16; 1024], n: usize, k: usize) -> bool
+    requires { ⌜ k < n ⌝ }
+    requires { ⌜ n ≤ 1024 ⌝ }
+    ensures { λ r. ⌜ r ≡ headAt (now (first .entry)) n k ⌝ }
+{
+    if k + 1 == n {
+        return true;
+    }
+    if first[k] == first[k + 1] {
+        return false;
+    }
+    true
+}
+
+// From the mark m upward to the nearest that lasts to l; the head passed last, or `left` where none is passed.
+fn climb(
+    first: &[u16; 1024],
+    last: &[u16; 1024],
+    n: usize,
+    parent: &[u16; 1024],
+    l: u16,
+    m: usize,
+    left: usize,
+) -> Way
+    requires { ⌜ ClimbAsks (now first) (now last) n (now parent) m ⌝ }
+    ensures { λ r. ⌜ ClimbGives (now (first .entry)) (now (last .entry)) n l m left r ⌝ }
+{
+    if m == 0 {
+        return Way {
+            parent: 0,
+            left: left,
+        };
+    }
+    if l <= last[m - 1] {
+        return Way {
+            parent: m,
+            left: left,
+        };
+    }
+    climb(first, last, n, parent, l, wide(parent[m - 1]), m)
+}
+
+// The links of the head k, after those of the heads before it, the latest of which has the mark `prev`.
+fn link_head(
+    first: &[u16; 1024],
+    last: &[u16; 1024],
+    n: usize,
+    k: usize,
+    prev: usize,
+    parent: &mut [u16; 1024],
+    left: &mut [u16; 1024],
+    child: &mut [u16; 1024],
+)
+    requires { ⌜ HeadAsks (now first) (now last) n k prev (now parent) (now left) (now child) ⌝ }
+    ensures { λ _. ⌜ LinkedOf (now (first .entry)) (now (last .entry)) n (now (parent .exit)) (now (left .exit)) (now (child .exit)) (suc k) ⌝ }
+{
+    let w = climb(first, last, n, parent, last[k], prev, 0);
+    let up = w.parent;
+    parent[k] = up as u16;
+    left[k] = w.left as u16;
+    child[k] = 0;
+    if up == 0 {
+        return;
+    }
+    child[up - 1] = (k + 1) as u16;
+}
+
+// The links of every head, in one sweep.
+fn link(
+    first: &[u16; 1024],
+    last: &[u16; 1024],
+    n: usize,
+    parent: &mut [u16; 1024],
+    left: &mut [u16; 1024],
+    child: &mut [u16; 1024],
+)
+    requires { ⌜ ColumnsOf (now first) (now last) n ⌝ }
+    requires { ⌜ length (now parent) ≡ 1024 ⌝ }
+    requires { ⌜ length (now left) ≡ 1024 ⌝ }
+    requires { ⌜ length (now child) ≡ 1024 ⌝ }
+    ensures { λ _. ⌜ LinkedOf (now (first .entry)) (now (last .entry)) n (now (parent .exit)) (now (left .exit)) (now (child .exit)) n ⌝ }
+{
+    let mut prev = 0;
+    let mut k = 0;
+    while k < n {
+        if is_head(first, n, k) {
+            link_head(first, last, n, k, prev, parent, left, child);
+            prev = k + 1;
+        }
+        k += 1;
+    }
+}
+
+// ---- the chains, and the last day of the row that a link names
+
+// The last day of the row with the mark m; 0 where it names none.
+fn last_of(last: &[u16; 1024], m: usize) -> u16
+    requires { ⌜ m ≤ 1024 ⌝ }
+    ensures { λ r. ⌜ r ≡ lastOf (now (last .entry)) m ⌝ }
+{
+    if m == 0 {
+        return 0;
+    }
+    last[m - 1]
+}
+
+// The next in k's chain: one position down, where that has the same first day.
+fn next_of(first: &[u16; 1024], n: usize, k: usize) -> usize
+    requires { ⌜ k < n ⌝ }
+    requires { ⌜ n ≤ 1024 ⌝ }
+    ensures { λ r. ⌜ r ≡ nextOf (now (first .entry)) n k ⌝ }
+{
+    if k == 0 {
+        return 0;
+    }
+    if first[k - 1] == first[k] {
+        return k;
+    }
+    0
+}
+
+// ---- the tables by day
+
+// How many rows begin by day d, of which the first m do: the mark of the greatest head that does.
+fn advance(first: &[u16; 1024], last: &[u16; 1024], n: usize, d: usize, m: usize) -> usize
+    requires { ⌜ AdvanceAsks (now first) (now last) n d m ⌝ }
+    ensures { λ r. ⌜ r ≡ latestIn (now (first .entry)) (now (last .entry)) n d ⌝ }
+{
+    if n <= m {
+        return m;
+    }
+    if d < wide(first[m]) {
+        return m;
+    }
+    advance(first, last, n, d, m + 1)
+}
+
+// The start of day d + 1: the head that begins on it, where one does, or the nearest that lasts to it from the start of day d.
+fn start_after(
+    first: &[u16; 1024],
+    last: &[u16; 1024],
+    n: usize,
+    parent: &[u16; 1024],
+    d: usize,
+    m: usize,
+    e: usize,
+    s: usize,
+) -> usize
+    requires { ⌜ DayAsks (now first) (now last) n (now parent) d m e s ⌝ }
+    ensures { λ r. ⌜ r ≡ startIn (now (first .entry)) (now (last .entry)) n (suc d) ⌝ }
+{
+    if m != e {
+        return e;
+    }
+    let w = climb(first, last, n, parent, (d + 1) as u16, s, 0);
+    w.parent
+}
+
+// The start and the latest of every day, day after day.
+fn days(
+    first: &[u16; 1024],
+    last: &[u16; 1024],
+    n: usize,
+    parent: &[u16; 1024],
+    start: &mut [u16; 4001],
+    begun: &mut [u16; 4001],
+)
+    requires { ⌜ DaysAsks (now first) (now last) n (now parent) ⌝ }
+    requires { ⌜ length (now start) ≡ 4001 ⌝ }
+    requires { ⌜ length (now begun) ≡ 4001 ⌝ }
+    ensures { λ _. ⌜ DayedOf (now (first .entry)) (now (last .entry)) n (now (start .exit)) (now (begun .exit)) 4001 ⌝ }
+{
+    start[0] = 0;
+    begun[0] = 0;
+    let mut d = 0;
+    let mut m = 0;
+    let mut s = 0;
+    while d < 4000 {
+        let e = advance(first, last, n, d + 1, m);
+        s = start_after(first, last, n, parent, d, m, e, s);
+        m = e;
+        d += 1;
+        start[d] = s as u16;
+        begun[d] = m as u16;
+    }
+}
+
+// ---- the columns, laid one after another
+
+// The word of a column at p, none past the rows.
+fn row_word(values: &[u16; 1024], n: usize, p: usize) -> u16
+    requires { ⌜ p < 1024 ⌝ }
+    ensures { λ r. ⌜ r ≡ rowWord (now (values .entry)) n p ⌝ }
+{
+    if p < n {
+        return values[p];
+    }
+    0
+}
+
+// A column of the rows.
+fn lay_rows(index: &mut [u16], base: usize, values: &[u16; 1024], n: usize)
+    requires { ⌜ base + 1024 ≤ length (now index) ⌝ }
+    ensures { λ _. ⌜ Laid (now (index .entry)) base (base + 1024) (column 1024 (rowWord (now (values .entry)) n)) (now (index .exit)) ⌝ }
+{
+    let mut k = 0;
+    while k < 1024 {
+        index[base + k] = row_word(values, n, k);
+        k += 1;
+    }
+}
+
+// The word of a column of links at p, none where p is no head.
+fn head_word(first: &[u16; 1024], n: usize, links: &[u16; 1024], p: usize) -> u16
+    requires { ⌜ n ≤ 1024 ⌝ }
+    requires { ⌜ p < 1024 ⌝ }
+    ensures { λ r. ⌜ r ≡ headWord (now (first .entry)) n (now (links .entry)) p ⌝ }
+{
+    if n <= p {
+        return 0;
+    }
+    if is_head(first, n, p) {
+        return links[p];
+    }
+    0
+}
+
+// A column of links of heads.
+fn lay_heads(index: &mut [u16], base: usize, first: &[u16; 1024], n: usize, links: &[u16; 1024])
+    requires { ⌜ n ≤ 1024 ⌝ }
+    requires { ⌜ base + 1024 ≤ length (now index) ⌝ }
+    ensures { λ _. ⌜ Laid (now (index .entry)) base (base + 1024) (column 1024 (headWord (now (first .entry)) n (now (links .entry)))) (now (index .exit)) ⌝ }
+{
+    let mut k = 0;
+    while k < 1024 {
+        index[base + k] = head_word(first, n, links, k);
+        k += 1;
+    }
+}
+
+// The mark of the next in p's chain, none past the rows.
+fn next_word(first: &[u16; 1024], n: usize, p: usize) -> u16
+    requires { ⌜ n ≤ 1024 ⌝ }
+    ensures { λ r. ⌜ r ≡ nextWord (now (first .entry)) n p ⌝ }
+{
+    if n <= p {
+        return 0;
+    }
+    next_of(first, n, p) as u16
+}
+
+// The links of the chains.
+fn lay_nexts(index: &mut [u16], base: usize, first: &[u16; 1024], n: usize)
+    requires { ⌜ n ≤ 1024 ⌝ }
+    requires { ⌜ base + 1024 ≤ length (now index) ⌝ }
+    ensures { λ _. ⌜ Laid (now (index .entry)) base (base + 1024) (column 1024 (nextWord (now (first .entry)) n)) (now (index .exit)) ⌝ }
+{
+    let mut k = 0;
+    while k < 1024 {
+        index[base + k] = next_word(first, n, k);
+        k += 1;
+    }
+}
+
+// Beside a column of marks, the last days of the rows that they name.
+fn lay_lasts(index: &mut [u16], marks: usize, last: &[u16; 1024])
+    requires { ⌜ marks + 2048 ≤ length (now index) ⌝ }
+    requires { ⌜ MarksIn (now index) marks ⌝ }
+    ensures { λ _. ⌜ Laid (now (index .entry)) (marks + 1024) (marks + 2048) (column 1024 (lastWord (now (last .entry)) (now (index .entry)) marks)) (now (index .exit)) ⌝ }
+{
+    let base = marks + 1024;
+    let mut k = 0;
+    while k < 1024 {
+        let m = wide(index[marks + k]);
+        index[base + k] = last_of(last, m);
+        k += 1;
+    }
+}
+
+// The links, each but the parents with the last days of the rows that they name.
+fn lay_links(
+    index: &mut [u16],
+    first: &[u16; 1024],
+    last: &[u16; 1024],
+    n: usize,
+    parent: &[u16; 1024],
+    left: &[u16; 1024],
+    child: &[u16; 1024],
+)
+    requires { ⌜ ColumnsOf (now first) (now last) n ⌝ }
+    requires { ⌜ LinkedOf (now first) (now last) n (now parent) (now left) (now child) n ⌝ }
+    requires { ⌜ length (now index) ≡ 83779 ⌝ }
+    ensures { λ _. ⌜ Laid (now (index .entry)) 3072 10240 (linkWords (take n (now (first .entry))) (take n (now (last .entry)))) (now (index .exit)) ⌝ }
+{
+    lay_heads(index, PARENT, first, n, parent);
+    lay_heads(index, LEFT, first, n, left);
+    lay_lasts(index, LEFT, last);
+    lay_heads(index, CHILD, first, n, child);
+    lay_lasts(index, CHILD, last);
+    lay_nexts(index, NEXT, first, n);
+    lay_lasts(index, NEXT, last);
+}
+
+// A table by day.
+fn lay_table(index: &mut [u16], base: usize, table: &[u16; 4001])
+    requires { ⌜ base + 4001 ≤ length (now index) ⌝ }
+    ensures { λ _. ⌜ Laid (now (index .entry)) base (base + 4001) (column 4001 (λ d. getD (now (table .entry)) d 0)) (now (index .exit)) ⌝ }
+{
+    let mut k = 0;
+    while k < 4001 {
+        index[base + k] = table[k];
+        k += 1;
+    }
+}
+
+// Both tables by day.
+fn lay_days(
+    index: &mut [u16],
+    first: &[u16; 1024],
+    last: &[u16; 1024],
+    n: usize,
+    parent: &[u16; 1024],
+)
+    requires { ⌜ DaysAsks (now first) (now last) n (now parent) ⌝ }
+    requires { ⌜ length (now index) ≡ 83779 ⌝ }
+    ensures { λ _. ⌜ Laid (now (index .entry)) 10240 18242 (dayWords (take n (now (first .entry))) (take n (now (last .entry)))) (now (index .exit)) ⌝ }
+{
+    let mut start = [0u16; 4001];
+    let mut begun = [0u16; 4001];
+    days(first, last, n, parent, &mut start, &mut begun);
+    lay_table(index, START, &start);
+    lay_table(index, BEGUN, &begun);
+}
+
+// The links and the tables by day.
+fn lay_tree(index: &mut [u16], first: &[u16; 1024], last: &[u16; 1024], n: usize)
+    requires { ⌜ RowsOf (now first) (now last) n ⌝ }
+    requires { ⌜ length (now index) ≡ 83779 ⌝ }
+    ensures { λ _. ⌜ Laid (now (index .entry)) 3072 18242 (linkWords (take n (now (first .entry))) (take n (now (last .entry))) ++ dayWords (take n (now (first .entry))) (take n (now (last .entry)))) (now (index .exit)) ⌝ }
+{
+    let mut parent = [0u16; 1024];
+    let mut left = [0u16; 1024];
+    let mut child = [0u16; 1024];
+    link(first, last, n, &mut parent, &mut left, &mut child);
+    lay_links(index, first, last, n, &parent, &left, &child);
+    lay_days(index, first, last, n, &parent);
+}
+
+// ---- the table by spell number
+
+// No number is named.
+fn clear(index: &mut [u16])
+    requires { ⌜ length (now index) ≡ 83779 ⌝ }
+    ensures { λ _. ⌜ Laid (now (index .entry)) 18242 83778 (column 65536 (λ _. 0)) (now (index .exit)) ⌝ }
+{
+    let mut k = 0;
+    while k < 65536 {
+        index[BY_NUMBER + k] = 0;
+        k += 1;
+    }
+}
+
+// The mark of every row under its number, in the order: of two with one number, the latest stays.
+fn name_rows(index: &mut [u16], number: &[u16; 1024], n: usize)
+    requires { ⌜ n ≤ 1024 ⌝ }
+    requires { ⌜ BlankFrom (now index) 18242 ⌝ }
+    requires { ⌜ length (now index) ≡ 83779 ⌝ }
+    ensures { λ _. ⌜ Laid (now (index .entry)) 18242 83778 (column 65536 (nameWord (now (number .entry)) n)) (now (index .exit)) ⌝ }
+{
+    let mut k = 0;
+    while k < n {
+        let x = wide(number[k]);
+        index[BY_NUMBER + x] = (k + 1) as u16;
+        k += 1;
+    }
+}
+
+fn lay_names(index: &mut [u16], number: &[u16; 1024], n: usize)
+    requires { ⌜ n ≤ 1024 ⌝ }
+    requires { ⌜ length (now index) ≡ 83779 ⌝ }
+    ensures { λ _. ⌜ Laid (now (index .entry)) 18242 83778 (column 65536 (nameWord (now (number .entry)) n)) (now (index .exit)) ⌝ }
+{
+    clear(index);
+    name_rows(index, number, n);
+}
+
+// ---- the whole index
+
+// The block of rows that can be published.
+fn fill(index: &mut [u16], number: &[u16; 1024], first: &[u16; 1024], last: &[u16; 1024], n: usize)
+    requires { ⌜ RowsOf (now first) (now last) n ⌝ }
+    requires { ⌜ length (now index) ≡ 83779 ⌝ }
+    ensures { λ _. ⌜ now (index .exit) ≡ blockOf (take n (now (number .entry))) (take n (now (first .entry))) (take n (now (last .entry))) ⌝ }
+{
+    lay_rows(index, NUMBER, number, n);
+    lay_rows(index, FIRST, first, n);
+    lay_rows(index, LAST, last, n);
+    lay_tree(index, first, last, n);
+    lay_names(index, number, n);
+    index[ROWS] = n as u16;
+}
+
+// The index of the first n rows, where these are right and in the order; else the block is as before.
+pub fn build(
+    number: &[u16; 1024],
+    first: &[u16; 1024],
+    last: &[u16; 1024],
+    n: usize,
+    index: &mut [u16; INDEX],
+) -> bool
+    ensures { λ r. ⌜ Builds (now (number .entry)) (now (first .entry)) (now (last .entry)) n (now (index .entry)) r (now (index .exit)) ⌝ }
+{
+    if 1024 < n {
+        return false;
+    }
+    if !in_order(first, last, n) {
+        return false;
+    }
+    fill(index, number, first, last, n);
+    true
+}

@@ -1,0 +1,251 @@
+-- From the walk to the answers of day, span and cover: what is written, the theorems on listing and comparisons, the starts. Assumes nothing.
+use Prim.Native.Nat.{ℕ, zero, suc, _+_, _-_, _*_, _/_, _%_, _≤_, _<_, zero-le}
+use native.Mathlib.Nat.{le-refl}
+use native.Mathlib.Omega.{arith}
+use native.Mathlib.Numerals.{add-one}
+use mathlib.Core.Bool.{Bool, true, false, _&&_}
+use mathlib.Core.List.{List, [], _∷_, _++_, map, map-append}
+use mathlib.Core.Path.{_≡_, refl, sym, ap, _∙_}
+use lib.Dec.{leb}
+use lib.ListN.{length, getD, take, drop, set, length-map, drop-of-length-le, length-drop}
+use lib.Seq.{drop-cons, set-at, length-take-le, append-snoc, take-suc, take-all}
+use borrow.Author.Tests.{le-leb, lt-leb, leb-true, leb-false}
+use Rattle.stabbing.specs.declared.Listed.{Listed}
+use Rattle.stabbing.specs.Tree.{Found, nothing, keep, day, head, fits, start, latest, spanStart, formula, walk, climb}
+use Rattle.stabbing.proofs.Marks.{by-test, by-mark, both, below-is, keep-hit, keep-miss}
+use Rattle.stabbing.proofs.Links.{Head}
+use Rattle.stabbing.proofs.Starts.{Latest, latest-is, start-span, cover-latest}
+use Rattle.stabbing.proofs.Walk.{start-is, listing, comparisons-formula}
+use Rattle.stabbing.specs.Index.{Built, named, numbers, firsts, lasts}
+use Rattle.stabbing.proofs.Block.{Holds, built-holds}
+use Rattle.stabbing.specs.Answer.{Outcome, refused, give, question, calendar, dayOf, dayIn, Gave, spanOf, spanIn, covering, coverOf}
+use Rattle.stabbing_query.specs.Code.{Now, Does, ClimbAt, StartAt, WalkAsks, SpanAsks, numbered, listedOf}
+use Rattle.stabbing_query.proofs.Keeping.{place, comparisons-is}
+
+-- the walk's beginning and its end
+module _ (ix xs : List ℕ) (l m : ℕ) (q : WalkAsks ix l m) (n : length xs ≡ 1024) where
+  holds : Holds ix (numbers ix) (firsts ix) (lasts ix)
+  holds = built-holds ix (q .built)
+
+  start-now : Now xs 1024 nothing
+  start-now = record { size = n; fits = zero-le; is = refl; list = drop-of-length-le xs {i = 1024} (omega arith) }
+
+  pub asks : ClimbAt ix (numbers ix) (firsts ix) (lasts ix) l m xs 1024
+  asks = record {
+    built = holds;
+    dated = q .dated;
+    within = q .start .within;
+    at-head = q .start .at-head;
+    at = nothing;
+    now = start-now;
+    free = omega (arith, q .start .within, holds .few);
+    few = omega (arith, q .start .within);
+  }
+
+  pub walked : (xs′ : List ℕ) (r : ℕ) → Does xs 1024 xs′ r (climb (firsts ix) (lasts ix) l (length (firsts ix)) m) → Now xs′ r (walk (firsts ix) (lasts ix) l m)
+  unfolding walk
+  walked xs′ r d = d .does nothing start-now
+
+-- the two ends of `give`
+module _ (ns : List ℕ) (comparisons : ℕ) (out : List ℕ) where
+  pub give-all : length ns ≤ length out → give ns comparisons out ≡ record { result = record { refusal = 0; count = length ns; comparisons = comparisons }; out = ns ++ drop (length ns) out }
+  unfolding give
+  give-all h = rw (le-leb (length ns) (length out) h, give)
+
+  pub give-none : length out < length ns → give ns comparisons out ≡ refused 11 out
+  unfolding give
+  give-none h = rw (lt-leb (length ns) (length out) h, give)
+
+module _ (ix xs : List ℕ) (s : ℕ) (f : Found) (g : Now xs s f) (out : List ℕ) where
+  abbrev ns : List ℕ
+  ns = numbered ix (f .list)
+
+  pub at-is : s % 65536 ≡ 1024 - length (f .list)
+  at-is = place s (length (f .list)) (f .comparisons) (g .fits) (g .is)
+
+  pub at-in : s % 65536 + (1024 - s % 65536) ≤ 1024
+  at-in = omega (arith, at-is)
+
+  pub k-is : 1024 - s % 65536 ≡ length ns
+  k-is = omega (arith, at-is, g .fits, length-map (f .list) (λ (p : ℕ). getD ix p 0))
+
+  pub too-short : length out < 1024 - s % 65536 → (r : Listed) → r ≡ record { refusal = 11; count = 0; comparisons = 0 } → Gave r out (give ns (f .comparisons) out)
+  too-short h r e = rw (give-none ns (f .comparisons) out (omega (arith, k-is))) (record { result = e; out = refl })
+
+  -- the places from the one reached on hold what was found
+  there : take (1024 - s % 65536) (drop (s % 65536) xs) ≡ f .list
+  there =
+      let z : drop (s % 65536) xs ≡ f .list = rw at-is (g .list) in
+      rw z (take-all (1024 - s % 65536) (f .list) (omega (arith, at-is, g .fits)))
+
+  pub all-given : 1024 - s % 65536 ≤ length out → (after : List ℕ) → after ≡ numbered ix (take (1024 - s % 65536) (drop (s % 65536) xs)) ++ drop (1024 - s % 65536) out
+      → Gave (record { refusal = 0; count = 1024 - s % 65536; comparisons = s / 65536 }) after (give ns (f .comparisons) out)
+  all-given h after e =
+      let c : s / 65536 ≡ f .comparisons = comparisons-is s (length (f .list)) (f .comparisons) (g .fits) (g .is) in
+      rw (give-all ns (f .comparisons) out (omega (arith, k-is))) (record { result = rw (k-is, c); out = e ∙ rw (there, k-is) })
+
+-- what is listed, by its numbers
+pub keep-map : (f g : ℕ → ℕ) (t : ℕ → Bool) (k : ℕ) → ((p : ℕ) → p < k → f p ≡ g p) → map f (keep t k) ≡ map g (keep t k)
+unfolding keep
+keep-map f g t zero h = refl
+keep-map f g t (suc k) h =
+    let ih = keep-map f g t k (λ p a. h p (omega arith)) in
+    by-test (t k)
+    (λ e. rw (keep-hit t k e) (map-append f (keep t k) (k ∷ []) ∙ rw (ih, h k (le-refl (suc k))) (sym (map-append g (keep t k) (k ∷ [])))))
+    (λ e. rw (keep-miss t k e) ih)
+
+-- a walk from the start of the question gives its answer
+module _ (ix ns fs ls : List ℕ) (b : Holds ix ns fs ls) (h l m : ℕ) (e : m ≡ start fs ls h l) where
+  pub begins : StartAt fs ls l m
+  begins =
+      let i = start-is fs ls (b .sorted) h l in
+      record {
+        within = rw e (i .within);
+        at-head = λ v z. let p = i .hit v (sym e ∙ z) in (p .0, p .2);
+      }
+
+  pub answers : (out : List ℕ) → give (map (λ p. getD ix p 0) (walk fs ls l m .list)) (walk fs ls l m .comparisons) out ≡ question ns fs ls h l out
+  unfolding question
+  answers out = rw (e, listing fs ls (b .sorted) h l, comparisons-formula fs ls (b .sorted) h l) (rw (keep-map (λ p. getD ix p 0) (λ p. getD ns p 0) (fits fs ls h l) (length fs) (b .numbers)))
+
+-- day
+pub dated : (d : ℕ) → calendar d ≡ true → (1 ≤ d) × (d ≤ 4000)
+dated d e = let q = both (leb 1 d) (leb d 4000) e in (leb-true 1 d (q .0), leb-true d 4000 (q .1))
+
+module _ (ix : List ℕ) (d : ℕ) (out : List ℕ) where
+  pub day-in : calendar d ≡ true → dayIn ix d out ≡ question (numbers ix) (firsts ix) (lasts ix) d d out
+  unfolding dayOf
+  day-in e = rw (e, dayOf)
+
+  pub day-off : calendar d ≡ false → dayIn ix d out ≡ refused 3 out
+  unfolding dayOf
+  day-off e = rw (e, dayOf)
+
+pub refusal : (n : ℕ) (out : List ℕ) (o : Outcome) → o ≡ refused n out → (r : Listed) → r ≡ record { refusal = n; count = 0; comparisons = 0 } → Gave r out o
+refusal n out o e r z = rw e (record { result = z; out = refl })
+
+-- the walk that a question makes, from its start m, and its outcome o
+module _ (ix : List ℕ) (b : Built ix) (h l m : ℕ) (d : 1 ≤ l) (e : m ≡ start (firsts ix) (lasts ix) h l) where
+  pub asks-walk : WalkAsks ix l m
+  asks-walk = record { built = b; dated = d; start = begins ix (numbers ix) (firsts ix) (lasts ix) (built-holds ix b) h l m e }
+
+  pub gives : (out after : List ℕ) (r : Listed) (o : Outcome) → o ≡ question (numbers ix) (firsts ix) (lasts ix) h l out → Gave r after (listedOf ix l m out) → Gave r after o
+  gives out after r o z g = rw z (rw (answers ix (numbers ix) (firsts ix) (lasts ix) (built-holds ix b) h l m e out) at g)
+
+-- the start of a day, and of a span, as they are stored
+pub day-start : (ix : List ℕ) (b : Built ix) (d x m : ℕ) → d ≤ 4000 → x ≡ d → m ≡ getD ix (x + 10240) 0 → m ≡ start (firsts ix) (lasts ix) d d
+day-start ix b d x m h e z = z ∙ ap (λ (y : ℕ). getD ix (y + 10240) 0) e ∙ built-holds ix b .starts d h
+
+module _ (ix : List ℕ) (a b : ℕ) (q : SpanAsks ix a b) (x m : ℕ) (e : x ≡ b) (z : m ≡ getD ix (x + 14241) 0) where
+  abbrev fs : List ℕ
+  fs = firsts ix
+
+  abbrev ls : List ℕ
+  ls = lasts ix
+
+  holding : Holds ix (numbers ix) fs ls
+  holding = built-holds ix (q .built)
+
+  m-is : m ≡ latest fs ls b
+  m-is = z ∙ ap (λ (y : ℕ). getD ix (y + 14241) 0) e ∙ holding .begun b (q .late)
+
+  span-is : start fs ls b a ≡ spanStart fs ls a m (start fs ls a a)
+  span-is = start-span fs ls (holding .sorted) (holding .forward) a b (q .forward) ∙ ap (λ (y : ℕ). spanStart fs ls a y (start fs ls a a)) (sym m-is)
+
+  pub m-within : m ≤ length fs
+  m-within = rw m-is (latest-is fs ls (holding .sorted) b .within)
+
+  pub m-small : m ≤ 1024
+  m-small = omega (arith, m-within, holding .few)
+
+  -- a's own start
+  module _ (y r : ℕ) (e₁ : y ≡ a) (z₁ : r ≡ getD ix (y + 10240) 0) where
+    own : r ≡ start fs ls a a
+    own = day-start ix (q .built) a y r (omega (arith, q .forward, q .late)) e₁ z₁
+
+    pub span-none : m ≡ 0 → r ≡ start fs ls b a
+    unfolding spanStart
+    span-none k = own ∙ sym (span-is ∙ ap (λ (v : ℕ). spanStart fs ls a v (start fs ls a a)) k)
+
+    pub span-before : (v : ℕ) → m ≡ suc v → getD ix (v + 1024) 0 < a → r ≡ start fs ls b a
+    unfolding spanStart
+    span-before v k h =
+        let f : day fs v < a = rw (holding .firsts v (omega (arith, m-within))) at h in
+        own ∙ sym (span-is ∙ ap (λ (u : ℕ). spanStart fs ls a u (start fs ls a a)) k ∙ rw (lt-leb a (day fs v) f, spanStart))
+
+  pub span-within : (v : ℕ) → m ≡ suc v → a ≤ getD ix (v + 1024) 0 → m ≡ start fs ls b a
+  unfolding spanStart
+  span-within v k h =
+      let f : a ≤ day fs v = rw (holding .firsts v (omega (arith, m-within))) at h in
+      k ∙ sym (span-is ∙ ap (λ (u : ℕ). spanStart fs ls a u (start fs ls a a)) k ∙ rw (le-leb a (day fs v) f, spanStart))
+
+-- span
+module _ (ix : List ℕ) (a b : ℕ) (out : List ℕ) where
+  pub span-off : calendar a && calendar b ≡ false → spanIn ix a b out ≡ refused 3 out
+  unfolding spanOf
+  span-off e = rw (e, spanOf)
+
+  module _ (x : calendar a ≡ true) (y : calendar b ≡ true) where
+    pub span-in : a ≤ b → spanIn ix a b out ≡ question (numbers ix) (firsts ix) (lasts ix) b a out
+    unfolding spanOf
+    span-in h = rw (x, y, spanOf) (rw (le-leb a b h, spanOf))
+
+    pub span-back : b < a → spanIn ix a b out ≡ refused 4 out
+    unfolding spanOf
+    span-back h = rw (x, y, spanOf) (rw (lt-leb a b h, spanOf))
+
+    pub asks-span : Built ix → a ≤ b → SpanAsks ix a b
+    asks-span built h = record { built = built; dated = dated a x .0; forward = h; late = dated b y .1 }
+
+-- cover
+module _ (ix : List ℕ) (b : Built ix) (x y m : ℕ) (small : x < 65536) (e : y ≡ x) (z : m ≡ getD ix (y + 18242) 0) where
+  abbrev xs : List ℕ
+  xs = numbers ix
+
+  abbrev gs : List ℕ
+  gs = firsts ix
+
+  abbrev ks : List ℕ
+  ks = lasts ix
+
+  held : Holds ix xs gs ks
+  held = built-holds ix b
+
+  named-is : named xs gs ks x ≡ m
+  unfolding named
+  named-is = sym (z ∙ ap (λ (u : ℕ). getD ix (u + 18242) 0) e ∙ held .by-number x small)
+
+  named-le : named xs gs ks x ≤ length gs
+  unfolding named
+  named-le = below-is _ (length gs) .within
+
+  pub cover-none : m ≡ 0 → (out : List ℕ) → coverOf xs gs ks x out ≡ refused 7 out
+  unfolding coverOf covering
+  cover-none k out = ap (λ (u : ℕ). covering xs gs ks u out) (named-is ∙ k)
+
+  module _ (p : ℕ) (k : m ≡ suc p) where
+    pub cover-within : p < length gs
+    cover-within = let w : named xs gs ks x ≤ length gs = named-le in omega (arith, named-is)
+
+    pub cover-small : p < 1024
+    cover-small = omega (arith, cover-within, held .few)
+
+    module _ (l f : ℕ) (e₁ : l ≡ getD ix (p + 2048) 0) (e₂ : f ≡ getD ix (p + 1024) 0) where
+      l-is : l ≡ day ks p
+      l-is = e₁ ∙ held .lasts p cover-within
+
+      f-is : f ≡ day gs p
+      f-is = e₂ ∙ held .firsts p cover-within
+
+      pub cover-dated : 1 ≤ l
+      cover-dated = omega (arith, l-is, held .begins p cover-within, held .forward p cover-within)
+
+      pub cover-first : f ≤ 4000
+      cover-first = omega (arith, f-is, held .ends p cover-within, held .forward p cover-within)
+
+      pub cover-start : (s : ℕ) → s ≡ getD ix (f + 14241) 0 → s ≡ start gs ks f l
+      cover-start s u = u ∙ held .begun f cover-first ∙ rw (f-is, l-is) (sym (cover-latest gs ks (held .sorted) p cover-within))
+
+      pub cover-in : (out : List ℕ) → coverOf xs gs ks x out ≡ question xs gs ks f l out
+      unfolding coverOf covering
+      cover-in out = ap (λ (u : ℕ). covering xs gs ks u out) (named-is ∙ k) ∙ rw (f-is, l-is)

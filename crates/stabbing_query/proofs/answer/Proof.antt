@@ -1,0 +1,41 @@
+-- `stabbing_query::answer` meets its contract. Assumes nothing.
+use Rattle.stabbing_query.proofs.Answering as Steps
+use borrow.Author.Needs.{needs}
+use Rattle.stabbing_query.proofs.answer.Statement.{statement}
+use Rattle.stabbing_query.proofs.answer.Tie as tie
+use Rattle.stabbing_query.proofs.answer.Reads as reads
+use Rattle.stabbing_query.proofs.answer.Lts as lts
+use Rattle.stabbing_query.proofs.write.Reads as write-reads
+use Rattle.stabbing_query.proofs.refuse.Reads as refuse-reads
+use Rattle.stabbing_query.proofs.walk.Reads as walk-reads
+
+walk-requires : tie.Need-walk-requires
+walk-requires c κs = search needs
+
+sub-k : tie.Need-sub-k
+sub-k c = search needs
+
+refuse-requires : tie.Need-refuse-requires
+refuse-requires c κs = search needs
+
+returns : tie.Need-returns
+returns c =
+    let g = c .before .before .before .before .before .args in
+    Steps.too-short (g .index .now) _ _ _ (c .before .before .walk .ensures) (g .out .now) (c .before .if1 .taken) _ (c .refuse .ensures)
+
+write-requires : tie.Need-write-requires
+write-requires c κs = search needs
+
+same-length : tie.Need-same-length
+same-length c = search needs
+
+returns-2 : tie.Need-returns-2
+returns-2 c =
+    let a = c .before .before .before .before .before in
+    let g = a .before .before .before .before .args in
+    Steps.all-given (g .index .now) _ _ _ (a .before .walk .ensures) (g .out .now) (a .if1 .left) _ (c .before .before .write .ensures)
+
+pub answer-spec : {M : Type 1} → statement M
+answer-spec =
+    tie.close
+    (tie.spec walk-requires sub-k refuse-requires returns write-requires same-length returns-2)

@@ -1,0 +1,98 @@
+-- `stabbing_query::days` meets its contract. Assumes nothing.
+use native.Mathlib.Omega.{arith}
+use mathlib.Core.Path.{_≡_, refl, sym, _∙_}
+use borrow.Author.Needs.{needs}
+use borrow.Author.Tests.{not-true, not-false}
+use Rattle.stabbing.specs.Index.{numbers, firsts, lasts}
+use Rattle.stabbing_query.proofs.Answering as Answers
+use Rattle.stabbing_query.proofs.Several as Steps
+use Rattle.stabbing_query.proofs.days.Statement.{statement}
+use Rattle.stabbing_query.proofs.days.Tie as tie
+use Rattle.stabbing_query.proofs.days.Reads as reads
+use Rattle.stabbing_query.proofs.days.Lts as lts
+use Rattle.stabbing_query.proofs.gather.Reads as gather-reads
+use Rattle.stabbing_query.proofs.in_order.Reads as in-order-reads
+use Rattle.stabbing_query.proofs.on_calendar.Reads as on-calendar-reads
+use Rattle.stabbing_query.proofs.refuse.Reads as refuse-reads
+use Rattle.stabbing_query.proofs.write.Reads as write-reads
+
+on-calendar-requires : tie.Need-on-calendar-requires
+on-calendar-requires c κs = search needs
+
+refuse-requires : tie.Need-refuse-requires
+refuse-requires c κs = search needs
+
+returns : tie.Need-returns
+returns c =
+    let g = c .before .before .before .before .before .args in
+    Answers.refusal 3 _ _ (Steps.days-off (numbers (g .index .now)) (firsts (g .index .now)) (lasts (g .index .now)) (g .days .now) (g .out .now) (sym (c .before .before .on-calendar .ensures) ∙ not-true _ (c .before .if1 .taken))) _ (c .refuse .ensures)
+
+in-order-requires : tie.Need-in-order-requires
+in-order-requires c κs = search needs
+
+refuse-requires-2 : tie.Need-refuse-requires-2
+refuse-requires-2 c κs = search needs
+
+returns-2 : tie.Need-returns-2
+returns-2 c =
+    let g = c .before .before .before .before .before .before .before .args in
+    Answers.refusal 10 _ _ (Steps.days-back (numbers (g .index .now)) (firsts (g .index .now)) (lasts (g .index .now)) (g .days .now) (g .out .now) (sym (c .before .before .before .before .on-calendar .ensures) ∙ not-false _ (c .before .before .before .if1 .left)) (sym (c .before .before .in-order .ensures) ∙ not-true _ (c .before .if2 .taken))) _ (c .refuse2 .ensures)
+
+slice-aggregate-gather : tie.Need-slice-aggregate-gather
+slice-aggregate-gather c = search needs
+
+gather-requires : tie.Need-gather-requires
+gather-requires c κs =
+    let s = c .before .before .before .before .before .before .before .before in
+    let g = s .args in
+    let d = sym (c .before .before .before .before .before .on-calendar .ensures) ∙ not-false _ (c .before .before .before .before .if1 .left) in
+    let r = sym (c .before .before .before .in-order .ensures) ∙ not-false _ (c .before .before .if2 .left) in
+    (Steps.asks-gather (g .index .now) (g .days .now) (s .pre) d r _ (search needs), search needs)
+
+refuse-requires-3 : tie.Need-refuse-requires-3
+refuse-requires-3 c κs = search needs
+
+returns-3 : tie.Need-returns-3
+returns-3 c =
+    let s = c .before .before .before .before .before .before .before .before .before .before .before .before in
+    let g = s .args in
+    let d = sym (c .before .before .before .before .before .before .before .before .before .on-calendar .ensures) ∙ not-false _ (c .before .before .before .before .before .before .before .before .if1 .left) in
+    let r = sym (c .before .before .before .before .before .before .before .in-order .ensures) ∙ not-false _ (c .before .before .before .before .before .before .if2 .left) in
+    Steps.too-many (g .index .now) (g .days .now) (s .pre) d r _ _ _ (c .before .before .before .gather .ensures) (g .out .now) (c .before .if3 .taken) _ (c .refuse3 .ensures)
+
+write-requires : tie.Need-write-requires
+write-requires c κs =
+    let s = c .before .before .before .before .before .before .before .before .before .before .before .before .before in
+    let g = s .args in
+    let d = sym (c .before .before .before .before .before .before .before .before .before .before .on-calendar .ensures) ∙ not-false _ (c .before .before .before .before .before .before .before .before .before .if1 .left) in
+    let r = sym (c .before .before .before .before .before .before .before .before .in-order .ensures) ∙ not-false _ (c .before .before .before .before .before .before .before .if2 .left) in
+    (search needs, (Steps.few-in (g .index .now) (g .days .now) (s .pre) d r _ _ _ (c .before .before .before .before .gather .ensures), c .before .before .if3 .left))
+
+same-length : tie.Need-same-length
+same-length c = search needs
+
+returns-4 : tie.Need-returns-4
+returns-4 c =
+    let s = c .before .before .before .before .before .before .before .before .before .before .before .before .before .before .before .before in
+    let g = s .args in
+    let d = sym (c .before .before .before .before .before .before .before .before .before .before .before .before .before .on-calendar .ensures) ∙ not-false _ (c .before .before .before .before .before .before .before .before .before .before .before .before .if1 .left) in
+    let r = sym (c .before .before .before .before .before .before .before .before .before .before .before .in-order .ensures) ∙ not-false _ (c .before .before .before .before .before .before .before .before .before .before .if2 .left) in
+    Steps.all-written (g .index .now) (g .days .now) (s .pre) d r _ _ _ (c .before .before .before .before .before .before .before .gather .ensures) (g .out .now) (c .before .before .before .before .before .if3 .left) _ (c .before .before .write .ensures)
+
+pub days-spec : {M : Type 1} → statement M
+days-spec =
+    tie.close
+    (tie.spec
+    on-calendar-requires
+    refuse-requires
+    returns
+    in-order-requires
+    refuse-requires-2
+    returns-2
+    slice-aggregate-gather
+    gather-requires
+    refuse-requires-3
+    returns-3
+    write-requires
+    same-length
+    returns-4)

@@ -1,0 +1,70 @@
+-- `stabbing_query::in_order` meets its contract: what the days from i on say after the day before is what all of them say. Assumes nothing.
+use Prim.Native.Nat.{_≤_, _-_}
+use native.Mathlib.Omega.{arith}
+use mathlib.Core.Path.{_≡_, refl, sym, _∙_}
+use borrow.Author.Needs.{needs}
+use lib.ListN.{length, drop}
+use Rattle.stabbing.specs.Answer.{risingFrom}
+use Rattle.stabbing_query.proofs.Several as Steps
+use Rattle.stabbing_query.proofs.in_order.Statement.{statement}
+use Rattle.stabbing_query.proofs.in_order.Tie as tie
+
+abbrev Inv-loop : tie.InvT-loop
+Inv-loop days before₀ i₀ before i = (i ≤ length days) × (risingFrom before (drop i days) ≡ risingFrom 0 days)
+
+abbrev μ-loop : tie.MeasureT-loop
+μ-loop days before₀ i₀ before i = length days - i
+
+loop-holds : tie.Need-loop-holds Inv-loop μ-loop
+loop-holds c = (search needs, refl)
+
+mul-if1 : tie.Need-mul-if1 Inv-loop μ-loop
+mul-if1 c = search needs
+
+shared-slice-read-if1 : tie.Need-shared-slice-read-if1 Inv-loop μ-loop
+shared-slice-read-if1 c = search needs
+
+returns : tie.Need-returns Inv-loop μ-loop
+returns c =
+    let a = c .before .before .before in
+    sym (Steps.back (a .before .args .days .now) (a .loop .i) (c .before .before .loop-test .taken) (a .loop .before) (c .if1 .taken)) ∙ a .loop .inv .1
+
+mul-before : tie.Need-mul-before Inv-loop μ-loop
+mul-before c = search needs
+
+shared-slice-read-before : tie.Need-shared-slice-read-before Inv-loop μ-loop
+shared-slice-read-before c = search needs
+
+add-i : tie.Need-add-i Inv-loop μ-loop
+add-i c = search needs
+
+loop-less : tie.Need-loop-less Inv-loop μ-loop
+loop-less c = search needs
+
+loop-again : tie.Need-loop-again Inv-loop μ-loop
+loop-again c =
+    let a = c .before .before .before .before in
+    let h = c .before .before .before .loop-test .taken in
+    (omega arith, sym (Steps.on (a .before .args .days .now) (a .loop .i) h (a .loop .before) (c .before .if1 .left)) ∙ a .loop .inv .1)
+
+returns-2 : tie.Need-returns-2 Inv-loop μ-loop
+returns-2 c =
+    let a = c .before in
+    sym (Steps.all-rise (a .before .args .days .now) (a .loop .i) (c .loop-test .left) (a .loop .before)) ∙ a .loop .inv .1
+
+pub in-order-spec : {M : Type 1} → statement M
+in-order-spec =
+    tie.close
+    (tie.spec
+    Inv-loop
+    μ-loop
+    loop-holds
+    mul-if1
+    shared-slice-read-if1
+    returns
+    mul-before
+    shared-slice-read-before
+    add-i
+    loop-less
+    loop-again
+    returns-2)

@@ -1,0 +1,68 @@
+-- `stabbing_query::on_calendar` meets its contract: what the days from i on say is what all of them say. Assumes nothing.
+use Prim.Native.Nat.{_≤_, _-_}
+use native.Mathlib.Omega.{arith}
+use mathlib.Core.Path.{_≡_, refl, sym, _∙_}
+use borrow.Author.Needs.{needs}
+use borrow.Author.Tests.{not-true, not-false}
+use lib.ListN.{length, drop}
+use Rattle.stabbing.specs.Answer.{calendars}
+use Rattle.stabbing_query.proofs.Several as Steps
+use Rattle.stabbing_query.proofs.on_calendar.Statement.{statement}
+use Rattle.stabbing_query.proofs.on_calendar.Tie as tie
+
+abbrev Inv-loop : tie.InvT-loop
+Inv-loop days i₀ i = (i ≤ length days) × (calendars (drop i days) ≡ calendars days)
+
+abbrev μ-loop : tie.MeasureT-loop
+μ-loop days i₀ i = length days - i
+
+loop-holds : tie.Need-loop-holds Inv-loop μ-loop
+loop-holds c = (search needs, refl)
+
+mul-is-day : tie.Need-mul-is-day Inv-loop μ-loop
+mul-is-day c = search needs
+
+shared-slice-read-is-day : tie.Need-shared-slice-read-is-day Inv-loop μ-loop
+shared-slice-read-is-day c = search needs
+
+is-day-requires : tie.Need-is-day-requires Inv-loop μ-loop
+is-day-requires c κs = search needs
+
+returns : tie.Need-returns Inv-loop μ-loop
+returns c =
+    let a = c .before .before .before .before in
+    let d = c .before .before .before .loop-test .taken in
+    sym (Steps.off (a .before .before .args .days .now) (a .loop .i) d (sym (c .before .is-day .ensures) ∙ not-true _ (c .if1 .taken))) ∙ a .loop .inv .1
+
+add-i : tie.Need-add-i Inv-loop μ-loop
+add-i c = search needs
+
+loop-less : tie.Need-loop-less Inv-loop μ-loop
+loop-less c = search needs
+
+loop-again : tie.Need-loop-again Inv-loop μ-loop
+loop-again c =
+    let a = c .before .before .before .before in
+    let d = c .before .before .before .loop-test .taken in
+    (omega arith, sym (Steps.dated (a .before .before .args .days .now) (a .loop .i) d (sym (c .before .is-day .ensures) ∙ not-false _ (c .if1 .left))) ∙ a .loop .inv .1)
+
+returns-2 : tie.Need-returns-2 Inv-loop μ-loop
+returns-2 c =
+    let a = c .before in
+    sym (Steps.all-dated (a .before .before .args .days .now) (a .loop .i) (c .loop-test .left)) ∙ a .loop .inv .1
+
+pub on-calendar-spec : {M : Type 1} → statement M
+on-calendar-spec =
+    tie.close
+    (tie.spec
+    Inv-loop
+    μ-loop
+    loop-holds
+    mul-is-day
+    shared-slice-read-is-day
+    is-day-requires
+    returns
+    add-i
+    loop-less
+    loop-again
+    returns-2)
