@@ -1,0 +1,147 @@
+-- Document 01's register A, M1 and M2 run through the account: what each call answers, computed. Assumes nothing.
+use Prim.Native.Nat.{ℕ}
+use mathlib.Core.Path.{_≡_, refl}
+use mathlib.Core.List.{List, [], _∷_, _++_, map}
+use lib.Ieee.{binary32, isNan, toBits, ofBits}
+use lib.ListN.{replicate}
+use Rattle.spell.specs.declared.Urgency.{Urgency}
+use Rattle.spell.specs.declared.Urgency.the-variants.{Grade, Reading}
+use Rattle.spell.specs.declared.Spell.{Spell}
+use Rattle.spell.specs.Order.{earlierOf}
+use Rattle.spell.specs.Listing.{stands}
+use Rattle.stabbing.specs.Tree.{below, keep, count, head, next, parent, child, leftSibling, lastChild, fits, start, onPath, formula}
+use Rattle.model.specs.declared.Call.{Call}
+use Rattle.model.specs.declared.Call.the-variants.{Enter, Amend, Strike, TakeBack, Publish, Day, Span, Cover, Days}
+use Rattle.model.specs.Edits.{insert, remove, enterRefusal, amendRefusal, strikeRefusal, remember}
+use Rattle.model.specs.Questions.{onAny, daysOk, rising, filter, comparisonsOf}
+use Rattle.model.specs.Model.{fresh, Request, Answer, takeBack, give, day, span, cover, days, stepOf, run}
+
+-- ---- A call, and the part of its answer that a case names
+
+-- lent six places for numbers, each 99 beforehand, and no text
+abbrev asked : Call → List ℕ → Request
+asked c ds = record { call = c; days = ds; numbers = 99 ∷ 99 ∷ 99 ∷ 99 ∷ 99 ∷ 99 ∷ []; text = [] }
+
+abbrev call : Call → Request
+call c = asked c []
+
+-- refusal, count and looks in front of the lent list
+abbrev told : Answer → List ℕ
+told a = a .refusal ∷ a .count ∷ a .comparisons ∷ a .numbers
+
+-- the answer of a refused call, or of an accepted one that lists nothing
+abbrev plain : ℕ → List ℕ
+plain n = n ∷ 0 ∷ 0 ∷ 99 ∷ 99 ∷ 99 ∷ 99 ∷ 99 ∷ 99 ∷ []
+
+-- ---- Register A
+
+abbrev spell : ℕ → ℕ → ℕ → ℕ → Urgency → Spell
+spell n c f l u = record { number = n; candidate = c; first = f; last = l; urgency = u }
+
+-- entered in no order
+abbrev entering : List Request
+entering = call (Enter (spell 15 7 7 12 (Reading (ofBits binary32 0))))
+    ∷ call (Enter (spell 11 7 1 10 (Grade 2)))
+    ∷ call (Enter (spell 13 9 5 8 (Grade 1)))
+    ∷ call (Enter (spell 16 5 9 9 (Grade 3)))
+    ∷ call (Enter (spell 12 8 3 4 (Reading (ofBits binary32 0x3F80_0000))))
+    ∷ call (Enter (spell 14 9 5 6 (Grade 4)))
+    ∷ call Publish
+    ∷ []
+
+abbrev asking : List Request
+asking = call (Day 3)
+    ∷ call (Day 5)
+    ∷ call (Day 7)
+    ∷ call (Day 9)
+    ∷ call (Day 10)
+    ∷ call (Day 13)
+    ∷ call (Span 9 10)
+    ∷ call (Cover 14)
+    ∷ asked Days (4 ∷ 11 ∷ [])
+    ∷ []
+
+abbrev wanted : List (List ℕ)
+wanted = (0 ∷ 2 ∷ 0 ∷ 11 ∷ 12 ∷ 99 ∷ 99 ∷ 99 ∷ 99 ∷ [])
+    ∷ (0 ∷ 3 ∷ 2 ∷ 11 ∷ 14 ∷ 13 ∷ 99 ∷ 99 ∷ 99 ∷ [])
+    ∷ (0 ∷ 3 ∷ 4 ∷ 11 ∷ 13 ∷ 15 ∷ 99 ∷ 99 ∷ 99 ∷ [])
+    ∷ (0 ∷ 3 ∷ 2 ∷ 11 ∷ 15 ∷ 16 ∷ 99 ∷ 99 ∷ 99 ∷ [])
+    ∷ (0 ∷ 2 ∷ 2 ∷ 11 ∷ 15 ∷ 99 ∷ 99 ∷ 99 ∷ 99 ∷ [])
+    ∷ plain 0
+    ∷ (0 ∷ 3 ∷ 2 ∷ 11 ∷ 15 ∷ 16 ∷ 99 ∷ 99 ∷ 99 ∷ [])
+    ∷ (0 ∷ 3 ∷ 2 ∷ 11 ∷ 14 ∷ 13 ∷ 99 ∷ 99 ∷ 99 ∷ [])
+    ∷ (0 ∷ 3 ∷ 0 ∷ 11 ∷ 12 ∷ 15 ∷ 99 ∷ 99 ∷ 99 ∷ [])
+    ∷ []
+
+-- ---- M1 and M2: spells numbered from 1, candidate 1, grade 1
+
+abbrev plainly : ℕ → ℕ → ℕ → Request
+plainly n f l = call (Enter (spell n 1 f l (Grade 1)))
+
+abbrev M1 : List Request
+M1 = plainly 1 1 10 ∷ plainly 2 3 4 ∷ call Publish ∷ call (Span 6 7) ∷ []
+
+abbrev M2 : List Request
+M2 = plainly 1 1 20 ∷ plainly 2 2 5 ∷ plainly 3 6 8 ∷ plainly 4 10 12 ∷ call Publish ∷ asked Days (3 ∷ 11 ∷ []) ∷ []
+
+-- ---- Document 01's cases, in one statement
+
+abbrev answers : List Request → List (List ℕ)
+answers qs = map told (run fresh qs)
+
+pub document-cases : map answers ((entering ++ asking) ∷ M1 ∷ M2 ∷ [])
+    ≡ (replicate 7 (plain 0) ++ wanted)
+    ∷ (replicate 3 (plain 0) ++ ((0 ∷ 1 ∷ 0 ∷ 1 ∷ 99 ∷ 99 ∷ 99 ∷ 99 ∷ 99 ∷ []) ∷ []))
+    ∷ (replicate 5 (plain 0) ++ ((0 ∷ 3 ∷ 0 ∷ 1 ∷ 2 ∷ 4 ∷ 99 ∷ 99 ∷ 99 ∷ []) ∷ []))
+    ∷ []
+unfolding run stepOf day span cover days give enterRefusal insert remember earlierOf stands isNan toBits ofBits
+    onAny daysOk rising filter comparisonsOf below keep count head next parent child leftSibling lastChild fits start onPath formula
+document-cases = refl
+
+-- ---- Refusals, each at the state that the calls before it left
+
+abbrev one : Spell
+one = spell 11 7 1 10 (Grade 2)
+
+-- lent these places for numbers
+abbrev lent : List ℕ → Call → Request
+lent ns c = record { call = c; days = []; numbers = ns; text = [] }
+
+abbrev refusing : List Request
+refusing = call TakeBack
+    ∷ call (Enter one)
+    ∷ call (Enter one)
+    ∷ call (Enter (spell 0 0 0 0 (Grade 0)))
+    ∷ call (Amend (spell 12 7 1 10 (Grade 2)))
+    ∷ call (Amend (spell 11 7 1 4001 (Grade 2)))
+    ∷ call (Strike 12)
+    ∷ call (Cover 11)
+    ∷ call Publish
+    ∷ lent [] (Day 1)
+    ∷ lent (99 ∷ []) (Day 1)
+    ∷ call (Day 0)
+    ∷ call (Span 5 4)
+    ∷ asked Days (5 ∷ 5 ∷ [])
+    ∷ asked Days (5 ∷ 4 ∷ 4001 ∷ [])
+    ∷ call (Strike 11)
+    ∷ call TakeBack
+    ∷ call TakeBack
+    ∷ call TakeBack
+    ∷ []
+
+pub refusals : map (λ (a : Answer). a .refusal) (run fresh refusing)
+    ≡ 9 ∷ 0 ∷ 6 ∷ 1 ∷ 7 ∷ 3 ∷ 7 ∷ 7 ∷ 0 ∷ 11 ∷ 0 ∷ 3 ∷ 4 ∷ 10 ∷ 3 ∷ 0 ∷ 0 ∷ 0 ∷ 9 ∷ []
+unfolding run stepOf day span cover days give takeBack enterRefusal amendRefusal strikeRefusal insert remove remember earlierOf stands isNan toBits
+    onAny daysOk rising filter comparisonsOf
+refusals = refl
+
+-- ---- The 65th list falls off
+
+-- An enter and 64 amends that change no field leave 64 lists of the past. 64 are taken back, the 65th refused, and what the
+-- enter put in still stands.
+abbrev longPast : List Request
+longPast = (call (Enter one) ∷ replicate 64 (call (Amend one))) ++ (replicate 65 (call TakeBack) ++ (call (Strike 11) ∷ call (Strike 11) ∷ []))
+
+pub past-64 : map (λ (a : Answer). a .refusal) (run fresh longPast) ≡ replicate 129 0 ++ (9 ∷ 0 ∷ 7 ∷ [])
+unfolding run stepOf takeBack enterRefusal amendRefusal strikeRefusal insert remove remember earlierOf stands
+past-64 = refl

@@ -1,0 +1,90 @@
+-- The spells of a list that pass a test: exactly those, in the order, each number once. Assumes nothing.
+use Prim.Native.Nat.{ℕ}
+use mathlib.Core.Path.{_≡_, refl, sym, ap, _∙_}
+use mathlib.Core.Logic.{_⊎_, inl, inr}
+use mathlib.Core.Bool.{Bool, true, false, not, _||_, cond, false≢true}
+use mathlib.Core.List.{List, [], _∷_, List·Memᴰ, List·Memᴰ·head, List·Memᴰ·tail, List·Memᴰ·not-nil, List·Memᴰ·cases-cons}
+use lib.Dec.{eqb}
+use borrow.Author.Tests.{not-true}
+use Rattle.spell.specs.declared.Spell.{Spell}
+use Rattle.spell.specs.Order.{earlierOf, ordered}
+use Rattle.spell.specs.Listing.{stands, distinct, Each}
+use Rattle.spell.proofs.Entered.{both}
+use Rattle.spell.proofs.Order.{ordered-tail, ordered-first, ordered-cons}
+use Rattle.model.specs.Questions.{filter}
+
+module _ (t : Spell → Bool) where
+  -- ---- In the filtered list are the spells of the list that pass
+
+  pub filter-in : (l : List Spell) (x : Spell) → List·Memᴰ x (filter t l) → List·Memᴰ x l × (t x ≡ true)
+  unfolding filter
+  filter-in [] x i = absurd (List·Memᴰ·not-nil i)
+  filter-in (y ∷ l) x i = go (t y) refl (λ j. filter-in l x j) i
+    where
+      go : (b : Bool) → t y ≡ b → (List·Memᴰ x (filter t l) → List·Memᴰ x l × (t x ≡ true))
+          → List·Memᴰ x (cond b (y ∷ filter t l) (filter t l)) → List·Memᴰ x (y ∷ l) × (t x ≡ true)
+      go true e on i = hit (List·Memᴰ·cases-cons i)
+        where
+          hit : (x ≡ y) ⊎ List·Memᴰ x (filter t l) → List·Memᴰ x (y ∷ l) × (t x ≡ true)
+          hit (inl s) = (List·Memᴰ·head s, ap t s ∙ e)
+          hit (inr j) = (List·Memᴰ·tail (on j .0), on j .1)
+      go false e on i = (List·Memᴰ·tail (on i .0), on i .1)
+
+  pub in-filter : (l : List Spell) (x : Spell) → List·Memᴰ x l → t x ≡ true → List·Memᴰ x (filter t l)
+  unfolding filter
+  in-filter [] x i e = absurd (List·Memᴰ·not-nil i)
+  in-filter (y ∷ l) x i e = go (t y) refl (λ j. in-filter l x j e) (List·Memᴰ·cases-cons i)
+    where
+      go : (b : Bool) → t y ≡ b → (List·Memᴰ x l → List·Memᴰ x (filter t l)) → (x ≡ y) ⊎ List·Memᴰ x l
+          → List·Memᴰ x (cond b (y ∷ filter t l) (filter t l))
+      go true f on (inl s) = List·Memᴰ·head s
+      go true f on (inr j) = List·Memᴰ·tail (on j)
+      go false f on (inl s) = absurd (false≢true (sym f ∙ sym (ap t s) ∙ e))
+      go false f on (inr j) = on j
+
+  -- ---- What holds of each spell of a list holds of each that passes
+
+  pub filter-each : (P : Spell → Type 0) (l : List Spell) → Each P l → Each P (filter t l)
+  unfolding filter Each
+  filter-each P [] h = tt
+  filter-each P (y ∷ l) h = go (t y) (filter-each P l (h .1))
+    where
+      go : (b : Bool) → Each P (filter t l) → Each P (cond b (y ∷ filter t l) (filter t l))
+      go true k = (h .0, k)
+      go false k = k
+
+  -- ---- A list in the order stays in the order
+
+  pub filter-ordered : (l : List Spell) → ordered l ≡ true → ordered (filter t l) ≡ true
+  unfolding filter ordered
+  filter-ordered [] h = refl
+  filter-ordered (y ∷ l) h = go (t y) (filter-ordered l (ordered-tail y l h))
+    where
+      go : (b : Bool) → ordered (filter t l) ≡ true → ordered (cond b (y ∷ filter t l) (filter t l)) ≡ true
+      go true k = ordered-cons y (filter t l) (filter-each (λ z. earlierOf y z ≡ true) l (ordered-first y l h)) k
+      go false k = k
+
+  -- ---- Unique numbers stay unique
+
+  pub filter-stands : (l : List Spell) (k : ℕ) → stands l k ≡ false → stands (filter t l) k ≡ false
+  unfolding filter stands
+  filter-stands [] k h = refl
+  filter-stands (y ∷ l) k h = go (t y) (eqb (y .number) k) refl h (λ e. filter-stands l k e)
+    where
+      go : (b c : Bool) → eqb (y .number) k ≡ c → c || stands l k ≡ false → (stands l k ≡ false → stands (filter t l) k ≡ false)
+          → stands (cond b (y ∷ filter t l) (filter t l)) k ≡ false
+      go b true e h on = absurd (false≢true (sym h))
+      go true false e h on = rw (e, stands) (on h)
+      go false false e h on = on h
+
+  pub filter-distinct : (l : List Spell) → distinct l ≡ true → distinct (filter t l) ≡ true
+  unfolding filter distinct
+  filter-distinct [] h = refl
+  filter-distinct (y ∷ l) h =
+      let p = both (not (stands l (y .number))) (distinct l) h in
+      go (t y) (filter-stands l (y .number) (not-true _ (p .0))) (filter-distinct l (p .1))
+    where
+      go : (b : Bool) → stands (filter t l) (y .number) ≡ false → distinct (filter t l) ≡ true
+          → distinct (cond b (y ∷ filter t l) (filter t l)) ≡ true
+      go true s d = rw (s, distinct) d
+      go false s d = d

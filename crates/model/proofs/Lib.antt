@@ -1,0 +1,5 @@
+pub mod Account
+pub mod Filter
+pub mod Bridge
+pub mod Claims
+pub mod Cases

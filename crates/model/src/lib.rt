@@ -1,0 +1,16 @@
+// The plain account of document 01: its calls, and as definitions in specs/ its state and what each call does to it.
+use spell::Spell;
+
+// A call of the account. The lists that a call is lent stand beside it.
+pub enum Call {
+    Enter(Spell),
+    Amend(Spell),
+    Strike(u16),
+    TakeBack,
+    Publish,
+    Write,
+    Day(u16),
+    Span(u16, u16),
+    Cover(u16),
+    Days,
+}

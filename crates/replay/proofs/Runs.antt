@@ -1,0 +1,250 @@
+-- The loop of `calls`: what is still to come, and what a turn does to it. Assumes nothing.
+use mathlib.Core.Path.{_≡_, refl, sym, ap, _∙_}
+use Prim.Native.Nat.{ℕ, zero, suc, _+_, _-_, _*_, _/_, _≤_, _<_, min}
+use mathlib.Core.Bool.{Bool, true, false, cond}
+use mathlib.Core.List.{List, [], _∷_, _++_}
+use native.Mathlib.Numerals.{add-one}
+use native.Mathlib.Omega.{arith}
+use lib.Dec.{leb}
+use lib.ListN.{length, take, drop, length-drop}
+use lib.Seq.{drop-drop}
+use borrow.Author.Tests.{leb-true}
+use Rattle.standing.specs.declared.Standing.{Standing}
+use Rattle.model.specs.declared.Call.{Call}
+use Rattle.register.specs.Text.{readText}
+use Rattle.model.specs.Model.{State, fresh, begun, refusalIn, lineIn, Request, Answer, step, run}
+use Rattle.service.specs.declared.Stepped.{Stepped}
+use Rattle.service.specs.Service.{Represents, Given, answerOf, Met}
+use Rattle.replay.specs.declared.Code.{Code}
+use Rattle.replay.specs.declared.Next.{Next}
+use Rattle.replay.specs.declared.Next.the-variants.{Stop, Go}
+use Rattle.replay.specs.Coded.{codeAt, nextOf, decodeFrom, decode, four, tellAt, resultsOf, numbersOf, textsOf, Holds, Replayed}
+use Rattle.replay.proofs.Laid.{Laid, laid-done, laid-more, put-drop, put-length, part-back, part-length}
+
+-- ---- A call is found only where there is room
+
+picked : (b : Bool) (y : Next) (q : Call) → cond b y Stop ≡ Go q → b ≡ true
+picked true y q e = refl
+picked false y q e = cc
+
+pub record Room (c : Code) (days numbers text : ℕ) : Type 0 where
+  pub for-days : c .days ≤ days
+  pub for-numbers : c .numbers ≤ numbers
+  pub for-text : c .text ≤ text
+
+pub next-room : (c : Code) (days numbers text : ℕ) (q : Call) → nextOf c days numbers text ≡ Go q → Room c days numbers text
+unfolding nextOf
+next-room c days numbers text q e =
+    let d : leb (c .days) days ≡ true = picked (leb (c .days) days) _ q e in
+    let n : leb (c .numbers) numbers ≡ true = picked (leb (c .numbers) numbers) _ q (rw d at e) in
+    let t : leb (c .text) text ≡ true = picked (leb (c .text) text) _ q (rw (d, n) at e) in
+    record {
+      for-days = leb-true (c .days) days d;
+      for-numbers = leb-true (c .numbers) numbers n;
+      for-text = leb-true (c .text) text t;
+    }
+
+-- ---- The calls that are still coded
+
+module _ (codes days numbers text : List ℕ) (k : ℕ) where
+  decode-stop : (n : ℕ) → nextOf (codeAt codes k) (length days) (length numbers) (length text) ≡ Stop
+      → decodeFrom codes n k days numbers text ≡ []
+  unfolding decodeFrom
+  decode-stop zero e = refl
+  decode-stop (suc n) e = simp e
+
+  decode-go : (n : ℕ) (c : Code) (q : Call) → c ≡ codeAt codes k → nextOf c (length days) (length numbers) (length text) ≡ Go q
+      → decodeFrom codes (suc n) k days numbers text
+      ≡ record { call = q; days = take (c .days) days; numbers = take (c .numbers) numbers; text = take (c .text) text }
+      ∷ decodeFrom codes n (suc k) (drop (c .days) days) (drop (c .numbers) numbers) (drop (c .text) text)
+  unfolding decodeFrom
+  decode-go n c q ec e = rw (← ec) (simp e)
+
+-- ---- The loop's invariant
+
+-- lists before the loop: the index, the codes, the days, the three lent lists; and how many codes are whole
+module _ (sv₀ : Standing) (ix₀ codes days results₀ numbers₀ text₀ : List ℕ) (whole : ℕ) where
+  -- all the answers from the state m₀
+  abbrev answers : State → List Answer
+  answers m₀ = run m₀ (decodeFrom codes whole 0 days numbers₀ text₀)
+
+  -- What is done, followed by what is still to come from the state that service and index stand for, is the whole.
+  pub record Reached (m₀ : State) (sv : Standing) (ix results numbers text : List ℕ) (made d n t : ℕ) : Type 0 where
+    pub state : State
+    pub represents : Represents sv ix state
+    pub more : List Answer
+    pub to-come : run state (decodeFrom codes (whole - made) made (drop d days) (drop n numbers) (drop t text)) ≡ more
+    pub count : made + length more ≡ length (answers m₀)
+    pub told : Laid results₀ results (4 * made) (resultsOf more) (resultsOf (answers m₀))
+    pub listed : Laid numbers₀ numbers n (numbersOf more) (numbersOf (answers m₀))
+    pub written : Laid text₀ text t (textsOf more) (textsOf (answers m₀))
+
+  -- THE LOOP'S INVARIANT
+  pub record Going (sv : Standing) (ix results numbers text : List ℕ) (made d n t : ℕ) : Type 0 where
+    pub given : Given sv ix
+    pub made-in : made ≤ whole
+    pub d-in : d ≤ length days
+    pub n-in : n ≤ length numbers
+    pub t-in : t ≤ length text
+    pub results-long : length results ≡ length results₀
+    pub numbers-long : length numbers ≡ length numbers₀
+    pub text-long : length text ≡ length text₀
+    pub so-far : (m₀ : State) → Represents sv₀ ix₀ m₀ → Reached m₀ sv ix results numbers text made d n t
+
+  -- before the first turn
+  pub starts : Given sv₀ ix₀ → Going sv₀ ix₀ results₀ numbers₀ text₀ 0 0 0 0
+  starts g = record {
+    given = g;
+    made-in = omega arith;
+    d-in = omega arith;
+    n-in = omega arith;
+    t-in = omega arith;
+    results-long = refl;
+    numbers-long = refl;
+    text-long = refl;
+    so-far = λ m₀ r. record { state = m₀; represents = r; more = answers m₀; to-come = let z : whole - 0 ≡ whole = omega arith in rw z; count = omega arith; told = refl; listed = refl; written = refl };
+  }
+
+  module _ (sv : Standing) (ix results numbers text : List ℕ) (made d n t : ℕ) (g : Going sv ix results numbers text made d n t) where
+    -- nothing is still to come
+    ended : decodeFrom codes (whole - made) made (drop d days) (drop n numbers) (drop t text) ≡ []
+        → (m₀ : State) → Represents sv₀ ix₀ m₀ → Holds (answers m₀) results₀ numbers₀ text₀ made results numbers text
+    unfolding run resultsOf numbersOf textsOf
+    ended e m₀ r =
+        let f = g .so-far m₀ r in
+        let none : f .more ≡ [] = sym (f .to-come) ∙ ap (run (f .state)) e in
+        record {
+          count = omega (arith, rw none at (f .count));
+          told = laid-done results₀ results (resultsOf (answers m₀)) (4 * made) (rw none at (f .told));
+          listed = laid-done numbers₀ numbers (numbersOf (answers m₀)) n (rw none at (f .listed));
+          written = laid-done text₀ text (textsOf (answers m₀)) t (rw none at (f .written));
+        }
+
+    pub ended-all : whole ≤ made → (m₀ : State) → Represents sv₀ ix₀ m₀ → Holds (answers m₀) results₀ numbers₀ text₀ made results numbers text
+    unfolding decodeFrom
+    ended-all h = let z : whole - made ≡ 0 = omega arith in ended (rw z)
+
+    pub ended-stop : (c : Code) → c ≡ codeAt codes made
+        → nextOf c (length days - d) (length numbers - n) (length text - t) ≡ Stop
+        → (m₀ : State) → Represents sv₀ ix₀ m₀ → Holds (answers m₀) results₀ numbers₀ text₀ made results numbers text
+    ended-stop c ec e =
+        ended (decode-stop codes (drop d days) (drop n numbers) (drop t text) made (whole - made) (simp length-drop (rw ec at e)))
+
+    -- A turn: the call q of the code c is made, and gives r, with ix′ in the index, ns and ts in the lent parts.
+    module _ (c : Code) (q : Call) (r : Stepped) (ix′ ns ts results′ numbers′ text′ : List ℕ)
+        (h : made < whole)
+        (room : 4 * made + 4 ≤ length results)
+        (ec : c ≡ codeAt codes made)
+        (e : nextOf c (length days - d) (length numbers - n) (length text - t) ≡ Go q)
+        (ln : length ns ≡ c .numbers)
+        (lt : length ts ≡ c .text)
+        (er : results′ ≡ tellAt made (r .outcome) results)
+        (en : numbers′ ≡ (take n numbers ++ ns) ++ drop (n + c .numbers) numbers)
+        (et : text′ ≡ (take t text ++ ts) ++ drop (t + c .text) text) where
+      abbrev asked : Request
+      asked = record { call = q; days = take (c .days) (drop d days); numbers = take (c .numbers) (drop n numbers); text = take (c .text) (drop t text) }
+
+      fit : Room c (length days - d) (length numbers - n) (length text - t)
+      fit = next-room c _ _ _ q e
+
+      numbers-room : n + c .numbers ≤ length numbers
+      numbers-room = omega (arith, fit .for-numbers, g .n-in)
+
+      text-room : t + c .text ≤ length text
+      text-room = omega (arith, fit .for-text, g .t-in)
+
+      -- what is still coded is this call, and what is still coded after it
+      coming : decodeFrom codes (whole - made) made (drop d days) (drop n numbers) (drop t text)
+          ≡ asked ∷ decodeFrom codes (whole - (made + 1)) (made + 1) (drop (d + c .days) days) (drop (n + c .numbers) numbers′) (drop (t + c .text) text′)
+      coming =
+          let z : whole - made ≡ suc (whole - (made + 1)) = omega arith in
+          rw (z, put-drop numbers numbers′ ns n (c .numbers) numbers-room ln en, put-drop text text′ ts t (c .text) text-room lt et, ← drop-drop (c .days) d days)
+          (decode-go codes (drop d days) (drop n numbers) (drop t text) made (whole - (made + 1)) c q ec (simp length-drop e)
+          ∙ rw add-one)
+
+      turn-reached : Met sv ix asked r ix′ ns ts → (m₀ : State) → Represents sv₀ ix₀ m₀
+          → Reached m₀ (r .service) ix′ results′ numbers′ text′ (made + 1) (d + c .days) (n + c .numbers) (t + c .text)
+      unfolding run resultsOf numbersOf textsOf
+      turn-reached met m₀ rp =
+          let f = g .so-far m₀ rp in
+          let m = f .state in
+          let after : State = step m asked .state in
+          let more : List Answer = run after (decodeFrom codes (whole - (made + 1)) (made + 1) (drop (d + c .days) days) (drop (n + c .numbers) numbers′) (drop (t + c .text) text′)) in
+          let key : f .more ≡ answerOf (r .outcome) ns ts ∷ more =
+          sym (f .to-come) ∙ ap (run m) coming ∙ ap (λ (a : Answer). a ∷ more) (sym (met .answer m (f .represents))) in
+          let next : 4 * (made + 1) ≡ 4 * made + 4 = omega arith in
+          record {
+            state = after;
+            represents = met .after m (f .represents);
+            more = more;
+            to-come = refl;
+            count = omega (arith, rw key at (f .count));
+            told = rw next (laid-more results results′ (four (r .outcome)) (4 * made) 4 room refl er results₀ (resultsOf more) (resultsOf (answers m₀)) (rw key at (f .told)));
+            listed = laid-more numbers numbers′ ns n (c .numbers) numbers-room ln en numbers₀ (numbersOf more) (numbersOf (answers m₀)) (rw key at (f .listed));
+            written = laid-more text text′ ts t (c .text) text-room lt et text₀ (textsOf more) (textsOf (answers m₀)) (rw key at (f .written));
+          }
+
+      pub turn : Met sv ix asked r ix′ ns ts → Going (r .service) ix′ results′ numbers′ text′ (made + 1) (d + c .days) (n + c .numbers) (t + c .text)
+      turn met =
+          let lr = put-length results results′ (four (r .outcome)) (4 * made) 4 room refl er in
+          let ln′ = put-length numbers numbers′ ns n (c .numbers) numbers-room ln en in
+          let lt′ = put-length text text′ ts t (c .text) text-room lt et in
+          record {
+            given = met .given;
+            made-in = omega arith;
+            d-in = omega (arith, fit .for-days, g .d-in);
+            n-in = omega (arith, numbers-room);
+            t-in = omega (arith, text-room);
+            results-long = lr ∙ g .results-long;
+            numbers-long = ln′ ∙ g .numbers-long;
+            text-long = lt′ ∙ g .text-long;
+            so-far = turn-reached met;
+          }
+
+    -- the same in the words of the code: parts of kd, kn and kt places are lent and come back
+    pub turned : (c : Code) (q : Call) (r : Stepped) (ix′ ns ts results′ : List ℕ) (kd kn kt : ℕ)
+        → made < whole
+        → 4 * made + 4 ≤ length results
+        → c ≡ codeAt codes made
+        → nextOf c (length days - d) (length numbers - n) (length text - t) ≡ Go q
+        → kd ≡ c .days → kn ≡ c .numbers → kt ≡ c .text
+        → length ns ≡ length (take kn (drop n numbers)) → length ts ≡ length (take kt (drop t text))
+        → Met sv ix (record { call = q; days = take kd (drop d days); numbers = take kn (drop n numbers); text = take kt (drop t text) }) r ix′ ns ts
+        → results′ ≡ tellAt made (r .outcome) results
+        → Going (r .service) ix′ results′ (take n numbers ++ (ns ++ drop kn (drop n numbers))) (take t text ++ (ts ++ drop kt (drop t text)))
+        (made + 1) (d + c .days) (n + c .numbers) (t + c .text)
+    turned c q r ix′ ns ts results′ kd kn kt h room ec e ed en et ln lt met er =
+        let fit : Room c (length days - d) (length numbers - n) (length text - t) = next-room c _ _ _ q e in
+        turn c q r ix′ ns ts results′ _ _ h room ec e
+        (part-length numbers ns n kn (c .numbers) en (omega (arith, fit .for-numbers, g .n-in)) ln)
+        (part-length text ts t kt (c .text) et (omega (arith, fit .for-text, g .t-in)) lt)
+        er
+        (part-back numbers ns n kn (c .numbers) en)
+        (part-back text ts t kt (c .text) et)
+        (rw (ed, en, et) at met)
+
+-- ---- A code is whole, and its results have room
+
+pub whole-room : (codes results whole k : ℕ) → whole ≡ min (codes / 10) (results / 4) → k < whole → (10 * k + 10 ≤ codes) × (4 * k + 4 ≤ results)
+whole-room codes results whole k e h = (omega arith, omega arith)
+
+-- ---- The beginning
+
+-- what stands for a state is given
+pub represented : (sv : Standing) (ix : List ℕ) (m : State) → Represents sv ix m → Given sv ix
+represented sv ix m r = record { wf = r .wf; published = record { state = m; shows = r .shows } }
+
+module _ (new : Bool) (register codes days results numbers text : List ℕ) (made : ℕ) (results′ numbers′ text′ : List ℕ) where
+  abbrev Held : State → Type 0
+  Held m = Holds (run m (decode codes days results numbers text)) results numbers text made results′ numbers′ text′
+
+  abbrev Claim : ℕ → ℕ → Type 0
+  Claim refusal line =
+      Replayed new register codes days results numbers text (record { refusal = refusal; line = line; made = made }) results′ numbers′ text′
+
+  pub replayed-fresh : new ≡ true → Held fresh → Claim 0 0
+  replayed-fresh e h = record { refusal = rw e; line = rw e; calls = rw e h }
+
+  pub replayed-read : (refusal line : ℕ) → new ≡ false → refusal ≡ refusalIn (readText register) → line ≡ lineIn (readText register)
+      → Held (begun (readText register)) → Claim refusal line
+  replayed-read refusal line e er el h = record { refusal = rw e er; line = rw e el; calls = rw e h }

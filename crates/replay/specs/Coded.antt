@@ -1,0 +1,156 @@
+-- A list of calls as words, ten for a call, and what the answers leave in the lent lists. Assumes nothing.
+use Prim.Native.Nat.{ℕ, zero, suc, _+_, _*_, _/_, _%_, min}
+use mathlib.Core.Path.{_≡_}
+use mathlib.Core.Bool.{Bool, cond}
+use mathlib.Core.List.{List, [], _∷_, _++_}
+use lib.Dec.{leb, eqb}
+use lib.Ieee.{binary32, ofBits}
+use lib.ListN.{length, take, drop, getD}
+use Rattle.refusal.specs.Table.{accepted}
+use Rattle.spell.specs.declared.Urgency.{Urgency}
+use Rattle.spell.specs.declared.Urgency.the-variants.{Grade, Reading}
+use Rattle.spell.specs.declared.Spell.{Spell}
+use Rattle.register.specs.Text.{readText}
+use Rattle.model.specs.declared.Call.the-variants.{Enter, Amend, Strike, TakeBack, Publish, Write, Day, Span, Cover, Days}
+use Rattle.model.specs.Model.{State, fresh, begun, refusalIn, lineIn, Request, Answer, run}
+use Rattle.standing.specs.declared.Standing.{Standing}
+use Rattle.service.specs.declared.Outcome.{Outcome}
+use Rattle.service.specs.Service.{Represents}
+use Rattle.replay.specs.declared.Code.{Code}
+use Rattle.replay.specs.declared.Next.{Next}
+use Rattle.replay.specs.declared.Next.the-variants.{Stop, Go}
+use Rattle.replay.specs.declared.Ran.{Ran}
+
+-- ---- One call's code
+
+-- a number of 16 bits: a word's lowest
+abbrev pub low16 : ℕ → ℕ
+low16 x = x % 65536
+
+-- a grade, its kind 0, or a reading by its bits
+abbrev pub urgencyOf : ℕ → ℕ → Urgency
+urgencyOf kind value = cond (eqb kind 0) (Grade (low16 value)) (Reading (ofBits binary32 (value % 4294967296)))
+
+-- the word j of the code k, which are ten words each
+abbrev pub word : List ℕ → ℕ → ℕ → ℕ
+word codes k j = getD codes (10 * k + j) 0
+
+-- the call's number, the fields of a spell, and how many places of each list the call is lent
+unfoldable pub codeAt : List ℕ → ℕ → Code
+codeAt codes k = record {
+  op = word codes k 0;
+  number = low16 (word codes k 1);
+  candidate = low16 (word codes k 2);
+  first = low16 (word codes k 3);
+  last = low16 (word codes k 4);
+  kind = word codes k 5;
+  value = word codes k 6;
+  days = word codes k 7;
+  numbers = word codes k 8;
+  text = word codes k 9;
+}
+
+abbrev pub spellOf : Code → Spell
+spellOf c = record {
+  number = c .number;
+  candidate = c .candidate;
+  first = c .first;
+  last = c .last;
+  urgency = urgencyOf (c .kind) (c .value);
+}
+
+-- the call, or none where no call has that number
+unfoldable pub callOf : Code → Next
+callOf c =
+    cond (eqb (c .op) 1) (Go (Enter (spellOf c)))
+    (cond (eqb (c .op) 2) (Go (Amend (spellOf c)))
+    (cond (eqb (c .op) 3) (Go (Strike (c .number)))
+    (cond (eqb (c .op) 4) (Go TakeBack)
+    (cond (eqb (c .op) 5) (Go Publish)
+    (cond (eqb (c .op) 6) (Go Write)
+    (cond (eqb (c .op) 7) (Go (Day (c .first)))
+    (cond (eqb (c .op) 8) (Go (Span (c .first) (c .last)))
+    (cond (eqb (c .op) 9) (Go (Cover (c .number)))
+    (cond (eqb (c .op) 10) (Go Days) Stop)))))))))
+
+-- none, too, where the lists of days, numbers and text have fewer places left than it is lent
+unfoldable pub nextOf : Code → ℕ → ℕ → ℕ → Next
+nextOf c days numbers text =
+    cond (leb (c .days) days) (cond (leb (c .numbers) numbers) (cond (leb (c .text) text) (callOf c) Stop) Stop) Stop
+
+-- ---- The list of calls
+
+-- as many codes as are whole and have four places for their results
+abbrev pub wholeOf : List ℕ → List ℕ → ℕ
+wholeOf codes results = min (length codes / 10) (length results / 4)
+
+abbrev pub andThen : Next → List ℕ → List ℕ → List ℕ → List Request → List Request
+andThen Stop days numbers text rest = []
+andThen (Go c) days numbers text rest = record { call = c; days = days; numbers = numbers; text = text } ∷ rest
+
+-- n codes from the code k on, up to the first that is no call. Each call is lent the next parts of days, numbers and text.
+unfoldable pub decodeFrom : List ℕ → ℕ → ℕ → List ℕ → List ℕ → List ℕ → List Request
+decodeFrom codes zero k days numbers text = []
+decodeFrom codes (suc n) k days numbers text =
+    andThen (nextOf (codeAt codes k) (length days) (length numbers) (length text))
+    (take (codeAt codes k .days) days)
+    (take (codeAt codes k .numbers) numbers)
+    (take (codeAt codes k .text) text)
+    (decodeFrom codes n (suc k) (drop (codeAt codes k .days) days) (drop (codeAt codes k .numbers) numbers) (drop (codeAt codes k .text) text))
+
+-- the calls of the whole list
+abbrev pub decode : List ℕ → List ℕ → List ℕ → List ℕ → List ℕ → List Request
+decode codes days results numbers text = decodeFrom codes (wholeOf codes results) 0 days numbers text
+
+-- ---- The answers
+
+-- a call's four results
+abbrev pub four : Outcome → List ℕ
+four o = o .refusal ∷ o .count ∷ o .comparisons ∷ o .length ∷ []
+
+-- a list with the results of the call k in their places
+abbrev pub tellAt : ℕ → Outcome → List ℕ → List ℕ
+tellAt k o l = (take (4 * k) l ++ four o) ++ drop (4 * k + 4) l
+
+-- the results of all calls, end to end
+unfoldable pub resultsOf : List Answer → List ℕ
+resultsOf [] = []
+resultsOf (a ∷ rest) = a .refusal ∷ a .count ∷ a .comparisons ∷ a .length ∷ resultsOf rest
+
+-- the lists of numbers, end to end
+unfoldable pub numbersOf : List Answer → List ℕ
+numbersOf [] = []
+numbersOf (a ∷ rest) = a .numbers ++ numbersOf rest
+
+-- the lists of text, end to end
+unfoldable pub textsOf : List Answer → List ℕ
+textsOf [] = []
+textsOf (a ∷ rest) = a .text ++ textsOf rest
+
+-- the list l with new in its first places, and the later places as before
+abbrev pub over : List ℕ → List ℕ → List ℕ
+over new l = new ++ drop (length new) l
+
+-- so many calls were made, and results, numbers and text hold these answers
+pub record Holds (answers : List Answer) (results numbers text : List ℕ) (made : ℕ) (results′ numbers′ text′ : List ℕ) : Type 0 where
+  pub count : made ≡ length answers
+  pub told : results′ ≡ over (resultsOf answers) results
+  pub listed : numbers′ ≡ over (numbersOf answers) numbers
+  pub written : text′ ≡ over (textsOf answers) text
+
+-- whatever state the service sv and the index ix stand for, these are the answers of the account's run of the coded calls from it
+abbrev pub Answered : Standing → List ℕ → List ℕ → List ℕ → List ℕ → List ℕ → List ℕ → ℕ → List ℕ → List ℕ → List ℕ → Type 0
+Answered sv ix codes days results numbers text made results′ numbers′ text′ =
+    (m : State) → Represents sv ix m → Holds (run m (decode codes days results numbers text)) results numbers text made results′ numbers′ text′
+
+-- ---- The beginning: a fresh service, or a register's bytes
+
+abbrev pub beginning : Bool → List ℕ → State
+beginning new register = cond new fresh (begun (readText register))
+
+-- THE CLAIM about a whole list of calls: begun fresh or on the register's bytes, the answers of the calls that the words code
+-- are those of the account's own run of them
+pub record Replayed (new : Bool) (register codes days results numbers text : List ℕ) (r : Ran) (results′ numbers′ text′ : List ℕ) : Type 0 where
+  pub refusal : r .refusal ≡ cond new accepted (refusalIn (readText register))
+  pub line : r .line ≡ cond new 0 (lineIn (readText register))
+  pub calls : Holds (run (beginning new register) (decode codes days results numbers text)) results numbers text (r .made) results′ numbers′ text′

@@ -1,0 +1,100 @@
+-- From a question over the index to the postcondition of the call. Assumes nothing.
+use Prim.Native.Nat.{ℕ, _≤_}
+use mathlib.Core.Path.{_≡_, refl, sym, ap, _∙_, subst}
+use mathlib.Core.Bool.{Bool, true}
+use mathlib.Core.List.{List, map}
+use native.Mathlib.Omega.{arith}
+use lib.ListN.{length, length-map}
+use Rattle.spell.specs.declared.Spell.{Spell}
+use Rattle.stabbing.specs.declared.Listed.{Listed}
+use Rattle.stabbing.specs.Index.{blockOf, numbers, firsts, lasts, Built}
+use Rattle.stabbing.specs.Answer as rows
+use Rattle.stabbing.specs.Answer.{Gave, dayIn, spanIn, coverIn, daysIn}
+use Rattle.stabbing.proofs.Block as block
+use Rattle.standing.specs.declared.Standing.{Standing}
+use Rattle.model.specs.declared.Call.{Call}
+use Rattle.model.specs.declared.Call.the-variants.{Day, Span, Cover, Days}
+use Rattle.model.specs.Questions.{firstsOf, lastsOf}
+use Rattle.model.specs.Model.{State, Request, Answer, step, stepOf}
+use Rattle.model.proofs.Account.{reads}
+use Rattle.model.proofs.Claims.{reads-keep}
+use Rattle.service.specs.declared.Outcome.{Outcome}
+use Rattle.service.specs.declared.Stepped.{Stepped}
+use Rattle.service.specs.Service.{indexOf, Shows, Represents, Published, Given, asking, answerOf, Met, Asked}
+use Rattle.service.proofs.Questions.{told, numbersOf, day-told, span-told, cover-told, days-told}
+use Rattle.service.proofs.Publishing.{rows-ok}
+
+-- ---- The rows of an index are those of the list that it shows
+module _ (m : State) (ix : List ℕ) (s : Shows ix m) where
+  abbrev p : List Spell
+  p = m .published
+
+  same : length (numbersOf p) ≡ length (firstsOf p)
+  same = length-map p _ ∙ sym (length-map p _)
+
+  few : length (firstsOf p) ≤ 1024
+  few = omega (arith, length-map p (λ (x : Spell). x .first), s .good .few)
+
+  pub shows-built : Built ix
+  shows-built = subst Built (sym (s .index)) (block.built-of (numbersOf p) (firstsOf p) (lastsOf p) few (rows-ok p (s .good)) same)
+
+  pub shows-numbers : numbers ix ≡ numbersOf p
+  shows-numbers = ap numbers (s .index) ∙ block.numbers-of (numbersOf p) (firstsOf p) (lastsOf p) few (rows-ok p (s .good)) same
+
+  pub shows-firsts : firsts ix ≡ firstsOf p
+  shows-firsts = ap firsts (s .index) ∙ block.firsts-of (numbersOf p) (firstsOf p) (lastsOf p) few (rows-ok p (s .good)) same
+
+  pub shows-lasts : lasts ix ≡ lastsOf p
+  shows-lasts = ap lasts (s .index) ∙ block.lasts-of (numbersOf p) (firstsOf p) (lastsOf p) few (rows-ok p (s .good)) same
+
+-- an index that the calls gave is one that publish built
+pub published-built : (ix : List ℕ) → Published ix → Built ix
+published-built ix g = shows-built (g .state) ix (g .shows)
+
+-- a call that is known to be another is answered as that one
+pub as-call : {sv : Standing} {ix days ns text : List ℕ} {c c′ : Call} {r : Stepped} {ix′ ns′ text′ : List ℕ} → c ≡ c′
+    → Met sv ix (asking c′ days ns text) r ix′ ns′ text′ → Met sv ix (asking c days ns text) r ix′ ns′ text′
+as-call {sv} {ix} {days} {ns} {text} {r = r} {ix′} {ns′} {text′} e m = subst (λ (c : Call). Met sv ix (asking c days ns text) r ix′ ns′ text′) (sym e) m
+
+-- ---- The postcondition of a question
+pub asked : (ix : List ℕ) (c : Call) (days ns : List ℕ) (o : Outcome) (ns′ : List ℕ) → reads c ≡ true
+    → ((m : State) (text : List ℕ) → Shows ix m → answerOf o ns′ text ≡ step m (asking c days ns text) .answer)
+    → Asked ix c days ns o ns′
+asked ix c days ns o ns′ r answers = record {
+  met = λ sv text g. record {
+    given = g;
+    answer = λ m h. answers m text (h .shows);
+    after = λ m h. subst (Represents sv ix) (sym (reads-keep m (asking c days ns text) r)) h;
+  };
+}
+
+-- the outcome of a question over the rows
+abbrev pub outcomeOf : Listed → Outcome
+outcomeOf l = record { refusal = l .refusal; count = l .count; comparisons = l .comparisons; length = 0 }
+
+module _ (ix : List ℕ) (days ns : List ℕ) (l : Listed) (o : Outcome) (is : o ≡ outcomeOf l) (ns′ : List ℕ) where
+  -- what the rows' outcome r tells is the account's answer
+  gave-asked : (c : Call) (r : rows.Outcome) → Gave l ns′ r → reads c ≡ true
+      → ((m : State) (text : List ℕ) → Shows ix m → told r text ≡ step m (asking c days ns text) .answer)
+      → Asked ix c days ns o ns′
+  gave-asked c r g e answers = asked ix c days ns o ns′ e (λ m text s. rw (is, g .result, g .out) (answers m text s))
+
+  pub day-asked : (d : ℕ) → Gave l ns′ (dayIn ix d ns) → Asked ix (Day d) days ns o ns′
+  unfolding stepOf
+  day-asked d g = gave-asked (Day d) (dayIn ix d ns) g refl (λ m text s.
+      rw (shows-numbers m ix s, shows-firsts m ix s, shows-lasts m ix s) (day-told m (asking (Day d) days ns text) d))
+
+  pub span-asked : (a b : ℕ) → Gave l ns′ (spanIn ix a b ns) → Asked ix (Span a b) days ns o ns′
+  unfolding stepOf
+  span-asked a b g = gave-asked (Span a b) (spanIn ix a b ns) g refl (λ m text s.
+      rw (shows-numbers m ix s, shows-firsts m ix s, shows-lasts m ix s) (span-told m (asking (Span a b) days ns text) a b))
+
+  pub cover-asked : (k : ℕ) → Gave l ns′ (coverIn ix k ns) → Asked ix (Cover k) days ns o ns′
+  unfolding stepOf
+  cover-asked k g = gave-asked (Cover k) (coverIn ix k ns) g refl (λ m text s.
+      rw (shows-numbers m ix s, shows-firsts m ix s, shows-lasts m ix s) (cover-told m (asking (Cover k) days ns text) (s .good .unique) k))
+
+  pub days-asked : Gave l ns′ (daysIn ix days ns) → Asked ix Days days ns o ns′
+  unfolding stepOf
+  days-asked g = gave-asked Days (daysIn ix days ns) g refl (λ m text s.
+      rw (shows-numbers m ix s, shows-firsts m ix s, shows-lasts m ix s) (days-told m (asking Days days ns text)))

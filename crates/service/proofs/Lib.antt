@@ -1,0 +1,5 @@
+pub mod Questions
+pub mod Publishing
+pub mod Asking
+pub mod Editing
+pub mod Beginning

@@ -1,0 +1,45 @@
+-- The columns of a list that stands can be published. Assumes nothing.
+use Prim.Native.Nat.{ℕ, _≤_, _<_}
+use mathlib.Core.Path.{_≡_, refl, sym, ap, _∙_}
+use mathlib.Core.Bool.{Bool, true, false, _&&_, _||_}
+use mathlib.Core.List.{List, [], _∷_, map}
+use mathlib.Core.Logic.{_⊎_, inl, inr}
+use borrow.Author.Tests.{le-leb, lt-ltb, eq-eqb}
+use lib.Dec.{leb, ltb, eqb}
+use lib.ListN.{length, length-map}
+use Rattle.spell.specs.declared.Spell.{Spell}
+use Rattle.spell.specs.Order.{earlierOf, ordered}
+use Rattle.spell.specs.Listing.{Each, Sound, Good}
+use Rattle.spell.proofs.Entered.{both, entered}
+use Rattle.spell.proofs.Order.{earlier-days}
+use Rattle.stabbing.specs.Index.{rowOk, mayFollow, rowsAfter, rowsOk}
+use Rattle.model.specs.Questions.{firstsOf, lastsOf}
+
+row-right : (s : Spell) → Sound s → rowOk (s .first) (s .last) ≡ true
+row-right s g =
+    let e = entered s (g .entered) in
+    rw (le-leb 1 (s .first) (e .first-up), le-leb (s .first) (s .last) (e .forward), le-leb (s .last) 4000 (e .last-day))
+
+may-follow : (f l g m : ℕ) → (f < g) ⊎ ((f ≡ g) × (l ≤ m)) → mayFollow f l g m ≡ true
+may-follow f l g m (inl h) = rw (lt-ltb f g h)
+may-follow f l g m (inr h) = rw (eq-eqb f g (h .0), le-leb l m (h .1)) (either (ltb f g))
+  where
+    either : (b : Bool) → b || true ≡ true
+    either true = refl
+    either false = refl
+
+-- each spell after one with the days f and l
+rows-after : (f l : ℕ) (x : Spell) (p : List Spell) → mayFollow f l (x .first) (x .last) ≡ true → Each Sound (x ∷ p) → ordered (x ∷ p) ≡ true
+    → rowsAfter f l (firstsOf (x ∷ p)) (lastsOf (x ∷ p)) ≡ true
+unfolding rowsAfter Each ordered
+rows-after f l x [] h s o = rw (row-right x (s .0), h)
+rows-after f l x (y ∷ p) h s o =
+    let b = both (earlierOf x y) (ordered (y ∷ p)) o in
+    rw (row-right x (s .0), h) (rows-after (x .first) (x .last) y p (may-follow (x .first) (x .last) (y .first) (y .last) (earlier-days x y (b .0))) (s .1) (b .1))
+
+pub rows-ok : (p : List Spell) → Good p → rowsOk (firstsOf p) (lastsOf p) ≡ true
+unfolding Each
+rows-ok [] g = unfold rowsAfter in refl
+rows-ok (x ∷ p) g =
+    let e = entered x (g .each .0 .entered) in
+    rows-after 0 0 x p (may-follow 0 0 (x .first) (x .last) (inl (e .first-up))) (g .each) (g .in-order)

@@ -1,0 +1,165 @@
+-- The questions over a block's rows answer as the account does of the published list. Assumes nothing.
+use Prim.Native.Nat.{ℕ, zero, suc, _+_, _≤_, _<_}
+use mathlib.Core.Path.{_≡_, refl, sym, ap, _∙_}
+use mathlib.Core.Bool.{Bool, true, false, not, _&&_, _||_, cond}
+use mathlib.Core.List.{List, [], _∷_, _++_, map}
+use native.Mathlib.Omega.{arith}
+use borrow.Author.Tests.{eqb-true, eq-eqb, ne-eqb, lt-ltb, leb-true, not-true}
+use lib.Dec.{leb, ltb, eqb}
+use lib.ListN.{length, getD, drop, length-map, List·getD-map}
+use Rattle.refusal.specs.Table.{offCalendar, reversed, unknownNumber, unsortedDays, shortBuffer}
+use Rattle.spell.specs.declared.Spell.{Spell}
+use Rattle.spell.specs.Entry.{dayOk}
+use Rattle.spell.specs.Listing.{stands, distinct}
+use Rattle.spell.proofs.Entered.{both}
+use Rattle.stabbing.specs.Tree.{keep, fits, start, formula, below}
+use Rattle.stabbing.specs.Index.{named}
+use Rattle.stabbing.specs.Answer.{Outcome, refused, give, question, calendars, risingFrom, meets, containsAny, dayOf, spanOf, covering, coverOf, daysOf}
+use Rattle.stabbing.proofs.Marks.{by-test, by-mark, clash, Below, below-is}
+use Rattle.model.specs.Questions.{reaches, onAny, daysOk, rising, filter, listed, firstsOf, lastsOf, comparisonsOf}
+use Rattle.model.specs.Model.{State, Request, Answer, After, refuse, give as giveNumbers, ask, day, span, cover, days}
+use Rattle.model.proofs.Bridge.{Agree, agree, rows-kept, fits-agree}
+use Rattle.spell.specs.declared.Urgency.the-variants.{Grade}
+
+-- a question's outcome beside a list lent for a text, as the account's answer
+abbrev pub told : Outcome → List ℕ → Answer
+told o text = record {
+  refusal = o .result .refusal;
+  count = o .result .count;
+  comparisons = o .result .comparisons;
+  length = 0;
+  numbers = o .out;
+  text = text;
+}
+
+abbrev pub numbersOf : List Spell → List ℕ
+numbersOf p = map (λ (s : Spell). s .number) p
+
+-- a place that holds no spell
+abbrev blank : Spell
+blank = record { number = 0; candidate = 0; first = 0; last = 0; urgency = Grade 0 }
+
+-- the test of several days by the columns is the test of the spells
+meets-any : (ds : List ℕ) (s : Spell) → meets ds (s .first) (s .last) ≡ onAny ds s
+unfolding meets onAny
+meets-any [] s = refl
+meets-any (d ∷ ds) s = rw (meets-any ds s)
+
+contains-any : (p : List Spell) (ds : List ℕ) (k : ℕ) → containsAny (firstsOf p) (lastsOf p) ds k ≡ onAny ds (getD p k blank)
+contains-any p ds k =
+    rw (List·getD-map (λ (s : Spell). s .first) p k blank, List·getD-map (λ (s : Spell). s .last) p k blank) (meets-any ds (getD p k blank))
+
+days-agree : (ds : List ℕ) (p : List Spell) → Agree (containsAny (firstsOf p) (lastsOf p) ds) (onAny ds) p
+days-agree ds p = agree _ _ blank p (λ k _. contains-any p ds k)
+
+-- ---- Lists of days
+calendar-days : (ds : List ℕ) → calendars ds ≡ daysOk ds
+unfolding calendars daysOk
+calendar-days [] = refl
+calendar-days (d ∷ ds) = rw (calendar-days ds)
+
+rising-from : (d : ℕ) (ds : List ℕ) → risingFrom d ds ≡ rising (d ∷ ds)
+unfolding risingFrom rising
+rising-from d [] = refl
+rising-from d (e ∷ ds) = rw (rising-from e ds)
+
+rising-days : (ds : List ℕ) → daysOk ds ≡ true → risingFrom 0 ds ≡ rising ds
+unfolding risingFrom daysOk
+rising-days [] h = unfold rising in refl
+rising-days (d ∷ ds) h =
+    let ok = both (dayOk d) (daysOk ds) h .0 in
+    let up : 1 ≤ d = leb-true 1 d (both (leb 1 d) (leb d 4000) ok .0) in
+    rw (lt-ltb 0 d up, rising-from d ds)
+
+-- ---- The spell of a number
+stands-at : (l : List Spell) (i : ℕ) → i < length l → stands l (getD l i blank .number) ≡ true
+unfolding stands
+stands-at [] i h = absurd (omega arith)
+stands-at (x ∷ l) zero h = rw (eq-eqb (x .number) (x .number) refl)
+stands-at (x ∷ l) (suc i) h = rw (stands-at l i (omega arith)) (either (eqb (x .number) (getD l i blank .number)))
+  where
+    either : (b : Bool) → b || true ≡ true
+    either true = refl
+    either false = refl
+
+-- unique numbers differ at different places
+differ : (l : List Spell) → distinct l ≡ true → (i j : ℕ) → j < i → i < length l → getD l j blank .number ≡ getD l i blank .number → ⊥
+unfolding distinct
+differ [] d i j h k e = omega arith
+differ (x ∷ l) d zero j h k e = omega arith
+differ (x ∷ l) d (suc i) zero h k e =
+    clash (stands-at l i (omega arith)) (rw e at (not-true (stands l (x .number)) (both (not (stands l (x .number))) (distinct l) d .0)))
+differ (x ∷ l) d (suc i) (suc j) h k e = differ l (both (not (stands l (x .number))) (distinct l) d .1) i j (omega arith) (omega arith) e
+
+module _ (m : State) (q : Request) where
+  give-told : (ns : List ℕ) (c : ℕ) → told (give ns c (q .numbers)) (q .text) ≡ giveNumbers ns c m q .answer
+  unfolding give giveNumbers
+  give-told ns c = by-test (leb (length ns) (length (q .numbers))) (λ e. rw (e, give)) (λ e. rw (e, give))
+
+  abbrev rows : List Spell
+  rows = m .published
+
+  -- what the rows that pass a test are told as
+  several-told : (t : Spell → Bool) (u : ℕ → Bool) (c : ℕ) → Agree u t rows
+      → told (give (map (λ (k : ℕ). getD (numbersOf rows) k 0) (keep u (length (firstsOf rows)))) c (q .numbers)) (q .text)
+      ≡ giveNumbers (listed t rows) c m q .answer
+  several-told t u c same =
+      rw (length-map rows (λ (s : Spell). s .first), rows-kept (λ (s : Spell). s .number) u t rows same) (give-told (listed t rows) c)
+
+  question-told : (h l : ℕ) → told (question (numbersOf rows) (firstsOf rows) (lastsOf rows) h l (q .numbers)) (q .text) ≡ ask h l m q .answer
+  unfolding question comparisonsOf
+  question-told h l =
+      several-told (reaches h l) (fits (firstsOf rows) (lastsOf rows) h l)
+      (formula (firstsOf rows) (lastsOf rows) (start (firstsOf rows) (lastsOf rows) h l) (keep (fits (firstsOf rows) (lastsOf rows) h l) (length (firstsOf rows))))
+      (fits-agree h l rows)
+      ∙ rw (length-map rows (λ (s : Spell). s .first))
+
+  pub day-told : (d : ℕ) → told (dayOf (numbersOf rows) (firstsOf rows) (lastsOf rows) d (q .numbers)) (q .text) ≡ day d m q .answer
+  unfolding dayOf day
+  day-told d = by-test (dayOk d) (λ e. rw (e, dayOf) (question-told d d)) (λ e. rw (e, dayOf))
+
+  pub span-told : (a b : ℕ) → told (spanOf (numbersOf rows) (firstsOf rows) (lastsOf rows) a b (q .numbers)) (q .text) ≡ span a b m q .answer
+  unfolding spanOf span
+  span-told a b = by-test (dayOk a && dayOk b)
+      (λ e. rw (e, spanOf) (by-test (leb a b) (λ f. rw (f, spanOf) (question-told b a)) (λ f. rw (f, spanOf))))
+      (λ e. rw (e, spanOf))
+
+  pub days-told : told (daysOf (numbersOf rows) (firstsOf rows) (lastsOf rows) (q .days) (q .numbers)) (q .text) ≡ days m q .answer
+  unfolding daysOf days
+  days-told = by-test (daysOk (q .days))
+      (λ e. rw (calendar-days (q .days) ∙ e, daysOf, e) (by-test (rising (q .days))
+      (λ f. rw (rising-days (q .days) e ∙ f, daysOf, f) (several-told (onAny (q .days)) (containsAny (firstsOf rows) (lastsOf rows) (q .days)) 0 (days-agree (q .days) rows)))
+      (λ f. rw (rising-days (q .days) e ∙ f, daysOf, f))))
+      (λ e. rw (calendar-days (q .days) ∙ e, daysOf, e))
+
+  -- the first spell of the number k
+  cover-hit : (k : ℕ) (l : List Spell) (i : ℕ) → i < length l → getD l i blank .number ≡ k → ((j : ℕ) → j < i → getD l j blank .number ≡ k → ⊥)
+      → cover k l m q ≡ ask (getD l i blank .first) (getD l i blank .last) m q
+  unfolding cover
+  cover-hit k [] i h e f = absurd (omega arith)
+  cover-hit k (x ∷ l) zero h e f = rw (eq-eqb (x .number) k e)
+  cover-hit k (x ∷ l) (suc i) h e f = rw (ne-eqb (x .number) k (f 0 (omega arith))) (cover-hit k l i (omega arith) e (λ j g. f (suc j) (omega arith)))
+
+  cover-miss : (k : ℕ) (l : List Spell) → ((j : ℕ) → j < length l → getD l j blank .number ≡ k → ⊥) → cover k l m q ≡ refuse unknownNumber m q
+  unfolding cover
+  cover-miss k [] f = refl
+  cover-miss k (x ∷ l) f = rw (ne-eqb (x .number) k (f 0 (omega arith))) (cover-miss k l (λ j g. f (suc j) (omega arith)))
+
+  pub cover-told : distinct rows ≡ true → (k : ℕ)
+      → told (coverOf (numbersOf rows) (firstsOf rows) (lastsOf rows) k (q .numbers)) (q .text) ≡ cover k rows m q .answer
+  unfolding coverOf covering named
+  cover-told d k =
+      let t : ℕ → Bool = λ (p : ℕ). eqb (getD (numbersOf rows) p 0) k in
+      let n : ℕ = length (firstsOf rows) in
+      let size : n ≡ length rows = length-map rows (λ (s : Spell). s .first) in
+      let i : Below t n (below t n) = below-is t n in
+      by-mark (below t n)
+      (λ z. rw (z, covering) (sym (ap (λ (x : After). x .answer) (cover-miss k rows (λ j h e. i .miss j (omega arith) (omega arith) (eq-eqb _ _ (at j ∙ e)))))))
+      (λ p z. rw (z, covering) (
+      let here : getD rows p blank .number ≡ k = sym (at p) ∙ eqb-true (getD (numbersOf rows) p 0) k (i .hit p z) in
+      let inside : p < length rows = omega (arith, i .within) in
+      rw (List·getD-map (λ (s : Spell). s .first) rows p blank, List·getD-map (λ (s : Spell). s .last) rows p blank) (question-told _ _)
+      ∙ sym (ap (λ (x : After). x .answer) (cover-hit k rows p inside here (λ j h e. differ rows d p j h inside (e ∙ sym here))))))
+    where
+      at : (j : ℕ) → getD (numbersOf rows) j 0 ≡ getD rows j blank .number
+      at j = List·getD-map (λ (s : Spell). s .number) rows j blank

@@ -1,0 +1,238 @@
+// The service: the standing list with its journal, the published index, and the calls of document 01.
+ghost use mathlib.Core.Path.{_≡_};
+ghost use Prim.Native.Nat.{ℕ};
+ghost use mathlib.Core.List.{List};
+ghost use Rattle.standing.specs.Standing.{Wf};
+ghost use mathlib.Core.List.{[]};
+ghost use Rattle.register.specs.Text.{readText};
+ghost use Rattle.model.specs.Model.{fresh};
+ghost use Rattle.service.specs.Service.{indexOf, Represents, Published, Given, asking, Met, Changed, Publishes, Asked, Wrote, Begins};
+use model::Call;
+use refusal::ACCEPTED;
+use spell::Spell;
+use stabbing::INDEX;
+use stabbing::Listed;
+use standing::Edited;
+
+// A service is a standing list with its journal. Its fields are private: other code has one only from the calls.
+pub type Service = standing::Standing;
+
+// What a call returns beside its lent lists: the refusal's number or 0, how many spells are listed, the comparisons made
+// (document 01's looks), the length of a written text.
+pub struct Outcome {
+    pub refusal: u16,
+    pub count: usize,
+    pub comparisons: usize,
+    pub length: usize,
+}
+
+pub struct Stepped {
+    pub service: Service,
+    pub outcome: Outcome,
+}
+
+// What reading a register gives: the service, and the refusal's number with its line, or 0 and 0.
+pub struct Started {
+    pub service: Service,
+    pub refusal: u16,
+    pub line: u16,
+}
+
+// ---- The beginning
+
+// The index of an empty list.
+fn no_rows(index: &mut [u16; INDEX])
+    ensures { λ _. ⌜ now (index .exit) ≡ indexOf [] ⌝ }
+{
+    let none = [0u16; 1024];
+    stabbing_index::build(&none, &none, &none, 0, index);
+}
+
+// A fresh service: nothing stands, nothing is published, and there is no past.
+pub fn fresh(index: &mut [u16; INDEX]) -> Service
+    ensures { λ r. ⌜ Represents r (now (index .exit)) fresh ⌝ }
+{
+    no_rows(index);
+    standing::fresh()
+}
+
+// The service that a register text makes; a refused text makes a fresh one.
+pub fn read(text: &[u8], index: &mut [u16; INDEX]) -> Started
+    ensures { λ r. ⌜ Begins (readText (now (text .entry))) r (now (index .exit)) ⌝ }
+{
+    no_rows(index);
+    let loaded = standing::read(text);
+    let service = loaded.standing;
+    Started {
+        service,
+        refusal: loaded.refusal,
+        line: loaded.line,
+    }
+}
+
+// ---- Edits: the index is not touched
+
+fn edited(e: Edited) -> Stepped
+    ensures { λ r. ⌜ r ≡ record { service = e .standing; outcome = record { refusal = e .refusal; count = 0; comparisons = 0; length = 0 } } ⌝ }
+{
+    let service = e.standing;
+    let outcome = Outcome {
+        refusal: e.refusal,
+        count: 0,
+        comparisons: 0,
+        length: 0,
+    };
+    Stepped { service, outcome }
+}
+
+// Put a spell in.
+pub fn enter(service: Service, s: Spell) -> Stepped
+    requires { ⌜ Wf service ⌝ }
+    ensures { λ r. ⌜ Changed service (Call.Enter s) r ⌝ }
+{
+    edited(standing::enter(service, s))
+}
+
+// Replace the spell of that number by the given one.
+pub fn amend(service: Service, s: Spell) -> Stepped
+    requires { ⌜ Wf service ⌝ }
+    ensures { λ r. ⌜ Changed service (Call.Amend s) r ⌝ }
+{
+    edited(standing::amend(service, s))
+}
+
+// Remove the spell of that number.
+pub fn strike(service: Service, number: u16) -> Stepped
+    requires { ⌜ Wf service ⌝ }
+    ensures { λ r. ⌜ Changed service (Call.Strike number) r ⌝ }
+{
+    edited(standing::strike(service, number))
+}
+
+// The standing list becomes the front of the past, which loses it.
+pub fn take_back(service: Service) -> Stepped
+    requires { ⌜ Wf service ⌝ }
+    ensures { λ r. ⌜ Changed service Call.TakeBack r ⌝ }
+{
+    edited(standing::take_back(service))
+}
+
+// ---- Publish and writing
+
+fn done(service: Service) -> Stepped
+    ensures { λ r. ⌜ r ≡ record { service = service; outcome = record { refusal = 0; count = 0; comparisons = 0; length = 0 } } ⌝ }
+{
+    let outcome = Outcome {
+        refusal: ACCEPTED,
+        count: 0,
+        comparisons: 0,
+        length: 0,
+    };
+    Stepped { service, outcome }
+}
+
+// The published list becomes the standing list.
+pub fn publish(service: Service, index: &mut [u16; INDEX]) -> Stepped
+    requires { ⌜ Wf service ⌝ }
+    ensures { λ r. ⌜ Publishes service (now (index .entry)) r (now (index .exit)) ⌝ }
+{
+    let mut number = [0u16; 1024];
+    let mut first = [0u16; 1024];
+    let mut last = [0u16; 1024];
+    let n = standing::columns(service, &mut number, &mut first, &mut last);
+    stabbing_index::build(&number, &first, &last, n, index);
+    done(service)
+}
+
+// The text of the standing list, into the first places of the lent list.
+pub fn write(service: Service, text: &mut [u8]) -> Outcome
+    requires { ⌜ Wf service ⌝ }
+    ensures { λ r. ⌜ Wrote service (now (text .entry)) r (now (text .exit)) ⌝ }
+{
+    let w = standing::write(service, text);
+    Outcome {
+        refusal: w.refusal,
+        count: 0,
+        comparisons: 0,
+        length: w.length,
+    }
+}
+
+// ---- Questions: the published index is read where it lies
+
+fn listed(l: Listed) -> Outcome
+    ensures { λ r. ⌜ r ≡ record { refusal = l .refusal; count = l .count; comparisons = l .comparisons; length = 0 } ⌝ }
+{
+    Outcome {
+        refusal: l.refusal,
+        count: l.count,
+        comparisons: l.comparisons,
+        length: 0,
+    }
+}
+
+// Day d: the spells with first ≤ d ≤ last.
+pub fn day(index: &[u16; INDEX], d: u16, numbers: &mut [u16]) -> Outcome
+    requires { ⌜ Published (now index) ⌝ }
+    ensures { λ r. ⌜ ((days : List ℕ) → Asked (now (index .entry)) (Call.Day d) days (now (numbers .entry)) r (now (numbers .exit))) ⌝ }
+{
+    listed(stabbing_query::day(index, d, numbers))
+}
+
+// The span from a to b: the spells with first ≤ b and last ≥ a.
+pub fn span(index: &[u16; INDEX], a: u16, b: u16, numbers: &mut [u16]) -> Outcome
+    requires { ⌜ Published (now index) ⌝ }
+    ensures { λ r. ⌜ ((days : List ℕ) → Asked (now (index .entry)) (Call.Span a b) days (now (numbers .entry)) r (now (numbers .exit))) ⌝ }
+{
+    listed(stabbing_query::span(index, a, b, numbers))
+}
+
+// The cover of a published spell: the spells with first ≤ its first and last ≥ its last.
+pub fn cover(index: &[u16; INDEX], number: u16, numbers: &mut [u16]) -> Outcome
+    requires { ⌜ Published (now index) ⌝ }
+    ensures { λ r. ⌜ ((days : List ℕ) → Asked (now (index .entry)) (Call.Cover number) days (now (numbers .entry)) r (now (numbers .exit))) ⌝ }
+{
+    listed(stabbing_query::cover(index, number, numbers))
+}
+
+// Several days: the spells that contain at least one of them.
+pub fn days(index: &[u16; INDEX], days: &[u16], numbers: &mut [u16]) -> Outcome
+    requires { ⌜ Published (now index) ⌝ }
+    ensures { λ r. ⌜ Asked (now (index .entry)) Call.Days (now (days .entry)) (now (numbers .entry)) r (now (numbers .exit)) ⌝ }
+{
+    listed(stabbing_query::days(index, days, numbers))
+}
+
+// ---- Any call
+
+fn answered(service: Service, outcome: Outcome) -> Stepped
+    ensures { λ r. ⌜ r ≡ record { service = service; outcome = outcome } ⌝ }
+{
+    Stepped { service, outcome }
+}
+
+// Any of the calls, with the lists that it is lent: the days of a days question, a list for spell numbers, one for a text.
+pub fn step(
+    service: Service,
+    index: &mut [u16; INDEX],
+    call: Call,
+    dates: &[u16],
+    numbers: &mut [u16],
+    text: &mut [u8],
+) -> Stepped
+    requires { ⌜ Given service (now index) ⌝ }
+    ensures { λ r. ⌜ Met service (now (index .entry)) (asking call (now (dates .entry)) (now (numbers .entry)) (now (text .entry))) r (now (index .exit)) (now (numbers .exit)) (now (text .exit)) ⌝ }
+{
+    match call {
+        Call::Enter(s) => enter(service, s),
+        Call::Amend(s) => amend(service, s),
+        Call::Strike(number) => strike(service, number),
+        Call::TakeBack => take_back(service),
+        Call::Publish => publish(service, index),
+        Call::Write => answered(service, write(service, text)),
+        Call::Day(d) => answered(service, day(index, d, numbers)),
+        Call::Span(a, b) => answered(service, span(index, a, b, numbers)),
+        Call::Cover(number) => answered(service, cover(index, number, numbers)),
+        Call::Days => answered(service, days(index, dates, numbers)),
+    }
+}

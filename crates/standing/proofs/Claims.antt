@@ -1,0 +1,43 @@
+-- What the calls are for, as their contracts give it. Assumes nothing.
+use mathlib.Core.Path.{_≡_, refl, sym, ap, _∙_}
+use mathlib.Core.List.{List, _∷_}
+use Prim.Native.Nat.{ℕ, _≤_}
+use native.Mathlib.Omega.{arith}
+use borrow.Author.Tests.{eq-eqb, ne-eqb}
+use lib.ListN.{length, take, length-reverse, length-take}
+use Rattle.refusal.specs.Table.{accepted}
+use Rattle.spell.specs.declared.Spell.{Spell}
+use Rattle.model.specs.Edits.{remember}
+use Rattle.standing.specs.declared.Standing.{Standing}
+use Rattle.standing.specs.declared.Edited.{Edited}
+use Rattle.standing.specs.Standing.{listOf, entries, pasts, Wf, Edits, TakesBack}
+use Rattle.standing.proofs.Past.{length-past}
+use Rattle.standing.proofs.Calls.{refusal-some, list-some, past-some}
+
+-- the past is at most 64 lists
+pub past-short : (st : Standing) → Wf st → length (pasts st) ≤ 64
+past-short st w = omega (arith, length-past (listOf st) (entries st), length-reverse (take (st .depth) (st .journal)), length-take (st .depth) (st .journal), w .depth-in)
+
+module _ (st : Standing) (r : Edited) (n : ℕ) (l′ : List Spell) (e : Edits st r n l′) where
+  -- a refused edit changes nothing
+  pub unchanged : (n ≡ accepted → ⊥) → r .standing ≡ st
+  unchanged h = e .kept (ne-eqb n accepted h)
+
+  -- an accepted edit makes the list l′ and remembers the former one, whether or not l′ differs from it
+  pub made : n ≡ accepted → (listOf (r .standing) ≡ l′) × (pasts (r .standing) ≡ remember (listOf st) (pasts st))
+  made h = let yes = eq-eqb n accepted h in (rw yes at (e .list), rw yes at (e .past))
+
+  remembered : n ≡ accepted → pasts (r .standing) ≡ listOf st ∷ take 63 (pasts st)
+  unfolding remember
+  remembered h = made h .1
+
+  -- a take back right after it is accepted, and gives the former standing list
+  pub taken-back : (b : Edited) → n ≡ accepted → TakesBack (r .standing) b → (b .refusal ≡ accepted) × (listOf (b .standing) ≡ listOf st) × (pasts (b .standing) ≡ take 63 (pasts st))
+  taken-back b h t =
+      let l = listOf (r .standing) in
+      let p = pasts (r .standing) in
+      let rest = take 63 (pasts st) in (
+        t .refusal ∙ sym (refusal-some l (listOf st) p rest (remembered h)),
+        t .list ∙ sym (list-some l (listOf st) p rest (remembered h)),
+        t .past ∙ sym (past-some l (listOf st) p rest (remembered h)),
+      )

@@ -1,0 +1,10 @@
+pub mod Lists
+pub mod Search
+pub mod Edits
+pub mod Checks
+pub mod Past
+pub mod Held
+pub mod Calls
+pub mod Rows
+pub mod Claims
+pub mod Loading

@@ -1,0 +1,119 @@
+use borrow.Author.Needs.{needs}
+use mathlib.Core.Path.{_≡_, _∙_}
+use Prim.Native.Nat.{_<_}
+use native.Mathlib.Omega.{arith}
+use lib.ListN.{length}
+use Rattle.refusal.specs.Table.{accepted}
+use Rattle.model.specs.Edits.{replace, amendRefusal}
+use Rattle.standing.specs.Standing.{listOf}
+use Rattle.standing.proofs.Lists.{unmapped}
+use Rattle.standing.proofs.Held.{sound}
+use Rattle.standing.proofs.Checks.{amend-refusal, amends, place-in}
+use Rattle.standing.proofs.Past.{refused}
+use Rattle.standing.proofs.Calls.{list-length, amend-room, amend-made}
+use Rattle.standing.proofs.amend.Statement.{statement}
+use Rattle.standing.proofs.amend.Tie as tie
+
+-- the checks give the account's refusal
+checked : (c : tie.After-first-of) → let a = c .before .before .before .before .args in amendRefusal (listOf (a .t1)) (a .s) ≡ c .first-of .result
+checked c =
+    let unknown = c .before in
+    let own = unknown .before in
+    let found = own .before in
+    let start = found .before in
+    let st = start .args .t1 in
+    amend-refusal (listOf st) (start .args .s) (st .count) (found .find .result) (list-length st (start .pre)) (found .find .ensures)
+    (unknown .refusal-if .result)
+    (own .refusal-of .result)
+    (c .first-of .result)
+    (unknown .refusal-if .ensures)
+    (own .refusal-of .ensures)
+    (c .first-of .ensures)
+
+passed : (c : tie.Else1) → let a = c .before .before .before .before .before .args in amendRefusal (listOf (a .t1)) (a .s) ≡ accepted
+passed c = checked (c .before) ∙ c .if1 .left
+
+-- the number stands
+there : (c : tie.Else1) → let found = c .before .before .before .before in found .find .result < found .before .args .t1 .count
+there c =
+    let found = c .before .before .before .before in
+    let start = found .before in
+    let st = start .args .t1 in
+    place-in (listOf st) (st .count) (start .args .s .number) (found .find .result) (list-length st (start .pre)) (found .find .ensures) (amends (listOf st) (start .args .s) (passed c) .there)
+
+find-requires : tie.Need-find-requires
+find-requires c κs = search needs
+
+refusal-of-requires : tie.Need-refusal-of-requires
+refusal-of-requires c κs = search needs
+
+refusal-if-requires : tie.Need-refusal-if-requires
+refusal-if-requires c κs = search needs
+
+first-of-requires : tie.Need-first-of-requires
+first-of-requires c κs = search needs
+
+returns : tie.Need-returns
+returns c =
+    let start = c .before .before .before .before .before in
+    let l = listOf (start .args .t1) in
+    refused (start .args .t1) (c .before .first-of .result) (amendRefusal l (start .args .s)) (replace (start .args .s) l) (start .pre) (c .if1 .taken) (checked (c .before))
+
+mul-old : tie.Need-mul-old
+mul-old c = omega (arith, there c)
+
+element-copy-out-old : tie.Need-element-copy-out-old
+element-copy-out-old c = omega (arith, there c)
+
+removed-at-requires : tie.Need-removed-at-requires
+removed-at-requires c κs = (omega arith, there (c .before))
+
+inserted-requires : tie.Need-inserted-requires
+inserted-requires c κs =
+    let e1 = c .before .before in
+    let found = e1 .before .before .before .before in
+    amend-room (found .before .args .t1) (found .find .result) (c .removed-at .result) (found .before .pre) (there e1) (c .removed-at .ensures)
+
+pushed-requires : tie.Need-pushed-requires
+pushed-requires c κs = search needs
+
+places : (c : tie.After-pushed) → length (c .pushed .result .spells) ≡ 1024
+places c = search (unmapped, needs)
+
+rooms : (c : tie.After-pushed) → length (c .pushed .result .journal) ≡ 64
+rooms c = search (unmapped, needs)
+
+returns-2 : tie.Need-returns-2
+returns-2 c =
+    let gone = c .before .before in
+    let e1 = gone .before .before in
+    let found = e1 .before .before .before .before in
+    let start = found .before in
+    let st = start .args .t1 in
+    let s = start .args .s in
+    amend-made st s (start .pre) (found .find .result) (gone .removed-at .result) (c .before .inserted .result) (c .pushed .result)
+    (found .find .ensures)
+    (there e1)
+    (sound s _ (start .good .1 .0) (amends (listOf st) s (passed e1) .passes))
+    (passed e1)
+    (gone .removed-at .ensures)
+    (c .before .inserted .ensures)
+    (c .pushed .ensures)
+    (places c)
+    (rooms c)
+
+pub amend-spec : {M : Type 1} → statement M
+amend-spec =
+    tie.close
+    (tie.spec
+    find-requires
+    refusal-of-requires
+    refusal-if-requires
+    first-of-requires
+    returns
+    mul-old
+    element-copy-out-old
+    removed-at-requires
+    inserted-requires
+    pushed-requires
+    returns-2)

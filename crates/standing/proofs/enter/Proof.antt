@@ -1,0 +1,107 @@
+use borrow.Author.Needs.{needs}
+use mathlib.Core.Path.{_≡_, _∙_}
+use native.Mathlib.Omega.{arith}
+use lib.ListN.{length}
+use Rattle.refusal.specs.Table.{accepted}
+use Rattle.model.specs.Edits.{insert, enterRefusal}
+use Rattle.standing.specs.Standing.{listOf}
+use Rattle.standing.proofs.Lists.{unmapped}
+use Rattle.standing.proofs.Held.{sound}
+use Rattle.standing.proofs.Checks.{enter-refusal, enters}
+use Rattle.standing.proofs.Past.{refused}
+use Rattle.standing.proofs.Calls.{list-length, enter-made}
+use Rattle.standing.proofs.enter.Statement.{statement}
+use Rattle.standing.proofs.enter.Tie as tie
+
+-- the checks give the account's refusal
+checked : (c : tie.After-first-of2)
+    → let a = c .before .before .before .before .before .before .args in enterRefusal (listOf (a .st)) (a .s) ≡ c .first-of2 .result
+checked c =
+    let own = c .before .before in
+    let most = own .before in
+    let taken = most .before in
+    let found = taken .before in
+    let start = found .before in
+    let st = start .args .st in
+    enter-refusal (listOf st) (start .args .s) (st .count) (found .find .result) (list-length st (start .pre)) (found .find .ensures)
+    (taken .refusal-if .result)
+    (most .refusal-if2 .result)
+    (own .refusal-of .result)
+    (c .before .first-of .result)
+    (c .first-of2 .result)
+    (taken .refusal-if .ensures)
+    (most .refusal-if2 .ensures)
+    (own .refusal-of .ensures)
+    (c .before .first-of .ensures)
+    (c .first-of2 .ensures)
+
+passed : (c : tie.Else1) → let a = c .before .before .before .before .before .before .before .args in enterRefusal (listOf (a .st)) (a .s) ≡ accepted
+passed c = checked (c .before) ∙ c .if1 .left
+
+find-requires : tie.Need-find-requires
+find-requires c κs = search needs
+
+refusal-if-requires : tie.Need-refusal-if-requires
+refusal-if-requires c κs = search needs
+
+refusal-if-requires-2 : tie.Need-refusal-if-requires-2
+refusal-if-requires-2 c κs = search needs
+
+refusal-of-requires : tie.Need-refusal-of-requires
+refusal-of-requires c κs = search needs
+
+first-of-requires : tie.Need-first-of-requires
+first-of-requires c κs = search needs
+
+first-of-requires-2 : tie.Need-first-of-requires-2
+first-of-requires-2 c κs = search needs
+
+returns : tie.Need-returns
+returns c =
+    let start = c .before .before .before .before .before .before .before in
+    let l = listOf (start .args .st) in
+    refused (start .args .st) (c .before .first-of2 .result) (enterRefusal l (start .args .s)) (insert (start .args .s) l) (start .pre) (c .if1 .taken) (checked (c .before))
+
+inserted-requires : tie.Need-inserted-requires
+inserted-requires c κs =
+    let start = c .before .before .before .before .before .before .before in
+    let st = start .args .st in
+    omega (arith, list-length st (start .pre), enters (listOf st) (start .args .s) (passed c) .room)
+
+pushed-requires : tie.Need-pushed-requires
+pushed-requires c κs = search needs
+
+places : (c : tie.After-pushed) → length (c .pushed .result .spells) ≡ 1024
+places c = search (unmapped, needs)
+
+rooms : (c : tie.After-pushed) → length (c .pushed .result .journal) ≡ 64
+rooms c = search (unmapped, needs)
+
+returns-2 : tie.Need-returns-2
+returns-2 c =
+    let e1 = c .before .before in
+    let start = e1 .before .before .before .before .before .before .before in
+    let st = start .args .st in
+    let s = start .args .s in
+    enter-made st s (c .before .inserted .result) (c .pushed .result) (start .pre)
+    (sound s _ (start .good .1 .0) (enters (listOf st) s (passed e1) .passes))
+    (passed e1)
+    (c .before .inserted .ensures)
+    (c .pushed .ensures)
+    (places c)
+    (rooms c)
+
+pub enter-spec : {M : Type 1} → statement M
+enter-spec =
+    tie.close
+    (tie.spec
+    find-requires
+    refusal-if-requires
+    refusal-if-requires-2
+    refusal-of-requires
+    first-of-requires
+    first-of-requires-2
+    returns
+    inserted-requires
+    pushed-requires
+    returns-2)

@@ -1,0 +1,12 @@
+use Rattle.standing.proofs.Checks.{stops, passes}
+use Rattle.standing.proofs.first_of.Statement.{statement}
+use Rattle.standing.proofs.first_of.Tie as tie
+
+returns : tie.Need-returns
+returns c = stops (c .before .args .a) (c .before .args .b) (c .if1 .taken)
+
+returns-2 : tie.Need-returns-2
+returns-2 c = passes (c .before .args .a) (c .before .args .b) (c .if1 .left)
+
+pub first-of-spec : {M : Type 1} → statement M
+first-of-spec = tie.close (tie.spec returns returns-2)

@@ -1,0 +1,23 @@
+-- `standing::read` meets its contract. Assumes nothing.
+use mathlib.Core.Path.{_≡_, refl, sym, ap, subst}
+use borrow.Author.Needs.{needs}
+use Rattle.register.specs.declared.Reading.{Reading}
+use Rattle.standing.specs.Standing.{Loads}
+use Rattle.standing.proofs.Loading.{loadedOf, loads}
+use Rattle.standing.proofs.read.Statement.{statement}
+use Rattle.standing.proofs.read.Tie as tie
+
+read-requires : tie.Need-read-requires
+read-requires c κs = search needs
+
+fresh-requires : tie.Need-fresh-requires
+fresh-requires c κs = search needs
+
+returns : tie.Need-returns
+returns c =
+    let f = c .before in
+    let r = f .before .before in
+    rw (r .read .ensures) (loads _ _ (f .fresh .ensures .wf .rooms) _ refl)
+
+pub read-spec : {M : Type 1} → statement M
+read-spec = tie.close (tie.spec read-requires fresh-requires returns)

@@ -1,0 +1,32 @@
+use borrow.Author.Needs.{needs}
+use mathlib.Core.Path.{_≡_}
+use native.Mathlib.Omega.{arith}
+use lib.ListN.{length}
+use lib.Seq.{length-take-le}
+use Rattle.standing.proofs.Lists.{unmapped}
+use Rattle.standing.proofs.Calls.{removed-is, removed-none}
+use Rattle.standing.proofs.removed.Statement.{statement}
+use Rattle.standing.proofs.removed.Tie as tie
+
+whole : (c : tie.Start) → length (c .args .st .spells) ≡ 1024
+whole c = search (unmapped, needs)
+
+find-requires : tie.Need-find-requires
+find-requires c κs = search needs
+
+removed-at-requires : tie.Need-removed-at-requires
+removed-at-requires c κs = search needs
+
+returns : tie.Need-returns
+returns c =
+    let found = c .before .before in
+    removed-is (found .before .args .st) (c .removed-at .result) (found .before .args .k) (found .find .result) (found .find .ensures) (c .removed-at .ensures)
+
+returns-2 : tie.Need-returns-2
+returns-2 c =
+    let start = c .before .before in
+    let st = start .args .st in
+    removed-none st (start .args .k) (c .before .find .result) (length-take-le (st .count) (st .spells) (omega (arith, whole start))) (c .before .find .ensures) (c .if1 .left)
+
+pub removed-spec : {M : Type 1} → statement M
+removed-spec = tie.close (tie.spec find-requires removed-at-requires returns returns-2)

@@ -1,0 +1,111 @@
+-- The standing list with its journal, read as document 01's standing list and past, and what each call makes of them. Assumes nothing.
+use Prim.Native.Nat.{ℕ, _≤_}
+use mathlib.Core.Path.{_≡_}
+use mathlib.Core.Bool.{Bool, false, cond}
+use mathlib.Core.List.{List, [], _∷_, _++_, map, reverse}
+use lib.Dec.{eqb}
+use lib.ListN.{length, take, drop}
+use Rattle.refusal.specs.Table.{accepted}
+use Rattle.spell.specs.declared.Spell.{Spell}
+use Rattle.spell.specs.Listing.{Good}
+use Rattle.model.specs.Edits.{insert, remove, takeBackRefusal, remember}
+use Rattle.standing.specs.declared.Undo.{Undo}
+use Rattle.standing.specs.declared.Standing.{Standing}
+use Rattle.standing.specs.declared.Edited.{Edited}
+use Rattle.standing.specs.declared.Loaded.{Loaded}
+use Rattle.register.specs.Text.{Register}
+use Rattle.model.specs.Model.{begun, refusalIn, lineIn}
+
+-- ---- What a value stands for
+
+-- the standing list: the spells that stand
+abbrev pub listOf : Standing → List Spell
+listOf st = take (st .count) (st .spells)
+
+-- the entries of the journal, newest first
+abbrev pub entries : Standing → List Undo
+entries st = reverse (take (st .depth) (st .journal))
+
+-- one edit taken back: the number's spell goes, and the one that stood before the edit, if one did, is put in
+unfoldable pub undo : Undo → List Spell → List Spell
+undo e l = cond (e .stood) (insert (e .spell) (remove (e .number) l)) (remove (e .number) l)
+
+-- the earlier standing lists that entry after entry gives, newest first
+unfoldable pub pastOf : List Spell → List Undo → List (List Spell)
+pastOf l [] = []
+pastOf l (e ∷ es) = undo e l ∷ pastOf (undo e l) es
+
+-- the past
+abbrev pub pasts : Standing → List (List Spell)
+pasts st = pastOf (listOf st) (entries st)
+
+-- each list of the past can stand
+unfoldable pub Goods : List (List Spell) → Type 0
+Goods [] = Unit {0}
+Goods (l ∷ past) = Good l × Goods past
+
+-- a standing list that the calls gave: it can stand, and so can each list of its past
+pub record Wf (st : Standing) : Type 0 where
+  pub places : length (st .spells) ≡ 1024
+  pub rooms : length (st .journal) ≡ 64
+  pub count-in : st .count ≤ 1024
+  pub depth-in : st .depth ≤ 64
+  pub good : Good (listOf st)
+  pub goods : Goods (pasts st)
+
+-- ---- What each call gives
+
+-- a fresh start: nothing stands, and there is no past
+pub record Fresh (r : Standing) : Type 0 where
+  pub wf : Wf r
+  pub list : listOf r ≡ []
+  pub past : pasts r ≡ []
+
+-- an edit that is refused with the number n and changes nothing, or, at 0, makes the standing list l′ and remembers the former one
+pub record Edits (st : Standing) (r : Edited) (n : ℕ) (l′ : List Spell) : Type 0 where
+  pub refusal : r .refusal ≡ n
+  pub wf : Wf (r .standing)
+  pub list : listOf (r .standing) ≡ cond (eqb n accepted) l′ (listOf st)
+  pub past : pasts (r .standing) ≡ cond (eqb n accepted) (remember (listOf st) (pasts st)) (pasts st)
+  pub kept : eqb n accepted ≡ false → r .standing ≡ st
+
+-- the front of the past, or the standing list where there is no past
+unfoldable pub frontOr : List Spell → List (List Spell) → List Spell
+frontOr l [] = l
+frontOr l (p ∷ past) = p
+
+-- the past without its front
+unfoldable pub restOf : List (List Spell) → List (List Spell)
+restOf [] = []
+restOf (p ∷ past) = past
+
+-- take back: the standing list becomes the front of the past, which loses it
+pub record TakesBack (st : Standing) (r : Edited) : Type 0 where
+  pub refusal : r .refusal ≡ takeBackRefusal (pasts st)
+  pub wf : Wf (r .standing)
+  pub list : listOf (r .standing) ≡ frontOr (listOf st) (pasts st)
+  pub past : pasts (r .standing) ≡ restOf (pasts st)
+  pub kept : pasts st ≡ [] → r .standing ≡ st
+
+-- ---- The register text
+
+-- a reading: the standing list and the past with which the account begins, the refusal's number and its line
+pub record Loads (g : Register) (r : Loaded) : Type 0 where
+  pub wf : Wf (r .standing)
+  pub list : listOf (r .standing) ≡ begun g .standing
+  pub past : pasts (r .standing) ≡ begun g .past
+  pub refusal : r .refusal ≡ refusalIn g
+  pub line : r .line ≡ lineIn g
+
+-- ---- The columns that publish reads
+
+-- one field of each spell of l, in the first places; later places keep what they held
+abbrev pub columnOf : (Spell → ℕ) → List Spell → List ℕ → List ℕ
+columnOf field l before = map field l ++ drop (length l) before
+
+-- the numbers, first days and last days of the standing list are laid out
+pub record LaidOut (st : Standing) (r : ℕ) (numbers firsts lasts numbers′ firsts′ lasts′ : List ℕ) : Type 0 where
+  pub count : r ≡ length (listOf st)
+  pub number : numbers′ ≡ columnOf (λ s. s .number) (listOf st) numbers
+  pub first : firsts′ ≡ columnOf (λ s. s .first) (listOf st) firsts
+  pub last : lasts′ ≡ columnOf (λ s. s .last) (listOf st) lasts

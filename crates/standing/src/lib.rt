@@ -1,0 +1,391 @@
+// The standing list: an array of spells in the order, of which the first `count` stand, with a journal of the last 64 edits.
+ghost use mathlib.Core.Path.{_≡_};
+ghost use mathlib.Core.Bool.{cond};
+ghost use mathlib.Core.List.{_++_};
+ghost use Prim.Native.Nat.{suc, _≤_, _<_};
+ghost use lib.ListN.{length, take, drop};
+ghost use Rattle.model.specs.Edits.{insert, remove, replace, orElse, enterRefusal, amendRefusal, strikeRefusal};
+ghost use Rattle.refusal.specs.Table.{accepted};
+ghost use Rattle.standing.specs.Search.{placeOf, indexOf, Relisted, Pushed};
+ghost use Rattle.register.specs.Text.{readText, writeAll};
+ghost use Rattle.register.specs.Answers.{Writes};
+ghost use Rattle.standing.specs.Standing.{Loads, listOf, Wf, Fresh, Edits, TakesBack, LaidOut};
+use refusal::ACCEPTED;
+use refusal::DUPLICATE_NUMBER;
+use refusal::FULL;
+use refusal::NO_HISTORY;
+use refusal::UNKNOWN_NUMBER;
+use register::Written;
+use spell::Spell;
+use spell::Urgency;
+
+// How to go back one edit: the spell number, and the spell that stood under it before, if one did.
+pub struct Undo {
+    number: u16,
+    stood: bool,
+    spell: Spell,
+}
+
+// The journal has its oldest entry first and the newest at `depth - 1`. Its fields are private: other crates have a
+// standing list only from the calls.
+pub struct Standing {
+    spells: [Spell; 1024],
+    count: usize,
+    journal: [Undo; 64],
+    depth: usize,
+}
+
+// What an edit gives: the standing list after it, and the refusal's number, or 0.
+pub struct Edited {
+    pub standing: Standing,
+    pub refusal: u16,
+}
+
+// Nothing stands, and there is no past.
+pub fn fresh() -> Standing
+    ensures { λ r. ⌜ Fresh r ⌝ }
+{
+    let none = Spell {
+        number: 0,
+        candidate: 0,
+        first: 0,
+        last: 0,
+        urgency: Urgency::Grade(0),
+    };
+    let entry = Undo {
+        number: 0,
+        stood: false,
+        spell: none,
+    };
+    Standing {
+        spells: [none; 1024],
+        count: 0,
+        journal: [entry; 64],
+        depth: 0,
+    }
+}
+
+// ---- The list
+
+// How many of the standing spells come before s, up to the first that does not.
+fn place(st: Standing, s: Spell) -> usize
+    requires { ⌜ st .count ≤ 1024 ⌝ }
+    ensures { λ r. ⌜ r ≡ placeOf s (listOf st) ⌝ }
+{
+    let n = st.count;
+    let mut i = 0;
+    while i < n {
+        let x = st.spells[i];
+        if !spell::earlier(x, s) {
+            return i;
+        }
+        i += 1;
+    }
+    i
+}
+
+// Where the number k stands, or the count where it does not.
+fn find(st: Standing, k: u16) -> usize
+    requires { ⌜ st .count ≤ 1024 ⌝ }
+    ensures { λ r. ⌜ r ≡ indexOf k (listOf st) ⌝ }
+{
+    let n = st.count;
+    let mut i = 0;
+    while i < n {
+        let x = st.spells[i];
+        if x.number == k {
+            return i;
+        }
+        i += 1;
+    }
+    i
+}
+
+// s put in at its place: the spells from there on move up by one.
+fn inserted(st: Standing, s: Spell) -> Standing
+    requires { ⌜ st .count < 1024 ⌝ }
+    ensures { λ r. ⌜ Relisted st (insert s (listOf st)) r ⌝ }
+{
+    let p = place(st, s);
+    let mut a = st;
+    let n = a.count;
+    let mut i = n;
+    while p < i {
+        let x = a.spells[i - 1];
+        a.spells[i] = x;
+        i -= 1;
+    }
+    a.spells[i] = s;
+    a.count = n + 1;
+    a
+}
+
+// The spell at p taken out: the spells after it move down by one.
+fn removed_at(st: Standing, p: usize) -> Standing
+    requires { ⌜ st .count ≤ 1024 ⌝ }
+    requires { ⌜ p < st .count ⌝ }
+    ensures { λ r. ⌜ Relisted st (take p (listOf st) ++ drop (suc p) (listOf st)) r ⌝ }
+{
+    let mut a = st;
+    let n = a.count;
+    let mut i = p;
+    while i + 1 < n {
+        let x = a.spells[i + 1];
+        a.spells[i] = x;
+        i += 1;
+    }
+    a.count = n - 1;
+    a
+}
+
+// The spell of the number k taken out, where it stands.
+fn removed(st: Standing, k: u16) -> Standing
+    requires { ⌜ st .count ≤ 1024 ⌝ }
+    ensures { λ r. ⌜ Relisted st (remove k (listOf st)) r ⌝ }
+{
+    let p = find(st, k);
+    let n = st.count;
+    if p < n {
+        return removed_at(st, p);
+    }
+    st
+}
+
+// ---- The journal
+
+// The entry e put at the end. Where the journal is full, its oldest entry goes and the others move down by one.
+fn pushed(st: Standing, e: Undo) -> Standing
+    requires { ⌜ st .depth ≤ 64 ⌝ }
+    ensures { λ r. ⌜ Pushed st e r ⌝ }
+{
+    let mut a = st;
+    let d = a.depth;
+    if d < 64 {
+        a.journal[d] = e;
+        a.depth = d + 1;
+        return a;
+    }
+    let mut i = 0;
+    while i < 63 {
+        let x = a.journal[i + 1];
+        a.journal[i] = x;
+        i += 1;
+    }
+    a.journal[63] = e;
+    a
+}
+
+// ---- The checks
+
+// The number of a check where it hits, or 0.
+fn refusal_if(hit: bool, number: u16) -> u16
+    ensures { λ r. ⌜ r ≡ cond hit number accepted ⌝ }
+{
+    if hit {
+        return number;
+    }
+    ACCEPTED
+}
+
+// The first of two checks that refuses, or 0.
+fn first_of(a: u16, b: u16) -> u16
+    ensures { λ r. ⌜ r ≡ orElse a b ⌝ }
+{
+    if a != ACCEPTED {
+        return a;
+    }
+    b
+}
+
+// ---- The edits
+
+// Put s in. Checks: 1 to 5, then 6, then 8.
+pub fn enter(st: Standing, s: Spell) -> Edited
+    requires { ⌜ Wf st ⌝ }
+    ensures { λ r. ⌜ Edits st r (enterRefusal (listOf st) s) (insert s (listOf st)) ⌝ }
+{
+    let n = st.count;
+    let number = s.number;
+    let taken = refusal_if(find(st, number) < n, DUPLICATE_NUMBER);
+    let full = refusal_if(n >= 1024, FULL);
+    let refusal = first_of(spell::refusal_of(s), first_of(taken, full));
+    if refusal != ACCEPTED {
+        return Edited {
+            standing: st,
+            refusal,
+        };
+    }
+    let more = inserted(st, s);
+    let entry = Undo {
+        number,
+        stood: false,
+        spell: s,
+    };
+    let entered = pushed(more, entry);
+    Edited {
+        standing: entered,
+        refusal: ACCEPTED,
+    }
+}
+
+// Replace the spell of s's number by s. Checks: 1 to 5, then 7.
+pub fn amend(st: Standing, s: Spell) -> Edited
+    requires { ⌜ Wf st ⌝ }
+    ensures { λ r. ⌜ Edits st r (amendRefusal (listOf st) s) (replace s (listOf st)) ⌝ }
+{
+    let n = st.count;
+    let number = s.number;
+    let p = find(st, number);
+    let refusal = first_of(spell::refusal_of(s), refusal_if(p >= n, UNKNOWN_NUMBER));
+    if refusal != ACCEPTED {
+        return Edited {
+            standing: st,
+            refusal,
+        };
+    }
+    let old = st.spells[p];
+    let without = removed_at(st, p);
+    let more = inserted(without, s);
+    let entry = Undo {
+        number,
+        stood: true,
+        spell: old,
+    };
+    let amended = pushed(more, entry);
+    Edited {
+        standing: amended,
+        refusal: ACCEPTED,
+    }
+}
+
+// Remove the spell of the number. Check: 7.
+pub fn strike(st: Standing, number: u16) -> Edited
+    requires { ⌜ Wf st ⌝ }
+    ensures { λ r. ⌜ Edits st r (strikeRefusal (listOf st) number) (remove number (listOf st)) ⌝ }
+{
+    let n = st.count;
+    let p = find(st, number);
+    if p >= n {
+        return Edited {
+            standing: st,
+            refusal: UNKNOWN_NUMBER,
+        };
+    }
+    let old = st.spells[p];
+    let less = removed_at(st, p);
+    let entry = Undo {
+        number,
+        stood: true,
+        spell: old,
+    };
+    let struck = pushed(less, entry);
+    Edited {
+        standing: struck,
+        refusal: ACCEPTED,
+    }
+}
+
+// Take the newest edit of the journal back. Check: 9.
+pub fn take_back(st: Standing) -> Edited
+    requires { ⌜ Wf st ⌝ }
+    ensures { λ r. ⌜ TakesBack st r ⌝ }
+{
+    let d = st.depth;
+    if d == 0 {
+        return Edited {
+            standing: st,
+            refusal: NO_HISTORY,
+        };
+    }
+    let e = st.journal[d - 1];
+    let number = e.number;
+    let mut a = removed(st, number);
+    a.depth = d - 1;
+    if !e.stood {
+        return Edited {
+            standing: a,
+            refusal: ACCEPTED,
+        };
+    }
+    let s = e.spell;
+    let restored = inserted(a, s);
+    Edited {
+        standing: restored,
+        refusal: ACCEPTED,
+    }
+}
+
+// ---- The register text
+
+// What reading a register gives: the standing list, and the refusal's number with its line, or 0 and 0.
+pub struct Loaded {
+    pub standing: Standing,
+    pub refusal: u16,
+    pub line: u16,
+}
+
+// The standing list of a register text, with no past; a refused text leaves nothing standing.
+pub fn read(text: &[u8]) -> Loaded
+    ensures { λ r. ⌜ Loads (readText (now (text .entry))) r ⌝ }
+{
+    let got = register::read(text);
+    let spells = got.spells;
+    let empty = fresh();
+    let journal = empty.journal;
+    let standing = Standing {
+        spells,
+        count: got.count,
+        journal,
+        depth: 0,
+    };
+    Loaded {
+        standing,
+        refusal: got.refusal,
+        line: got.line,
+    }
+}
+
+// The text of the standing list, into the first places of `out`.
+pub fn write(st: Standing, out: &mut [u8]) -> Written
+    requires { ⌜ Wf st ⌝ }
+    ensures { λ r. ⌜ Writes (writeAll (listOf st)) (now (out .entry)) r (now (out .exit)) ⌝ }
+{
+    let spells = st.spells;
+    let n = st.count;
+    register::write(spells, n, out)
+}
+
+// ---- What publish reads
+
+// The numbers, first days and last days of the standing spells, in the first places of three columns; returns their count.
+pub fn columns(
+    st: Standing,
+    number: &mut [u16; 1024],
+    first: &mut [u16; 1024],
+    last: &mut [u16; 1024],
+) -> usize
+    requires { ⌜ Wf st ⌝ }
+    ensures { λ r. ⌜ LaidOut st r (now (number .entry)) (now (first .entry)) (now (last .entry)) (now (number .exit)) (now (first .exit)) (now (last .exit)) ⌝ }
+{
+    lay_out(st, number, first, last)
+}
+
+// The same over slices, each with a place for every spell.
+fn lay_out(st: Standing, number: &mut [u16], first: &mut [u16], last: &mut [u16]) -> usize
+    requires { ⌜ Wf st ⌝ }
+    requires { ⌜ 1024 ≤ length (now number) ⌝ }
+    requires { ⌜ 1024 ≤ length (now first) ⌝ }
+    requires { ⌜ 1024 ≤ length (now last) ⌝ }
+    ensures { λ r. ⌜ LaidOut st r (now (number .entry)) (now (first .entry)) (now (last .entry)) (now (number .exit)) (now (first .exit)) (now (last .exit)) ⌝ }
+{
+    let count = st.count;
+    let mut i = 0;
+    while i < count {
+        let x = st.spells[i];
+        number[i] = x.number;
+        first[i] = x.first;
+        last[i] = x.last;
+        i += 1;
+    }
+    count
+}
