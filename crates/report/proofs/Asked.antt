@@ -1,0 +1,116 @@
+-- What the answer to a day says of the published list that an index shows. Assumes nothing.
+use Prim.Native.Nat.{ℕ, suc, _≤_}
+use native.Mathlib.Omega.{arith}
+use mathlib.Core.Path.{_≡_, refl, sym, ap, subst}
+use mathlib.Core.Bool.{Bool, true, false, cond}
+use mathlib.Core.List.{List, [], _∷_, map}
+use borrow.Author.Tests.{le-leb, leb-true}
+use lib.Dec.{leb}
+use lib.ListN.{length, take, drop, replicate, length-replicate, length-map}
+use lib.Seq.{take-append-seam}
+use Rattle.spell.specs.declared.Spell.{Spell}
+use Rattle.spell.specs.Entry.{dayOk}
+use Rattle.spell.specs.Listing.{Each, Sound, Good}
+use Rattle.spell.proofs.Entered.{both, entered}
+use Rattle.stabbing.proofs.Marks.{clash}
+use Rattle.standing.specs.Standing.{Fresh}
+use Rattle.standing.proofs.Search.{blank}
+use Rattle.standing.proofs.Past.{blankEntry}
+use Rattle.standing.proofs.Calls.{fresh-is}
+use Rattle.model.specs.declared.Call.the-variants.{Day}
+use Rattle.model.specs.Questions.{onDay, filter, listed, comparisonsOf}
+use Rattle.model.specs.Model.{State, Request, Answer, After, give, day, stepOf}
+use Rattle.model.proofs.Account.{by-cases}
+use Rattle.model.proofs.Bridge.{comparisons-le}
+use Rattle.service.specs.declared.Outcome.{Outcome}
+use Rattle.service.specs.Service.{Shows, Asked, asking}
+
+-- ---- How many are listed
+
+filter-few : (t : Spell → Bool) (p : List Spell) → length (filter t p) ≤ length p
+unfolding filter
+filter-few t [] = omega arith
+filter-few t (s ∷ p) = go (t s) (filter-few t p)
+  where
+    go : (b : Bool) → length (filter t p) ≤ length p → length (cond b (s ∷ filter t p) (filter t p)) ≤ suc (length p)
+    go true h = omega arith
+    go false h = omega arith
+
+listed-few : (t : Spell → Bool) (p : List Spell) → Good p → length (listed t p) ≤ 1024
+listed-few t p g = omega (arith, length-map (filter t p) (λ (s : Spell). s .number), filter-few t p, g .few)
+
+-- a spell stands on no day off the calendar
+stands-on : (d : ℕ) (s : Spell) → Sound s → onDay d s ≡ true → dayOk d ≡ true
+stands-on d s g e =
+    let n = entered s (g .entered) in
+    let f = both (leb (s .first) d) (leb d (s .last)) e in
+    rw (le-leb 1 d (omega (arith, n .first-up, leb-true (s .first) d (f .0))), le-leb d 4000 (omega (arith, n .last-day, leb-true d (s .last) (f .1))))
+
+filter-off : (d : ℕ) → dayOk d ≡ false → (p : List Spell) → Each Sound p → filter (onDay d) p ≡ []
+unfolding filter Each
+filter-off d off [] g = refl
+filter-off d off (s ∷ p) g = go (onDay d s) refl (filter-off d off p (g .1))
+  where
+    go : (b : Bool) → onDay d s ≡ b → filter (onDay d) p ≡ [] → cond b (s ∷ filter (onDay d) p) (filter (onDay d) p) ≡ []
+    go true e h = absurd (clash (stands-on d s (g .0) e) off)
+    go false e h = h
+
+-- ---- The answer
+
+-- k spells stand on day d, with c comparisons (document 01's looks), and their numbers are the first of a list
+pub record Told (p : List Spell) (d k c : ℕ) (out : List ℕ) : Type 0 where
+  pub count : k ≡ length (listed (onDay d) p)
+  pub comparisons : c ≡ comparisonsOf d d p
+  pub numbers : take k out ≡ listed (onDay d) p
+  pub few : k ≤ 1024
+  pub comparisons-few : c ≤ 3072
+
+module _ (m : State) (q : Request) (g : Good (m .published)) (room : 1024 ≤ length (q .numbers)) (d : ℕ) where
+  abbrev p : List Spell
+  p = m .published
+
+  abbrev ToldBy : After → Type 0
+  ToldBy x = Told p d (x .answer .count) (x .answer .comparisons) (x .answer .numbers)
+
+  told-on : ToldBy (give (listed (onDay d) p) (comparisonsOf d d p) m q)
+  unfolding give
+  told-on =
+      let few = listed-few (onDay d) p g in
+      by-cases ToldBy (leb (length (listed (onDay d) p)) (length (q .numbers)))
+      (λ _. record {
+        count = refl;
+        comparisons = refl;
+        numbers = take-append-seam (listed (onDay d) p) (drop (length (listed (onDay d) p)) (q .numbers));
+        few = few;
+        comparisons-few = omega (arith, comparisons-le d d p);
+      })
+      (λ e. absurd (clash (le-leb (length (listed (onDay d) p)) (length (q .numbers)) (omega arith)) e))
+
+  told : ToldBy (day d m q)
+  unfolding day
+  told =
+      by-cases ToldBy (dayOk d) (λ _. told-on) (λ off.
+      let none : listed (onDay d) p ≡ [] = ap (map (λ (s : Spell). s .number)) (filter-off d off p (g .each)) in
+      record {
+        count = rw none;
+        comparisons = omega (arith, comparisons-le d d p, ap length none);
+        numbers = rw none;
+        few = omega arith;
+        comparisons-few = omega arith;
+      })
+
+-- a service that stands beside any index: a fresh one
+nobody : Fresh (record { spells = replicate 1024 blank; count = 0; journal = replicate 64 blankEntry; depth = 0 })
+nobody = fresh-is (replicate 1024 blank) (replicate 64 blankEntry) (length-replicate 1024 blank) (length-replicate 64 blankEntry)
+
+-- a question's answer does not go by what stands, so the state may be one in which nothing does
+pub day-tells : (ix : List ℕ) (m : State) (d : ℕ) (days ns : List ℕ) (o : Outcome) (ns′ : List ℕ) → 1024 ≤ length ns → Shows ix m
+    → Asked ix (Day d) days ns o ns′ → Told (m .published) d (o .count) (o .comparisons) ns′
+unfolding stepOf
+day-tells ix m d days ns o ns′ room s a =
+    let alone : State = record { standing = []; past = []; published = m .published } in
+    let shown : Shows ix alone = record { good = s .good; index = s .index } in
+    let met = a .met _ [] (record { wf = nobody .wf; published = record { state = alone; shows = shown } }) in
+    let same = met .answer alone (record { wf = nobody .wf; standing = nobody .list; past = nobody .past; shows = shown }) in
+    subst (λ (x : Answer). Told (m .published) d (x .count) (x .comparisons) (x .numbers)) (sym same)
+    (told alone (asking (Day d) days ns []) (s .good) room d)

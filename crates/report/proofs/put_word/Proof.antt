@@ -1,0 +1,62 @@
+-- `report::put_word` meets its contract. The loop's invariant: the bytes from i on stand in front of the text that follows. The
+-- measure is i. Assumes nothing.
+use borrow.Author.Needs.{needs}
+use mathlib.Core.Path.{_≡_}
+use native.Mathlib.Omega.{arith}
+use Rattle.report.proofs.Lines.{Tail, tail-none, tail-one, tail-all}
+use Rattle.report.proofs.put_word.Statement.{statement}
+use Rattle.report.proofs.put_word.Tie as tie
+
+abbrev Inv-loop : tie.InvT-loop
+Inv-loop buf₀ at word place₀ i₀ buf place i = Tail word buf₀ at buf place i
+
+abbrev μ-loop : tie.MeasureT-loop
+μ-loop buf₀ at word place₀ i₀ buf place i = i
+
+loop-holds : tie.Need-loop-holds Inv-loop μ-loop
+loop-holds c = tail-none _ _ _ (c .before .before .pre .0) (c .before .before .pre .1)
+
+sub-i : tie.Need-sub-i Inv-loop μ-loop
+sub-i c = search needs
+
+shared-slice-read-put-byte : tie.Need-shared-slice-read-put-byte Inv-loop μ-loop
+shared-slice-read-put-byte c = search needs
+
+put-byte-requires : tie.Need-put-byte-requires Inv-loop μ-loop
+put-byte-requires c κs = search needs
+
+loop-less : tie.Need-loop-less Inv-loop μ-loop
+loop-less c = search needs
+
+loop-again : tie.Need-loop-again Inv-loop μ-loop
+loop-again c =
+    let p = c .before .before in
+    let t = p .before .before .before in
+    let l = t .before .loop in
+    let s = t .before .before .before .before in
+    tail-one (s .args .word .now) (s .args .buf .now) (s .args .at) (s .pre .0) (s .pre .1) _ _ (l .place) (l .i) _ (l .inv) (t .loop-test .taken) (p .put-byte .ensures)
+
+same-length : tie.Need-same-length Inv-loop μ-loop
+same-length c = search needs
+
+returns : tie.Need-returns Inv-loop μ-loop
+returns c =
+    let l = c .before .loop in
+    let s = c .before .before .before .before in
+    let done : l .i ≡ 0 = omega arith in
+    tail-all (s .args .word .now) (s .args .buf .now) (s .args .at) (s .pre .0) (s .pre .1) _ _ (rw done at (l .inv))
+
+pub put-word-spec : {M : Type 1} → statement M
+put-word-spec =
+    tie.close
+    (tie.spec
+    Inv-loop
+    μ-loop
+    loop-holds
+    sub-i
+    shared-slice-read-put-byte
+    put-byte-requires
+    loop-less
+    loop-again
+    same-length
+    returns)
