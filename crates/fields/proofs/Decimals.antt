@@ -8,7 +8,7 @@ use native.Mathlib.Omega.{arith}
 use borrow.Author.Tests.{lt-ltb, le-ltb, le-leb, lt-leb, eq-eqb, ne-eqb, leb-true, eqb-true, eqb-false}
 use native.Mathlib.Decide.{decLe}
 use lib.Dec.{leb, ltb, eqb}
-use Rattle.fields.specs.Fields.{Found, found, unreadable, onward, passed, isDigit, readDigits, readDecimal, readNumber, digitsOf, decimalOf}
+use Rattle.fields.specs.Fields.{Found, found, unreadable, onward, passed, isDigit, readDigits, readDecimal, readLength, readNumber, digitsOf, decimalOf}
 
 pub which : (t : Bool) → (t ≡ true) ⊎ (t ≡ false)
 which true = inl refl
@@ -62,27 +62,59 @@ pub decimal-short : (n : ℕ) (rest : List ℕ) → n < 10000 → decimalOf n re
 unfolding decimalOf limit
 decimal-short n rest h = more 3 n rest h
 
-pub digits-on : (v b : ℕ) (s : List ℕ) → isDigit b ≡ true → 10 * v + (b - 48) ≤ 65535 → readDigits v (b ∷ s) ≡ readDigits (10 * v + (b - 48)) s
-unfolding readDigits
-digits-on v b s d h = rw (d, le-leb (10 * v + (b - 48)) 65535 h)
+module _ (top v b : ℕ) (s : List ℕ) where
+  pub digits-on : isDigit b ≡ true → 10 * v + (b - 48) ≤ top → readDigits top v (b ∷ s) ≡ readDigits top (10 * v + (b - 48)) s
+  unfolding readDigits
+  digits-on d h = rw (d, le-leb (10 * v + (b - 48)) top h)
 
-pub digits-above : (v b : ℕ) (s : List ℕ) → isDigit b ≡ true → 65535 < 10 * v + (b - 48) → readDigits v (b ∷ s) ≡ unreadable
-unfolding readDigits
-digits-above v b s d h = rw (d, lt-leb (10 * v + (b - 48)) 65535 h)
+  pub digits-above : isDigit b ≡ true → top < 10 * v + (b - 48) → readDigits top v (b ∷ s) ≡ unreadable
+  unfolding readDigits
+  digits-above d h = rw (d, lt-leb (10 * v + (b - 48)) top h)
 
-pub digits-end : (v b : ℕ) (s : List ℕ) → isDigit b ≡ false → readDigits v (b ∷ s) ≡ found v (b ∷ s)
-unfolding readDigits
-digits-end v b s d = rw d
+  pub digits-end : isDigit b ≡ false → readDigits top v (b ∷ s) ≡ found v (b ∷ s)
+  unfolding readDigits
+  digits-end d = rw d
+
+-- a decimal that is read is at most the limit
+digits-within : (top v : ℕ) (s : List ℕ) (n : ℕ) (rest : List ℕ) → v ≤ top → readDigits top v s ≡ found n rest → n ≤ top
+digits-within top v [] n rest h e =
+    let same : v ≡ n = unfold readDigits in cc in
+    omega arith
+digits-within top v (b ∷ s) n rest h e = elim (which (isDigit b)) [
+  | inl d ↦ elim (decLe (10 * v + (b - 48)) top) [
+    | yes m ↦ digits-within top (10 * v + (b - 48)) s n rest m (sym (digits-on top v b s d m) ∙ e)
+    | no m ↦ absurd (never (sym (digits-above top v b s d (omega arith)) ∙ e))
+  ]
+  | inr d ↦
+      let ends = sym (digits-end top v b s d) ∙ e in
+      let same : v ≡ n = cc in
+      omega arith
+]
+
+decimal-within : (top : ℕ) (s : List ℕ) (n : ℕ) (rest : List ℕ) → readDecimal top s ≡ found n rest → n ≤ top
+unfolding readDecimal
+decimal-within top [] n rest e = absurd (never e)
+decimal-within top (b ∷ s) n rest e = elim (which (eqb b 48)) [
+  | inl z ↦
+      let here = rw z at e in
+      let same : 0 ≡ n = cc in
+      omega arith
+  | inr z ↦ elim (which (isDigit b)) [
+    | inl d ↦ digits-within top 0 (b ∷ s) n rest (omega arith) (rw (z, d) at e)
+    | inr d ↦ absurd (never (rw (z, d) at e))
+  ]
+]
 
 -- ---- what is written is read
-first-digit : (n : ℕ) (rest : List ℕ) → 0 < n → n < 10 → readDecimal ((48 + n) ∷ rest) ≡ readDigits n rest
+first-digit : (n : ℕ) (rest : List ℕ) → 0 < n → n < 10 → readDecimal 65535 ((48 + n) ∷ rest) ≡ readDigits 65535 n rest
 unfolding readDecimal
 first-digit n rest z h =
-    let back : 48 + n - 48 ≡ n = omega arith in
-    rw (ne-eqb (48 + n) 48 (λ e. omega arith), digit-is (48 + n) (omega arith) (omega arith), back)
+    let back : 10 * 0 + (48 + n - 48) ≡ n = omega arith in
+    let d = digit-is (48 + n) (omega arith) (omega arith) in
+    rw (ne-eqb (48 + n) 48 (λ e. omega arith), d) (digits-on 65535 0 (48 + n) rest d (omega arith) ∙ rw back)
 
 -- reading the digits of n is having read n
-read-digits : (k n : ℕ) (rest : List ℕ) → 0 < n → n ≤ 65535 → n < limit k → readDecimal (digitsOf k n rest) ≡ readDigits n rest
+read-digits : (k n : ℕ) (rest : List ℕ) → 0 < n → n ≤ 65535 → n < limit k → readDecimal 65535 (digitsOf k n rest) ≡ readDigits 65535 n rest
 unfolding digitsOf limit
 read-digits zero n rest z h l = first-digit n rest z l
 read-digits (suc k) n rest z h l = elim (decLe 10 n) [
@@ -91,13 +123,13 @@ read-digits (suc k) n rest z h l = elim (decLe 10 n) [
       rw (
         le-ltb n 10 m,
         read-digits k (n / 10) ((48 + n % 10) ∷ rest) (omega arith) (omega arith) (omega arith),
-        digits-on (n / 10) (48 + n % 10) rest (digit-is (48 + n % 10) (omega arith) (omega arith)) (omega arith),
+        digits-on 65535 (n / 10) (48 + n % 10) rest (digit-is (48 + n % 10) (omega arith) (omega arith)) (omega arith),
         back,
       )
   | no m ↦ let s : n < 10 = omega arith in rw (lt-ltb n 10 s) (first-digit n rest z s)
 ]
 
-pub read-decimal : (n : ℕ) (rest : List ℕ) → 0 < n → n ≤ 65535 → readDecimal (decimalOf n rest) ≡ readDigits n rest
+pub read-decimal : (n : ℕ) (rest : List ℕ) → 0 < n → n ≤ 65535 → readDecimal 65535 (decimalOf n rest) ≡ readDigits 65535 n rest
 unfolding decimalOf limit
 read-decimal n rest z h = read-digits 4 n rest z h (omega arith)
 
@@ -106,7 +138,7 @@ pub read-number : (e n : ℕ) (rest : List ℕ) → e < 48 → n ≤ 65535 → r
 unfolding passed
 read-number e zero rest h k = rw (decimal-one 0 (e ∷ rest) (omega arith)) (unfold readDecimal in rw (eq-eqb e e refl))
 read-number e (suc n) rest h k =
-    rw (read-decimal (suc n) (e ∷ rest) (omega arith) k, digits-end (suc n) e rest (low-not e h)) (rw (eq-eqb e e refl))
+    rw (read-decimal (suc n) (e ∷ rest) (omega arith) k, digits-end 65535 (suc n) e rest (low-not e h)) (rw (eq-eqb e e refl))
 
 -- ---- what is read is what is written
 decimal-digit : (v b : ℕ) (s : List ℕ) → 0 < v → 48 ≤ b → b ≤ 57 → 10 * v + (b - 48) ≤ 65535 → decimalOf v (b ∷ s) ≡ decimalOf (10 * v + (b - 48)) s
@@ -115,26 +147,25 @@ decimal-digit v b s z l h k =
     let low : 48 + (10 * v + (b - 48)) % 10 ≡ b = omega arith in
     sym (decimal-more (10 * v + (b - 48)) s (omega arith) k ∙ rw (up, low))
 
-write-digits : (v : ℕ) (s : List ℕ) (n : ℕ) (rest : List ℕ) → 0 < v → v ≤ 65535 → readDigits v s ≡ found n rest
-    → (n ≤ 65535) × (decimalOf v s ≡ decimalOf n rest)
+write-digits : (v : ℕ) (s : List ℕ) (n : ℕ) (rest : List ℕ) → 0 < v → v ≤ 65535 → readDigits 65535 v s ≡ found n rest
+    → decimalOf v s ≡ decimalOf n rest
 write-digits v [] n rest z h e =
     let same : v ≡ n = unfold readDigits in cc in
     let ends : [] ≡ rest = unfold readDigits in cc in
-    (omega arith, cc)
+    cc
 write-digits v (b ∷ s) n rest z h e = elim (which (isDigit b)) [
   | inl d ↦ elim (decLe (10 * v + (b - 48)) 65535) [
     | yes m ↦
-        let later = write-digits (10 * v + (b - 48)) s n rest (omega arith) m (sym (digits-on v b s d m) ∙ e) in
-        (later .0, decimal-digit v b s z (digit-low b d) (digit-high b d) m ∙ later .1)
-    | no m ↦ absurd (never (sym (digits-above v b s d (omega arith)) ∙ e))
+        decimal-digit v b s z (digit-low b d) (digit-high b d) m
+        ∙ write-digits (10 * v + (b - 48)) s n rest (omega arith) m (sym (digits-on 65535 v b s d m) ∙ e)
+    | no m ↦ absurd (never (sym (digits-above 65535 v b s d (omega arith)) ∙ e))
   ]
   | inr d ↦
-      let ends = sym (digits-end v b s d) ∙ e in
-      let same : v ≡ n = cc in
-      (omega arith, cc)
+      let ends = sym (digits-end 65535 v b s d) ∙ e in
+      cc
 ]
 
-write-decimal : (s : List ℕ) (n : ℕ) (rest : List ℕ) → readDecimal s ≡ found n rest → (n ≤ 65535) × (s ≡ decimalOf n rest)
+write-decimal : (s : List ℕ) (n : ℕ) (rest : List ℕ) → readDecimal 65535 s ≡ found n rest → s ≡ decimalOf n rest
 unfolding readDecimal
 write-decimal [] n rest e = absurd (never e)
 write-decimal (b ∷ s) n rest e = elim (which (eqb b 48)) [
@@ -142,16 +173,16 @@ write-decimal (b ∷ s) n rest e = elim (which (eqb b 48)) [
       let here = rw z at e in
       let same : 0 ≡ n = cc in
       let after : s ≡ rest = cc in
-      (omega arith, rw (eqb-true b 48 z, ← same, ← after) (sym (decimal-one 0 s (omega arith))))
+      rw (eqb-true b 48 z, ← same, ← after) (sym (decimal-one 0 s (omega arith)))
   | inr z ↦ elim (which (isDigit b)) [
     | inl d ↦
-        let here = rw (z, d) at e in
         let k = digit-high b d in
+        let up : 10 * 0 + (b - 48) ≡ b - 48 = omega arith in
+        let here = rw up at (sym (digits-on 65535 0 b s d (omega arith)) ∙ (rw (z, d) at e)) in
         let l = digit-low b d in
         let ne = eqb-false b 48 z in
         let front : 48 + (b - 48) ≡ b = omega arith in
-        let later = write-digits (b - 48) s n rest (omega arith) (omega arith) here in
-        (later .0, (rw front at (sym (decimal-one (b - 48) s (omega arith)))) ∙ later .1)
+        (rw front at (sym (decimal-one (b - 48) s (omega arith)))) ∙ write-digits (b - 48) s n rest (omega arith) (omega arith) here
     | inr d ↦ absurd (never (rw (z, d) at e))
   ]
 ]
@@ -166,11 +197,18 @@ write-passed e a (b ∷ s) x rest h = elim (which (eqb b e)) [
 ]
 
 pub write-number : (e : ℕ) (s : List ℕ) (n : ℕ) (rest : List ℕ) → readNumber e s ≡ found n rest → (n ≤ 65535) × (s ≡ decimalOf n (e ∷ rest))
-write-number e s n rest h = go (readDecimal s) refl h
+write-number e s n rest h = go (readDecimal 65535 s) refl h
   where
-    go : (f : Found ℕ) → readDecimal s ≡ f → onward f (passed e) ≡ found n rest → (n ≤ 65535) × (s ≡ decimalOf n (e ∷ rest))
+    go : (f : Found ℕ) → readDecimal 65535 s ≡ f → onward f (passed e) ≡ found n rest → (n ≤ 65535) × (s ≡ decimalOf n (e ∷ rest))
     go unreadable d h = absurd (never h)
     go (found m t) d h =
         let p = write-passed e m t n rest h in
-        let w = write-decimal s m t d in
-        (omega (arith, p .0), w .1 ∙ rw (p .0, p .1))
+        (omega (arith, p .0, decimal-within 65535 s m t d), write-decimal s m t d ∙ rw (p .0, p .1))
+
+-- a length that is read is at most the limit
+pub length-within : (top e : ℕ) (s : List ℕ) (n : ℕ) (rest : List ℕ) → readLength top e s ≡ found n rest → n ≤ top
+length-within top e s n rest h = go (readDecimal top s) refl h
+  where
+    go : (f : Found ℕ) → readDecimal top s ≡ f → onward f (passed e) ≡ found n rest → n ≤ top
+    go unreadable d h = absurd (never h)
+    go (found m t) d h = omega (arith, write-passed e m t n rest h .0, decimal-within top s m t d)

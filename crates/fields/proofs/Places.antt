@@ -11,10 +11,12 @@ use lib.ListN.{length, drop, getD, drop-of-length-le, length-drop}
 use lib.Seq.{drop-cons}
 use Rattle.fields.specs.declared.Field.{Field}
 use Rattle.fields.specs.declared.Field.the-variants.{Value as FieldValue}
+use Rattle.fields.specs.declared.Length.{Length}
+use Rattle.fields.specs.declared.Length.the-variants.{Value as LengthValue}
 use Rattle.fields.specs.declared.Bits.{Bits}
 use Rattle.fields.specs.declared.Bits.the-variants.{Value as BitsValue}
 use Rattle.fields.specs.Fields.{Found, found, unreadable, passed, isAt, isDigit, readDigits, readDecimal, hexValue, readHex}
-use Rattle.fields.specs.Answers.{placeOf, fieldAt, fieldOf, bitsAt, bitsOf, Reads}
+use Rattle.fields.specs.Answers.{placeOf, fieldAt, fieldOf, lengthAt, lengthOf, bitsAt, bitsOf, Reads}
 use Rattle.fields.proofs.Decimals.{digits-on, digits-above, digits-end}
 use Rattle.fields.proofs.Hex.{hex-on, hex-bad, hex-short}
 
@@ -25,37 +27,38 @@ module _ (s : List ℕ) (i : ℕ) where
   pub past-end : length s ≤ i → drop i s ≡ []
   past-end h = drop-of-length-le s h
 
-  -- ---- digits
-  pub digits-on-at : (v : ℕ) → i < length s → isDigit (getD s i 0) ≡ true → 10 * v + (getD s i 0 - 48) ≤ 65535
-      → readDigits v (drop i s) ≡ readDigits (10 * v + (getD s i 0 - 48)) (drop (i + 1) s)
-  digits-on-at v h d k = rw (here h) (digits-on v (getD s i 0) (drop (i + 1) s) d k)
+  module _ (top : ℕ) where
+    -- ---- digits
+    pub digits-on-at : (v : ℕ) → i < length s → isDigit (getD s i 0) ≡ true → 10 * v + (getD s i 0 - 48) ≤ top
+        → readDigits top v (drop i s) ≡ readDigits top (10 * v + (getD s i 0 - 48)) (drop (i + 1) s)
+    digits-on-at v h d k = rw (here h) (digits-on top v (getD s i 0) (drop (i + 1) s) d k)
 
-  pub digits-above-at : (v : ℕ) → i < length s → isDigit (getD s i 0) ≡ true → 65535 < 10 * v + (getD s i 0 - 48) → readDigits v (drop i s) ≡ unreadable
-  digits-above-at v h d k = rw (here h) (digits-above v (getD s i 0) (drop (i + 1) s) d k)
+    pub digits-above-at : (v : ℕ) → i < length s → isDigit (getD s i 0) ≡ true → top < 10 * v + (getD s i 0 - 48) → readDigits top v (drop i s) ≡ unreadable
+    digits-above-at v h d k = rw (here h) (digits-above top v (getD s i 0) (drop (i + 1) s) d k)
 
-  pub digits-end-at : (v : ℕ) → i < length s → isDigit (getD s i 0) ≡ false → readDigits v (drop i s) ≡ found v (drop i s)
-  digits-end-at v h d = rw (here h) (digits-end v (getD s i 0) (drop (i + 1) s) d)
+    pub digits-end-at : (v : ℕ) → i < length s → isDigit (getD s i 0) ≡ false → readDigits top v (drop i s) ≡ found v (drop i s)
+    digits-end-at v h d = rw (here h) (digits-end top v (getD s i 0) (drop (i + 1) s) d)
 
-  pub digits-past : (v : ℕ) → length s ≤ i → readDigits v (drop i s) ≡ found v (drop i s)
-  unfolding readDigits
-  digits-past v h = rw (past-end h)
+    pub digits-past : (v : ℕ) → length s ≤ i → readDigits top v (drop i s) ≡ found v (drop i s)
+    unfolding readDigits
+    digits-past v h = rw (past-end h)
 
-  -- ---- a decimal
-  pub decimal-past : length s ≤ i → readDecimal (drop i s) ≡ unreadable
-  unfolding readDecimal
-  decimal-past h = rw (past-end h)
+    -- ---- a decimal
+    pub decimal-past : length s ≤ i → readDecimal top (drop i s) ≡ unreadable
+    unfolding readDecimal
+    decimal-past h = rw (past-end h)
 
-  pub decimal-zero : i < length s → getD s i 0 ≡ 48 → readDecimal (drop i s) ≡ found 0 (drop (i + 1) s)
-  unfolding readDecimal
-  decimal-zero h z = rw (here h, eq-eqb (getD s i 0) 48 z)
+    pub decimal-zero : i < length s → getD s i 0 ≡ 48 → readDecimal top (drop i s) ≡ found 0 (drop (i + 1) s)
+    unfolding readDecimal
+    decimal-zero h z = rw (here h, eq-eqb (getD s i 0) 48 z)
 
-  pub decimal-other : i < length s → (getD s i 0 ≡ 48 → ⊥) → isDigit (getD s i 0) ≡ false → readDecimal (drop i s) ≡ unreadable
-  unfolding readDecimal
-  decimal-other h z d = rw (here h, ne-eqb (getD s i 0) 48 z, d)
+    pub decimal-other : i < length s → (getD s i 0 ≡ 48 → ⊥) → isDigit (getD s i 0) ≡ false → readDecimal top (drop i s) ≡ unreadable
+    unfolding readDecimal
+    decimal-other h z d = rw (here h, ne-eqb (getD s i 0) 48 z, d)
 
-  pub decimal-digits : i < length s → (getD s i 0 ≡ 48 → ⊥) → isDigit (getD s i 0) ≡ true → readDecimal (drop i s) ≡ readDigits (getD s i 0 - 48) (drop (i + 1) s)
-  unfolding readDecimal
-  decimal-digits h z d = rw (here h, ne-eqb (getD s i 0) 48 z, d)
+    pub decimal-digits : i < length s → (getD s i 0 ≡ 48 → ⊥) → isDigit (getD s i 0) ≡ true → readDecimal top (drop i s) ≡ readDigits top 0 (drop i s)
+    unfolding readDecimal
+    decimal-digits h z d = rw (here h, ne-eqb (getD s i 0) 48 z, d)
 
   -- ---- the byte that ends a field
   pub at-inside : (e : ℕ) → isAt s i e ≡ true → i < length s
@@ -105,6 +108,13 @@ pub field-next : {text : List ℕ} {r : Field} {f : Found ℕ} {v next : ℕ} �
 field-next {text} {r} {f} {v} {next} p e =
     let is : f ≡ found v (drop next text) = sym (p .says) ∙ ap (fieldOf text) e in
     let same : FieldValue v next ≡ FieldValue v (placeOf text (drop next text)) = sym e ∙ p .answer ∙ ap (fieldAt text) is in
+    cc
+
+pub length-next : {text : List ℕ} {r : Length} {f : Found ℕ} {v next : ℕ} → Reads lengthAt lengthOf text r f → r ≡ LengthValue v next
+    → next ≡ placeOf text (drop next text)
+length-next {text} {r} {f} {v} {next} p e =
+    let is : f ≡ found v (drop next text) = sym (p .says) ∙ ap (lengthOf text) e in
+    let same : LengthValue v next ≡ LengthValue v (placeOf text (drop next text)) = sym e ∙ p .answer ∙ ap (lengthAt text) is in
     cc
 
 pub bits-next : {text : List ℕ} {r : Bits} {f : Found ℕ} {v next : ℕ} → Reads bitsAt bitsOf text r f → r ≡ BitsValue v next

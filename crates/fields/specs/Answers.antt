@@ -7,6 +7,8 @@ use lib.Dec.{leb}
 use lib.ListN.{length, take, drop}
 use Rattle.fields.specs.declared.Field.{Field}
 use Rattle.fields.specs.declared.Field.the-variants.{Value as FieldValue, Malformed as FieldMalformed}
+use Rattle.fields.specs.declared.Length.{Length}
+use Rattle.fields.specs.declared.Length.the-variants.{Value as LengthValue, Malformed as LengthMalformed}
 use Rattle.fields.specs.declared.Bits.{Bits}
 use Rattle.fields.specs.declared.Bits.the-variants.{Value as BitsValue, Malformed as BitsMalformed}
 use Rattle.fields.specs.Fields.{Found, found, unreadable}
@@ -25,6 +27,14 @@ fieldAt text unreadable = FieldMalformed
 abbrev pub fieldOf : List ℕ → Field → Found ℕ
 fieldOf text (FieldValue v next) = found v (drop next text)
 fieldOf text FieldMalformed = unreadable
+
+abbrev pub lengthAt : List ℕ → Found ℕ → Length
+lengthAt text (found v rest) = LengthValue v (placeOf text rest)
+lengthAt text unreadable = LengthMalformed
+
+abbrev pub lengthOf : List ℕ → Length → Found ℕ
+lengthOf text (LengthValue v next) = found v (drop next text)
+lengthOf text LengthMalformed = unreadable
 
 abbrev pub bitsAt : List ℕ → Found ℕ → Bits
 bitsAt text (found v rest) = BitsValue v (placeOf text rest)

@@ -71,22 +71,27 @@ passed e a (b ∷ rest) = cond (eqb b e) (found a rest) unreadable
 abbrev pub isDigit : ℕ → Bool
 isDigit b = leb 48 b && leb b 57
 
--- the digits after a first one, v read so far; a number above 65,535 can't be read
-unfoldable pub readDigits : ℕ → List ℕ → Found ℕ
-readDigits v [] = found v []
-readDigits v (b ∷ s) =
+-- digits, v read so far; a number above the limit can't be read
+unfoldable pub readDigits : ℕ → ℕ → List ℕ → Found ℕ
+readDigits limit v [] = found v []
+readDigits limit v (b ∷ s) =
     cond (isDigit b)
-    (cond (leb (10 * v + (b - 48)) 65535) (readDigits (10 * v + (b - 48)) s) unreadable)
+    (cond (leb (10 * v + (b - 48)) limit) (readDigits limit (10 * v + (b - 48)) s) unreadable)
     (found v (b ∷ s))
 
 -- a decimal: "0", or digits that do not begin with it
-unfoldable pub readDecimal : List ℕ → Found ℕ
-readDecimal [] = unreadable
-readDecimal (b ∷ s) = cond (eqb b 48) (found 0 s) (cond (isDigit b) (readDigits (b - 48) s) unreadable)
+unfoldable pub readDecimal : ℕ → List ℕ → Found ℕ
+readDecimal limit [] = unreadable
+readDecimal limit (b ∷ s) =
+    cond (eqb b 48) (found 0 s) (cond (isDigit b) (readDigits limit 0 (b ∷ s)) unreadable)
 
--- a decimal and the byte e that ends it
+-- a decimal up to a limit and the byte e that ends it
+abbrev pub readLength : ℕ → ℕ → List ℕ → Found ℕ
+readLength limit e s = onward (readDecimal limit s) (passed e)
+
+-- a number is such a decimal, 0 to 65,535
 abbrev pub readNumber : ℕ → List ℕ → Found ℕ
-readNumber e s = onward (readDecimal s) (passed e)
+readNumber e s = readLength 65535 e s
 
 -- the value of a digit 0-9 A-F, 16 for any other byte
 unfoldable pub hexValue : ℕ → ℕ

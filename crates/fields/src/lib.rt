@@ -3,8 +3,8 @@
 ghost use mathlib.Core.Path.{_≡_};
 ghost use Prim.Native.Nat.{_*_, _<_};
 ghost use lib.ListN.{length, drop};
-ghost use Rattle.fields.specs.Fields.{isAt, isDigit, hexValue, readDigits, readDecimal, readNumber, readHex, readBits, hexDigit, byteText, numberText, endBefore, numbersText, bitsText};
-ghost use Rattle.fields.specs.Answers.{fieldAt, fieldOf, bitsAt, bitsOf, Reads, Puts};
+ghost use Rattle.fields.specs.Fields.{isAt, isDigit, hexValue, readDigits, readDecimal, readLength, readNumber, readHex, readBits, hexDigit, byteText, numberText, endBefore, numbersText, bitsText};
+ghost use Rattle.fields.specs.Answers.{fieldAt, fieldOf, lengthAt, lengthOf, bitsAt, bitsOf, Reads, Puts};
 
 const TAB: u8 = 9;
 
@@ -22,6 +22,11 @@ const LETTER_F: u8 = 70;
 // A value and the place after its field, or a field that can't be read.
 pub enum Field {
     Value(u16, usize),
+    Malformed,
+}
+
+pub enum Length {
+    Value(u64, usize),
     Malformed,
 }
 
@@ -68,54 +73,69 @@ fn is_digit(b: u8) -> bool
     b <= NINE
 }
 
-// The digits from `start` on, after those that made `first`.
-fn read_digits(text: &[u8], start: usize, first: u16) -> Field
-    ensures { λ r. ⌜ fieldOf (now (text .entry)) r ≡ readDigits first (drop start (now (text .entry))) ⌝ }
+// The digits from `start` on. No product and no sum wraps, whatever the limit: the tests come first.
+fn read_digits(text: &[u8], start: usize, limit: u64) -> Length
+    ensures { λ r. ⌜ lengthOf (now (text .entry)) r ≡ readDigits limit 0 (drop start (now (text .entry))) ⌝ }
 {
-    let mut v = first as u32;
+    let tenth = limit / 10;
+    let mut v: u64 = 0;
     let mut i = start;
     while i < text.len() {
         let b = text[i];
         if !is_digit(b) {
-            return Field::Value(v as u16, i);
+            return Length::Value(v, i);
         }
-        v = 10 * v + (b - ZERO) as u32;
-        if v > 65535 {
-            return Field::Malformed;
+        if v > tenth {
+            return Length::Malformed;
         }
+        let d = (b - ZERO) as u64;
+        if d > limit - 10 * v {
+            return Length::Malformed;
+        }
+        v = 10 * v + d;
         i += 1;
     }
-    Field::Value(v as u16, i)
+    Length::Value(v, i)
 }
 
 // A decimal at `at`.
-fn read_decimal(text: &[u8], at: usize) -> Field
-    ensures { λ r. ⌜ fieldOf (now (text .entry)) r ≡ readDecimal (drop at (now (text .entry))) ⌝ }
+fn read_decimal(text: &[u8], at: usize, limit: u64) -> Length
+    ensures { λ r. ⌜ lengthOf (now (text .entry)) r ≡ readDecimal limit (drop at (now (text .entry))) ⌝ }
 {
     if text.len() <= at {
-        return Field::Malformed;
+        return Length::Malformed;
     }
     let b = text[at];
     if b == ZERO {
-        return Field::Value(0, at + 1);
+        return Length::Value(0, at + 1);
     }
     if !is_digit(b) {
-        return Field::Malformed;
+        return Length::Malformed;
     }
-    read_digits(text, at + 1, (b - ZERO) as u16)
+    read_digits(text, at, limit)
 }
 
-// A decimal at `at` and the byte that ends it.
+// A decimal up to a limit at `at` and the byte that ends it.
+pub fn read_length(text: &[u8], at: usize, end: u8, limit: u64) -> Length
+    ensures { λ r. ⌜ Reads lengthAt lengthOf (now (text .entry)) r (readLength limit end (drop at (now (text .entry)))) ⌝ }
+{
+    let Length::Value(v, i) = read_decimal(text, at, limit) else {
+        return Length::Malformed;
+    };
+    if !is_at(text, i, end) {
+        return Length::Malformed;
+    }
+    Length::Value(v, i + 1)
+}
+
+// A number at `at` and the byte that ends it.
 pub fn read_number(text: &[u8], at: usize, end: u8) -> Field
     ensures { λ r. ⌜ Reads fieldAt fieldOf (now (text .entry)) r (readNumber end (drop at (now (text .entry)))) ⌝ }
 {
-    let Field::Value(v, i) = read_decimal(text, at) else {
+    let Length::Value(v, i) = read_length(text, at, end, 65535) else {
         return Field::Malformed;
     };
-    if !is_at(text, i, end) {
-        return Field::Malformed;
-    }
-    Field::Value(v, i + 1)
+    Field::Value(v as u16, i)
 }
 
 // The decimal of n and the byte that ends it, before the place `at`: the place where it begins. Six places before `at`
@@ -143,7 +163,7 @@ pub fn put_number(buf: &mut [u8], at: usize, n: u16, end: u8) -> usize
 }
 
 // The byte after a decimal that so many others follow: a tab, or LF after the last.
-fn end_before(others: usize) -> u8
+pub fn end_before(others: usize) -> u8
     ensures { λ r. ⌜ r ≡ endBefore others ⌝ }
 {
     if others == 0 {

@@ -7,16 +7,16 @@ use Rattle.register.specs.Text.{readText}
 use Rattle.model.specs.Model.{State, fresh, begun, Request, Answer, step, run}
 use Rattle.service.specs.declared.Started.{Started}
 use Rattle.service.specs.Service.{Represents, Given, Begins}
+use Rattle.service.proofs.Represented.{represented}
 use Rattle.replay.specs.History.{Made, none, then}
-use Rattle.replay.proofs.Runs.{represented}
 
 -- A WHOLE LIST OF CALLS on a service and an index that stand for m has the answers of the account's own run from m
 pub made-run : {sv sv′ : Standing} {ix ix′ : List ℕ} {qs : List Request} {answers : List Answer} (m : State)
     → Represents sv ix m → Made sv ix qs answers sv′ ix′ → answers ≡ run m qs
 unfolding run
 made-run m s none = refl
-made-run {sv} {ix = ix} m s (then {q = q} r left numbers text met more) =
-    let k = met (represented sv ix m s) in
+made-run m s (then {q = q} r left numbers text met more) =
+    let k = met (represented s) in
     rw (made-run (step m q .state) (k .after m s) more, k .answer m s)
 
 -- and the `requires` of every call is met

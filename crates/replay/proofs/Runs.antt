@@ -230,10 +230,6 @@ whole-room codes results whole k e h = (omega arith, omega arith)
 
 -- ---- The beginning
 
--- what stands for a state is given
-pub represented : (sv : Standing) (ix : List ℕ) (m : State) → Represents sv ix m → Given sv ix
-represented sv ix m r = record { wf = r .wf; published = record { state = m; shows = r .shows } }
-
 module _ (new : Bool) (register codes days results numbers text : List ℕ) (made : ℕ) (results′ numbers′ text′ : List ℕ) where
   abbrev Held : State → Type 0
   Held m = Holds (run m (decode codes days results numbers text)) results numbers text made results′ numbers′ text′

@@ -1,3 +1,4 @@
+pub mod Represented
 pub mod Questions
 pub mod Publishing
 pub mod Asking

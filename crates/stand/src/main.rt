@@ -3,7 +3,7 @@
 ghost use Prim.Native.Nat.{_≤_};
 ghost use lib.ListN.{length};
 ghost use Rattle.service.specs.Service.{Published};
-ghost use Rattle.stand.specs.Input.{Within};
+use input::Input;
 use libc::STDERR_FILENO;
 use libc::STDIN_FILENO;
 use libc::STDOUT_FILENO;
@@ -12,31 +12,6 @@ use stabbing::INDEX;
 
 // One byte more than a register may have: a longer text is refused whatever follows.
 const TEXT: usize = 65537;
-
-// How many bytes were read, or that a read failed.
-enum Input {
-    Read(usize),
-    Failed,
-}
-
-// Reads standard input until the text is full or the input ends.
-fn fill(text: &mut [u8]) -> Input
-    ensures { λ r. ⌜ Within (length (now (text .entry))) r ⌝ }
-{
-    let mut n = 0;
-    while n < text.len() {
-        let got = libc::read(STDIN_FILENO, &mut text[n..]);
-        if got < 0 {
-            return Input::Failed;
-        }
-        let more = io::count(got, &text[n..]);
-        if more == 0 {
-            return Input::Read(n);
-        }
-        n += more;
-    }
-    Input::Read(n)
-}
 
 // Writes what stands from `at` on; false where the output is closed.
 fn write_from(buf: &[u8], at: usize) -> bool
@@ -88,8 +63,8 @@ fn stand(text: &[u8]) {
 
 fn main() {
     let mut text = [0u8; TEXT];
-    let input = fill(&mut text);
-    match input {
+    let got = input::fill(STDIN_FILENO, &mut text);
+    match got {
         Input::Read(n) => stand(&text[..n]),
         Input::Failed => {
             io::write_all(STDERR_FILENO, b"stand: standard input can't be read\n");

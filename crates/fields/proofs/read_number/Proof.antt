@@ -1,20 +1,19 @@
--- `fields::read_number` meets its contract. Assumes nothing.
+-- `fields::read_number` meets its contract: a length that is read is at most the limit. Assumes nothing.
 use mathlib.Core.Path.{_≡_, refl, sym, ap, _∙_}
 use borrow.Author.Needs.{needs}
-use borrow.Author.Tests.{not-true, not-false}
-use mathlib.Core.Bool.{true}
-use Prim.Native.Nat.{ℕ, _+_}
+use Prim.Native.Nat.{ℕ}
 use native.Mathlib.Omega.{arith}
 use lib.ListN.{drop}
 use Rattle.fields.specs.declared.Field.the-variants.{Value}
-use Rattle.fields.specs.Fields.{Found, found, unreadable, onward, passed, isAt, readDecimal}
-use Rattle.fields.specs.Answers.{fieldOf}
-use Rattle.fields.proofs.Places.{at-inside, passed-not, passed-at, place-back, reads-as}
+use Rattle.fields.specs.Fields.{found, unreadable, readLength}
+use Rattle.fields.specs.Answers.{lengthOf}
+use Rattle.fields.proofs.Decimals.{length-within}
+use Rattle.fields.proofs.Places.{length-next, reads-as}
 use Rattle.fields.proofs.read_number.Statement.{statement}
 use Rattle.fields.proofs.read_number.Tie as tie
 
-read-decimal-requires : tie.Need-read-decimal-requires
-read-decimal-requires c κs = search needs
+read-length-requires : tie.Need-read-length-requires
+read-length-requires c κs = search needs
 
 enum-known-v : tie.Need-enum-known-v
 enum-known-v c = search needs
@@ -26,60 +25,29 @@ returns : tie.Need-returns
 returns c =
     let told = c .before .before in
     let args = told .before .before .args in
-    reads-as unreadable (ap (λ (f : Found ℕ). onward f (passed (args .end))) (sym (told .read-decimal .ensures) ∙ ap (fieldOf (args .text .now)) (c .enum-told .given .1))) refl refl
+    reads-as unreadable (sym (told .read-length .ensures .says) ∙ ap (lengthOf (args .text .now)) (c .enum-told .given .1)) refl refl
 
--- past the value
+-- what is read
 valued : (c : tie.After-known-told) →
     let args = c .before .before .before .before .before .args in
-    onward (readDecimal (drop (args .at) (args .text .now))) (passed (args .end)) ≡ passed (args .end) (c .before .v .given .0 .0) (drop (c .before .v .given .0 .1 .0) (args .text .now))
+    readLength 65535 (args .end) (drop (args .at) (args .text .now)) ≡ found (c .before .v .given .0 .0) (drop (c .before .v .given .0 .1 .0) (args .text .now))
 valued c =
     let told = c .before .before .before in
     let args = told .before .before .args in
-    ap (λ (f : Found ℕ). onward f (passed (args .end))) (sym (told .read-decimal .ensures) ∙ ap (fieldOf (args .text .now)) (c .before .v .given .1))
+    sym (told .read-length .ensures .says) ∙ ap (lengthOf (args .text .now)) (c .before .v .given .1)
 
-is-at-requires : tie.Need-is-at-requires
-is-at-requires c κs = search needs
+cast-t7 : tie.Need-cast-t7
+cast-t7 c = omega (arith, length-within 65535 _ _ _ _ (valued c))
 
 returns-2 : tie.Need-returns-2
 returns-2 c =
-    let known = c .before .before in
-    let args = known .before .before .before .before .before .args in
-    reads-as unreadable
-    (valued known ∙ passed-not (args .text .now) (known .before .v .given .0 .1 .0) (args .end) (known .before .v .given .0 .0) (sym (c .before .is-at .ensures) ∙ not-true (c .before .is-at .result) (c .if1 .taken)))
-    refl refl
-
--- the byte that ends the field is there
-ended : (c : tie.Else1) →
-    let known = c .before .before in
-    let args = known .before .before .before .before .before .args in
-    isAt (args .text .now) (known .before .v .given .0 .1 .0) (args .end) ≡ true
-ended c = sym (c .before .is-at .ensures) ∙ not-false (c .before .is-at .result) (c .if1 .left)
-
-add-t9 : tie.Need-add-t9
-add-t9 c =
-    let known = c .before .before in
-    let args = known .before .before .before .before .before .args in
-    omega (arith, at-inside (args .text .now) (known .before .v .given .0 .1 .0) (args .end) (ended c))
-
-returns-3 : tie.Need-returns-3
-returns-3 c =
-    let known = c .before .before in
-    let args = known .before .before .before .before .before .args in
-    let v = known .before .v .given .0 .0 in
-    let i = known .before .v .given .0 .1 .0 in
-    let inside = at-inside (args .text .now) i (args .end) (ended c) in
-    reads-as (found v (drop (i + 1) (args .text .now))) (valued known ∙ passed-at (args .text .now) i (args .end) v (ended c))
-    (ap (λ (n : ℕ). Value v n) (place-back (args .text .now) (i + 1) (omega arith))) refl
+    let told = c .before .before .before in
+    let args = told .before .before .args in
+    let v = c .before .v .given .0 .0 in
+    let i = c .before .v .given .0 .1 .0 in
+    reads-as (found v (drop i (args .text .now))) (valued c)
+    (ap (λ (n : ℕ). Value v n) (length-next (told .read-length .ensures) (c .before .v .given .1))) refl
 
 pub read-number-spec : {M : Type 1} → statement M
 read-number-spec =
-    tie.close
-    (tie.spec
-    read-decimal-requires
-    enum-known-v
-    enum-told
-    returns
-    is-at-requires
-    returns-2
-    add-t9
-    returns-3)
+    tie.close (tie.spec read-length-requires enum-known-v enum-told returns cast-t7 returns-2)

@@ -1,6 +1,7 @@
 -- `replay::run` meets its contract: by its two beginnings. Assumes nothing.
 use borrow.Author.Needs.{needs}
-use Rattle.replay.proofs.Runs.{represented, replayed-fresh, replayed-read}
+use Rattle.service.proofs.Represented.{represented}
+use Rattle.replay.proofs.Runs.{replayed-fresh, replayed-read}
 use Rattle.replay.proofs.run.Statement.{statement}
 use Rattle.replay.proofs.run.Tie as tie
 
@@ -8,7 +9,7 @@ fresh-requires : tie.Need-fresh-requires
 fresh-requires c κs = search needs
 
 calls-requires : tie.Need-calls-requires
-calls-requires c κs = represented _ _ _ (c .before .before .before .before .fresh .ensures)
+calls-requires c κs = represented (c .before .before .before .before .fresh .ensures)
 
 same-length : tie.Need-same-length
 same-length c = search needs
@@ -27,7 +28,7 @@ read-requires : tie.Need-read-requires
 read-requires c κs = search needs
 
 calls-requires-2 : tie.Need-calls-requires-2
-calls-requires-2 c κs = represented _ _ _ (c .before .before .before .before .before .read .ensures .represents)
+calls-requires-2 c κs = represented (c .before .before .before .before .before .read .ensures .represents)
 
 same-length-4 : tie.Need-same-length-4
 same-length-4 c = search needs

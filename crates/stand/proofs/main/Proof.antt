@@ -12,17 +12,17 @@ slice-aggregate-fill c = search needs
 fill-requires : tie.Need-fill-requires
 fill-requires c κs = search needs
 
-enum-known-input : tie.Need-enum-known-input
-enum-known-input c = search needs
+enum-known-got : tie.Need-enum-known-got
+enum-known-got c = search needs
 
 array-share-prefix-text : tie.Need-array-share-prefix-text
 array-share-prefix-text c =
-    let within = rw (c .before .input .given .1) at (c .before .before .before .before .fill .ensures) in
+    let within = rw (c .before .got .given .1) at (c .before .before .before .before .fill .ensures) in
     omega (arith, within)
 
 slice-aggregate-stand : tie.Need-slice-aggregate-stand
 slice-aggregate-stand c =
-    let within = rw (c .before .before .input .given .1) at (c .before .before .before .before .before .fill .ensures) in
+    let within = rw (c .before .before .got .given .1) at (c .before .before .before .before .before .fill .ensures) in
     sym (length-take-le _ _ (omega (arith, within)))
 
 stand-requires : tie.Need-stand-requires
@@ -49,7 +49,7 @@ main-spec =
     (tie.spec
     slice-aggregate-fill
     fill-requires
-    enum-known-input
+    enum-known-got
     array-share-prefix-text
     slice-aggregate-stand
     stand-requires

@@ -1,17 +1,17 @@
--- `stand::fill` meets its contract. The loop's invariant: what is read lies within the text. The measure is the room that is left.
+-- `input::fill` meets its contract. The loop's invariant: what is read lies within the text. The measure is the room that is left.
 -- Assumes nothing.
 use borrow.Author.Needs.{needs}
 use mathlib.Core.Path.{_≡_}
 use Prim.Native.Nat.{_-_, _≤_}
 use lib.ListN.{length}
-use Rattle.stand.proofs.fill.Statement.{statement}
-use Rattle.stand.proofs.fill.Tie as tie
+use Rattle.input.proofs.fill.Statement.{statement}
+use Rattle.input.proofs.fill.Tie as tie
 
 abbrev Inv-loop : tie.InvT-loop
-Inv-loop text₀ n₀ text n = (length text ≡ length text₀) × (n ≤ length text)
+Inv-loop fd text₀ n₀ text n = (length text ≡ length text₀) × (n ≤ length text)
 
 abbrev μ-loop : tie.MeasureT-loop
-μ-loop text₀ n₀ text n = length text - n
+μ-loop fd text₀ n₀ text n = length text - n
 
 loop-holds : tie.Need-loop-holds Inv-loop μ-loop
 loop-holds c = search needs

@@ -1,0 +1,19 @@
+-- What a line asks, in the words of the protocol. Assumes nothing.
+use mathlib.Core.Path.{_≡_, refl}
+use mathlib.Core.List.{List}
+use Prim.Native.Nat.{ℕ, _+_}
+use lib.ListN.{drop}
+use Rattle.register.specs.Text.{readLine}
+use Rattle.model.specs.declared.Call.the-variants.{Enter}
+use Rattle.requests.specs.declared.Word.the-variants.{Enter as EnterWord}
+use Rattle.requests.specs.Requests.{asks, ended, asking, askedBy, askedOf}
+use Rattle.requests.proofs.Enough.{days-room}
+
+-- THE FIELDS OF `enter` are read exactly as those of a register line, with nothing after its LF
+pub enter-line : (room : ℕ) (s : List ℕ) → askedBy EnterWord room s ≡ asking (ended (readLine (drop 6 s))) (λ x. asks (Enter x))
+unfolding askedBy
+enter-line room s = refl
+
+-- A LINE'S DAYS: room for 32,768 is enough for those of every line, and more room changes nothing
+pub days-suffice : (more : ℕ) (s : List ℕ) → askedOf 32768 s ≡ askedOf (32768 + more) s
+days-suffice = days-room

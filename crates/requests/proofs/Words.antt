@@ -1,0 +1,43 @@
+-- The word that a line begins with: byte by byte, and the first of several. Assumes nothing.
+use mathlib.Core.Path.{_≡_}
+use mathlib.Core.Bool.{true, false}
+use mathlib.Core.List.{List, _∷_}
+use Prim.Native.Nat.{ℕ, _+_, _≤_, _<_}
+use native.Mathlib.Omega.{arith}
+use native.Mathlib.Decide.{decLe}
+use borrow.Author.Tests.{lt-ltb}
+use lib.ListN.{length, drop, getD}
+use Rattle.fields.specs.Fields.{isAt}
+use Rattle.fields.proofs.Places.{here, past-end, at-inside}
+use Rattle.requests.specs.declared.Word.{Word}
+use Rattle.requests.specs.Requests.{begins, wordAmong}
+
+module _ (w s : List ℕ) (i : ℕ) where
+  pub begins-on : i < length w → isAt s i (getD w i 0) ≡ true → begins (drop i w) (drop i s) ≡ begins (drop (i + 1) w) (drop (i + 1) s)
+  unfolding begins
+  begins-on h e =
+      let l = at-inside s i (getD w i 0) e in
+      rw (here w i h, here s i l, rw (lt-ltb i (length s) l) at e)
+
+  pub begins-not : i < length w → isAt s i (getD w i 0) ≡ false → begins (drop i w) (drop i s) ≡ false
+  unfolding begins
+  begins-not h e = elim (decLe (length s) i) [
+    | yes m ↦ rw (here w i h, past-end s i m)
+    | no m ↦
+        let l : i < length s = omega arith in
+        rw (here w i h, here s i l, rw (lt-ltb i (length s) l) at e)
+  ]
+
+  pub begins-all : length w ≤ i → begins (drop i w) (drop i s) ≡ true
+  unfolding begins
+  begins-all h = rw (past-end w i h)
+
+-- ---- the first word of a list
+module _ (w : List ℕ × Word) (ws : List (List ℕ × Word)) (s : List ℕ) where
+  pub word-here : begins (w .0) s ≡ true → wordAmong (w ∷ ws) s ≡ w .1
+  unfolding wordAmong
+  word-here e = rw e
+
+  pub word-later : begins (w .0) s ≡ false → wordAmong (w ∷ ws) s ≡ wordAmong ws s
+  unfolding wordAmong
+  word-later e = rw e

@@ -1,0 +1,69 @@
+-- `requests::begins` meets its contract. The invariant: the rest of the line is to begin with the rest of the word. Assumes nothing.
+use borrow.Author.Needs.{needs}
+use borrow.Author.Tests.{not-true, not-false}
+use mathlib.Core.Path.{_≡_, refl, sym, _∙_}
+use Prim.Native.Nat.{_-_, _≤_}
+use native.Mathlib.Omega.{arith}
+use lib.ListN.{length, drop}
+use Rattle.requests.specs.Requests.{begins}
+use Rattle.requests.proofs.Words.{begins-on, begins-not, begins-all}
+use Rattle.requests.proofs.begins.Statement.{statement}
+use Rattle.requests.proofs.begins.Tie as tie
+
+abbrev Inv-loop : tie.InvT-loop
+Inv-loop line word i₀ i = (i ≤ length word) × (begins word line ≡ begins (drop i word) (drop i line))
+
+abbrev μ-loop : tie.MeasureT-loop
+μ-loop line word i₀ i = length word - i
+
+loop-holds : tie.Need-loop-holds Inv-loop μ-loop
+loop-holds c = (omega arith, refl)
+
+shared-slice-read-is-at : tie.Need-shared-slice-read-is-at Inv-loop μ-loop
+shared-slice-read-is-at c = omega arith
+
+is-at-requires : tie.Need-is-at-requires Inv-loop μ-loop
+is-at-requires c κs = search needs
+
+returns : tie.Need-returns Inv-loop μ-loop
+returns c =
+    let head = c .before .before .before .before in
+    let args = head .before .before .before .args in
+    sym (head .loop .inv .1 ∙ begins-not (args .word .now) (args .line .now) (head .loop .i) (omega arith)
+    (sym (c .before .is-at .ensures) ∙ not-true (c .before .is-at .result) (c .if1 .taken)))
+
+add-i : tie.Need-add-i Inv-loop μ-loop
+add-i c = omega arith
+
+loop-less : tie.Need-loop-less Inv-loop μ-loop
+loop-less c = omega arith
+
+loop-again : tie.Need-loop-again Inv-loop μ-loop
+loop-again c =
+    let head = c .before .before .before .before in
+    let args = head .before .before .before .args in (
+      omega arith,
+      head .loop .inv .1 ∙ begins-on (args .word .now) (args .line .now) (head .loop .i) (omega arith)
+          (sym (c .before .is-at .ensures) ∙ not-false (c .before .is-at .result) (c .if1 .left)),
+    )
+
+returns-2 : tie.Need-returns-2 Inv-loop μ-loop
+returns-2 c =
+    let head = c .before in
+    let args = head .before .before .before .args in
+    sym (head .loop .inv .1 ∙ begins-all (args .word .now) (args .line .now) (head .loop .i) (omega arith))
+
+pub begins-spec : {M : Type 1} → statement M
+begins-spec =
+    tie.close
+    (tie.spec
+    Inv-loop
+    μ-loop
+    loop-holds
+    shared-slice-read-is-at
+    is-at-requires
+    returns
+    add-i
+    loop-less
+    loop-again
+    returns-2)

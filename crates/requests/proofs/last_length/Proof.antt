@@ -1,0 +1,48 @@
+-- `requests::last_length` meets its contract: what is read ends the line, or something follows it. Assumes nothing.
+use mathlib.Core.Path.{_≡_, sym, ap, _∙_}
+use borrow.Author.Needs.{needs}
+use lib.ListN.{drop}
+use Rattle.fields.specs.Fields.{found, readLength}
+use Rattle.fields.specs.Answers.{lengthOf}
+use Rattle.requests.specs.Requests.{ended}
+use Rattle.requests.proofs.Fields.{ended-more, ended-all}
+use Rattle.requests.proofs.last_length.Statement.{statement}
+use Rattle.requests.proofs.last_length.Tie as tie
+
+read-length-requires : tie.Need-read-length-requires
+read-length-requires c κs = search needs
+
+enum-known-n : tie.Need-enum-known-n
+enum-known-n c = search needs
+
+enum-told : tie.Need-enum-told
+enum-told c = search needs
+
+returns : tie.Need-returns
+returns c =
+    let told = c .before .before in
+    sym (ap ended (sym (told .read-length .ensures .says) ∙ ap (lengthOf (told .before .before .args .line .now)) (c .enum-told .given .1)))
+
+-- what is read
+valued : (c : tie.After-known-told) →
+    let a = c .before .before .before .before .before .args in
+    readLength (a .limit) 10 (drop (a .at) (a .line .now)) ≡ found (c .before .n .given .0 .0) (drop (c .before .n .given .0 .1 .0) (a .line .now))
+valued c =
+    let told = c .before .before .before in
+    sym (told .read-length .ensures .says) ∙ ap (lengthOf (told .before .before .args .line .now)) (c .before .n .given .1)
+
+returns-2 : tie.Need-returns-2
+returns-2 c =
+    let known = c .before in
+    let a = known .before .before .before .before .before .args in
+    sym (ap ended (valued known) ∙ ended-more (known .before .n .given .0 .0) (a .line .now) (known .before .n .given .0 .1 .0) (c .if1 .taken))
+
+returns-3 : tie.Need-returns-3
+returns-3 c =
+    let known = c .before in
+    let a = known .before .before .before .before .before .args in
+    sym (ap ended (valued known) ∙ ended-all (known .before .n .given .0 .0) (a .line .now) (known .before .n .given .0 .1 .0) (c .if1 .left))
+
+pub last-length-spec : {M : Type 1} → statement M
+last-length-spec =
+    tie.close (tie.spec read-length-requires enum-known-n enum-told returns returns-2 returns-3)

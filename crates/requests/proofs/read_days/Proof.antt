@@ -1,0 +1,90 @@
+-- `requests::read_days` meets its contract. The invariant: k days stand in their places, and the rest is to be read from the place `at`.
+-- Assumes nothing.
+use mathlib.Core.Path.{sym, ap, _∙_}
+use borrow.Author.Needs.{needs}
+use Prim.Native.Nat.{_-_}
+use native.Mathlib.Omega.{arith}
+use lib.ListN.{length, drop}
+use Rattle.fields.specs.Answers.{fieldOf}
+use Rattle.requests.specs.Requests.{readDays}
+use Rattle.requests.proofs.DayLists.{SoFar, sofar-start, sofar-step, sofar-last, sofar-full}
+use Rattle.requests.proofs.read_days.Statement.{statement}
+use Rattle.requests.proofs.read_days.Tie as tie
+
+abbrev Inv-loop : tie.InvT-loop
+Inv-loop line start days₀ at₀ k₀ days at k = SoFar (readDays (length days₀) (drop start line)) line days₀ days at k
+
+abbrev μ-loop : tie.MeasureT-loop
+μ-loop line start days₀ at₀ k₀ days at k = length days₀ - k
+
+loop-holds : tie.Need-loop-holds Inv-loop μ-loop
+loop-holds c = sofar-start _ _ _
+
+read-number-requires : tie.Need-read-number-requires Inv-loop μ-loop
+read-number-requires c κs = search needs
+
+enum-known-d : tie.Need-enum-known-d Inv-loop μ-loop
+enum-known-d c = search needs
+
+enum-told : tie.Need-enum-told Inv-loop μ-loop
+enum-told c = search needs
+
+last-day-requires : tie.Need-last-day-requires Inv-loop μ-loop
+last-day-requires c κs = search needs
+
+same-length : tie.Need-same-length Inv-loop μ-loop
+same-length c = c .before .before .last-day .ensures .sized ∙ c .before .before .before .before .before .before .before .before .loop .inv .sized
+
+returns : tie.Need-returns Inv-loop μ-loop
+returns c =
+    let head = c .before .before .before .before .before .before .before .before in
+    let line = head .before .before .before .args .line .now in
+    sofar-last (head .loop .inv) (omega (arith, head .loop .inv .sized)) _ _
+    (sym (c .before .before .before .before .before .before .read-number .ensures .says) ∙ ap (fieldOf line) (c .before .before .before .before .enum-told .given .1))
+    (c .before .before .last-day .ensures)
+
+mul-days : tie.Need-mul-days Inv-loop μ-loop
+mul-days c = search needs
+
+slice-write-days : tie.Need-slice-write-days Inv-loop μ-loop
+slice-write-days c = search needs
+
+add-k : tie.Need-add-k Inv-loop μ-loop
+add-k c = search needs
+
+loop-less : tie.Need-loop-less Inv-loop μ-loop
+loop-less c = omega (arith, c .before .before .before .before .before .loop .inv .sized)
+
+loop-again : tie.Need-loop-again Inv-loop μ-loop
+loop-again c =
+    let head = c .before .before .before .before .before in
+    let line = head .before .before .before .args .line .now in
+    sofar-step (head .loop .inv) (omega (arith, head .loop .inv .sized)) _ _
+    (sym (c .before .before .before .read-number .ensures .says) ∙ ap (fieldOf line) (c .before .d .given .1))
+
+same-length-2 : tie.Need-same-length-2 Inv-loop μ-loop
+same-length-2 c = c .before .loop .inv .sized
+
+returns-2 : tie.Need-returns-2 Inv-loop μ-loop
+returns-2 c = sofar-full (c .before .loop .inv) (c .loop-test .left)
+
+pub read-days-spec : {M : Type 1} → statement M
+read-days-spec =
+    tie.close
+    (tie.spec
+    Inv-loop
+    μ-loop
+    loop-holds
+    read-number-requires
+    enum-known-d
+    enum-told
+    last-day-requires
+    same-length
+    returns
+    mul-days
+    slice-write-days
+    add-k
+    loop-less
+    loop-again
+    same-length-2
+    returns-2)

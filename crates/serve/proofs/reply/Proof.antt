@@ -1,0 +1,28 @@
+-- `serve::reply` meets its contract. Assumes nothing.
+use borrow.Author.Needs.{needs}
+use native.Mathlib.Omega.{arith}
+use mathlib.Core.Path.{sym}
+use lib.Seq.{length-take-le}
+use borrow.Author.Needs.{needs}
+use Rattle.serve.proofs.reply.Statement.{statement}
+use Rattle.serve.proofs.reply.Tie as tie
+
+slice-aggregate-answer : tie.Need-slice-aggregate-answer
+slice-aggregate-answer c =
+    let start = c .before .before .before .before in
+    sym (length-take-le (start .args .n) (start .args .line .now) (omega arith))
+
+slice-aggregate-answer-2 : tie.Need-slice-aggregate-answer-2
+slice-aggregate-answer-2 c =
+    let start = c .before .before .before .before .before in
+    sym (length-take-le (start .args .m) (start .args .payload .now) (omega arith))
+
+answer-requires : tie.Need-answer-requires
+answer-requires c κs = search needs
+
+returns : tie.Need-returns
+returns c = search needs
+
+pub reply-spec : {M : Type 1} → statement M
+reply-spec =
+    tie.close (tie.spec slice-aggregate-answer slice-aggregate-answer-2 answer-requires returns)

@@ -1,0 +1,41 @@
+-- What the wire is for: whoever sends the requests, the answers are those of the conversation. Assumes nothing.
+use mathlib.Core.Path.{_≡_, refl, _∙_}
+use mathlib.Core.List.{List, _∷_}
+use lib.ListN.{drop}
+use Prim.Native.Nat.{ℕ}
+use native.Mathlib.Omega.{arith}
+use Rattle.model.specs.Model.{fresh}
+use Rattle.standing.specs.declared.Standing.{Standing}
+use Rattle.service.specs.Service.{Represents}
+use Rattle.service.proofs.Represented.{represented}
+use Rattle.requests.specs.Requests.{asksRead}
+use Rattle.wire.specs.declared.Answered.{Answered}
+use Rattle.wire.specs.Conversation.{Conv, Sent, opening, turn, turnOf, converse, converseOn}
+use Rattle.wire.specs.Answering.{roomOf, Restarted}
+use Rattle.wire.specs.History.{Spoken, none, then}
+use Rattle.wire.proofs.Sending.{sends-bytes}
+use Rattle.wire.proofs.Serving.{room-same}
+
+-- A WHOLE CONVERSATION on a service, an index and a room that stand for v has the answers of `converse` from v
+pub spoken-converse : {sv : Standing} {ix : List ℕ} {room : ℕ} {qs : List Sent} {replies : List (List ℕ)} (v : Conv)
+    → Represents sv ix (v .state) → roomOf room ≡ v .room → Spoken sv ix room qs replies → replies ≡ converse v qs
+unfolding converse
+spoken-converse v s e none = refl
+spoken-converse v s e (then {q = q} r days numbers text out ix′ days′ numbers′ text′ out′ met more) =
+    let k = met (represented s) .answers .turned in
+    let t = rw e at (k .taken (v .state) s) in
+    rw (sends-bytes (t .sends), spoken-converse (turn v (q .line) (q .payload) .next) (t .after) (room-same (r .room) (k .room) ∙ t .room) more)
+
+-- BEGUN FRESH: what `fresh` of the service ensures is enough
+pub spoken-fresh : {sv : Standing} {ix : List ℕ} {qs : List Sent} {replies : List (List ℕ)} → Represents sv ix fresh
+    → Spoken sv ix 65536 qs replies → replies ≡ converse opening qs
+spoken-fresh s c = spoken-converse opening s (room-same 65536 (omega arith)) c
+
+-- BEGUN ON A TEXT of n bytes: what `restart` ensures is enough, and its answer comes first
+pub spoken-begun : {ix : List ℕ} {qs : List Sent} {replies : List (List ℕ)} (n : ℕ) (text out out′ : List ℕ) (r : Answered)
+    → Restarted 65536 n text out r ix out′ → Spoken (r .service) ix (r .room) qs replies
+    → (drop (r .place) out′ ∷ replies) ≡ converseOn n text qs
+unfolding turnOf
+spoken-begun n text out out′ r d c =
+    let t = d .taken fresh in
+    rw (sends-bytes (t .sends), spoken-converse (turnOf (asksRead n) text opening .next) (t .after) (room-same (r .room) (omega (arith, t .room)) ∙ t .room) c)

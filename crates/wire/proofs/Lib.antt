@@ -1,0 +1,9 @@
+pub mod Sending
+pub mod Shown
+pub mod Bounds
+pub mod Replying
+pub mod Turns
+pub mod Serving
+pub mod Claims
+pub mod Tied
+pub mod Cases

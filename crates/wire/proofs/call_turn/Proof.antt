@@ -1,0 +1,39 @@
+-- `wire::call_turn` meets its contract. Assumes nothing.
+use borrow.Author.Needs.{needs}
+use native.Mathlib.Omega.{arith}
+use Rattle.service.specs.Service.{asking}
+use Rattle.wire.proofs.Replying.{fits, called}
+use Rattle.wire.proofs.call_turn.Statement.{statement}
+use Rattle.wire.proofs.call_turn.Tie as tie
+
+step-requires : tie.Need-step-requires
+step-requires c κs = search needs
+
+put-reply-requires : tie.Need-put-reply-requires
+put-reply-requires c κs =
+    let stepped = c .before .before .before .before .before .before .before in
+    let start = stepped .before .before .before .before .before .before .before in
+    let a = start .args in
+    fits _ _ (start .pre .0) (asking (a .call) (a .days .now) (a .numbers .now) (a .text .now)) _ _ _ _ (stepped .step .ensures)
+
+same-length : tie.Need-same-length
+same-length c = search needs
+
+same-length-2 : tie.Need-same-length-2
+same-length-2 c = search needs
+
+returns : tie.Need-returns
+returns c =
+    let stepped = c .before .before .before .before .before .before .before .before .before in
+    let start = stepped .before .before .before .before .before .before .before in
+    called _ _ _ _ _ _ _ (omega arith) (omega arith) (omega arith) _ _ _ _ _ _ _ (stepped .step .ensures) (c .before .put-reply .ensures)
+
+pub call-turn-spec : {M : Type 1} → statement M
+call-turn-spec =
+    tie.close
+    (tie.spec
+    step-requires
+    put-reply-requires
+    same-length
+    same-length-2
+    returns)

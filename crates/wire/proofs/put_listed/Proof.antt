@@ -1,0 +1,42 @@
+-- `wire::put_listed` meets its contract. Assumes nothing.
+use borrow.Author.Needs.{needs}
+use native.Mathlib.Omega.{arith}
+use Rattle.fields.specs.Fields.{numbersText}
+use Rattle.wire.specs.Replies.{listedWord, listedText}
+use Rattle.wire.proofs.Sending.{put-end, put-sends, on-number, on-numbers, on-bytes}
+use Rattle.wire.proofs.put_listed.Statement.{statement}
+use Rattle.wire.proofs.put_listed.Tie as tie
+
+end-before-requires : tie.Need-end-before-requires
+end-before-requires c κs = search needs
+
+put-numbers-requires : tie.Need-put-numbers-requires
+put-numbers-requires c κs = search needs
+
+put-number-requires : tie.Need-put-number-requires
+put-number-requires c κs = search needs
+
+put-number-requires-2 : tie.Need-put-number-requires-2
+put-number-requires-2 c κs = search needs
+
+slice-aggregate-put-bytes : tie.Need-slice-aggregate-put-bytes
+slice-aggregate-put-bytes c = search needs
+
+put-bytes-requires : tie.Need-put-bytes-requires
+put-bytes-requires c κs = search needs
+
+returns : tie.Need-returns
+unfolding listedText numbersText
+returns c =
+    let count = c .before .before .before in
+    let looks = count .before .before in
+    let numbers = looks .before .before in
+    let end = numbers .before .before in
+    let start = end .before .before in
+    let p = on-numbers (put-end (start .args .out .now) 131072 (omega (arith, start .good))) (start .args .numbers .now) (omega arith) (numbers .put-numbers .ensures) in
+    let q = on-number (p .0) (start .args .comparisons) (end .end-before .result) (omega (arith, p .1)) (looks .put-number .ensures) in
+    let r = on-number (q .0) (start .args .count) 9 (omega (arith, p .1, q .1)) (count .put-number2 .ensures) in
+    put-sends (rw (end .end-before .ensures) at (on-bytes (r .0) listedWord (omega (arith, p .1, q .1, r .1)) (c .put-bytes .ensures) .0))
+
+pub put-listed-spec : {M : Type 1} → statement M
+put-listed-spec = tie.close (tie.spec end-before-requires put-numbers-requires put-number-requires put-number-requires-2 slice-aggregate-put-bytes put-bytes-requires returns)

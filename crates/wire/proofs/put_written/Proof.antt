@@ -1,0 +1,33 @@
+-- `wire::put_written` meets its contract. Assumes nothing.
+use borrow.Author.Needs.{needs}
+use native.Mathlib.Omega.{arith}
+use mathlib.Core.List.{append-nil}
+use Rattle.wire.specs.Replies.{textWord, writtenText}
+use Rattle.wire.proofs.Sending.{put-end, put-sends, on-number, on-bytes}
+use Rattle.wire.proofs.put_written.Statement.{statement}
+use Rattle.wire.proofs.put_written.Tie as tie
+
+put-bytes-requires : tie.Need-put-bytes-requires
+put-bytes-requires c κs = search needs
+
+put-number-requires : tie.Need-put-number-requires
+put-number-requires c κs = search needs
+
+slice-aggregate-put-bytes : tie.Need-slice-aggregate-put-bytes
+slice-aggregate-put-bytes c = search needs
+
+put-bytes-requires-2 : tie.Need-put-bytes-requires-2
+put-bytes-requires-2 c κs = search needs
+
+returns : tie.Need-returns
+unfolding writtenText
+returns c =
+    let count = c .before .before .before in
+    let bytes = count .before .before in
+    let start = bytes .before .before .before in
+    let p = on-bytes (put-end (start .args .out .now) 131072 (omega (arith, start .good))) (start .args .text .now) (omega arith) (bytes .put-bytes .ensures) in
+    let q = on-number (rw append-nil at (p .0)) (start .args .count) 10 (omega (arith, p .1)) (count .put-number .ensures) in
+    put-sends (on-bytes (q .0) textWord (omega (arith, p .1, q .1)) (c .put-bytes2 .ensures) .0)
+
+pub put-written-spec : {M : Type 1} → statement M
+put-written-spec = tie.close (tie.spec put-bytes-requires put-number-requires slice-aggregate-put-bytes put-bytes-requires-2 returns)

@@ -1,0 +1,4 @@
+pub mod Replies
+pub mod Conversation
+pub mod Answering
+pub mod History

@@ -1,0 +1,74 @@
+#!/bin/sh
+# Runs the program `serve` on the stored conversation in ways that the gate's own run does not: a byte at a time, begun on a file,
+# with input cut short, with its output closed, with wrong arguments. The exit status is 1, with a message, at the first difference.
+#
+#     tests/serve.sh [PROGRAM]        PROGRAM is target/bin/serve where none is named
+set -u
+here=$(cd "$(dirname "$0")" && pwd)
+program=${1:-$here/../target/bin/serve}
+stored=$here/../crates/serve
+work=$(mktemp -d)
+trap 'rm -rf "$work"' EXIT
+
+fail() {
+    echo "serve.sh: $1" >&2
+    exit 1
+}
+
+# says WHAT EXPECTED: what was printed is this
+says() {
+    printf '%b' "$2" | cmp - "$work/out" >&2 || fail "$1: the output differs"
+}
+
+[ -x "$program" ] || fail "no program at $program"
+
+# a pipe that hands over a byte at a time
+head -c 20000 "$stored/stdin" | dd bs=1 2> /dev/null | "$program" > "$work/out"
+head -c 20000 "$stored/stdin" | "$program" | cmp - "$work/out" >&2 || fail "a byte at a time: the output differs"
+
+# a caller that waits for each answer before it sends the next request
+mkfifo "$work/in" "$work/answers"
+"$program" < "$work/in" > "$work/answers" &
+exec 3> "$work/in" 4< "$work/answers"
+for request in 'enter\t1\t1\t1\t9\tG\t1' 'publish' 'day\t9' 'read\t0' 'day\t9'; do
+    printf "$request\n" >&3
+    read -r answer <&4 || fail "no answer to $request"
+    printf '%s\n' "$answer"
+done > "$work/out"
+exec 3>&- 4<&-
+wait
+says "one request at a time" 'ok\nok\nlisted\t1\t0\t1\nok\nlisted\t0\t0\n'
+
+# begun on a file
+"$program" "$here/stand/full.register" < /dev/null > "$work/out"
+says "begun on a register" 'ok\n'
+{ echo ok; printf 'text\t%s\n' "$(wc -c < "$here/stand/full.register")"; cat "$here/stand/full.register"; } > "$work/expected"
+printf 'write\n' | "$program" "$here/stand/full.register" | cmp - "$work/expected" >&2 || fail "a register read and written: it differs"
+printf '1\t1\t1\t9\tG\t1\n1\t1\t1\t9\tG\t1\n' > "$work/bad"
+printf 'take-back\n' | "$program" "$work/bad" > "$work/out"
+says "begun on a bad register" 'refused\t6\t2\nrefused\t9\n'
+head -c 65537 /dev/zero > "$work/long"
+"$program" "$work/long" < /dev/null > "$work/out"
+says "begun on a long text" 'refused\t12\t0\n'
+
+# input that ends inside a request
+printf 'publish\nday\t5' | "$program" > "$work/out"
+says "a line cut short" 'ok\n'
+printf 'read\t5\nabcd' | "$program" > "$work/out"
+says "a text cut short" ''
+head -c 200000 /dev/zero | "$program" > "$work/out"
+says "a line with no end" ''
+
+# an output that is closed after the first line
+"$program" < "$stored/stdin" | head -n 1 > "$work/out"
+says "the first line alone" "$(head -n 1 "$stored/stdout")\n"
+
+# arguments and files that can't be taken: a message, and nothing on standard output
+for arguments in --help -x 'a b' "$work/none" "$work"; do
+    # shellcheck disable=SC2086
+    message=$("$program" $arguments < "$stored/stdin" 2>&1 > "$work/out")
+    says "serve $arguments" ''
+    [ -n "$message" ] || fail "serve $arguments: no message"
+done
+
+echo "serve.sh: ok"
