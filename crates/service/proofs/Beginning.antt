@@ -85,6 +85,7 @@ module _ (sv : Standing) (w : Wf sv) (n : ℕ) (ns fs ls ns′ fs′ ls′ : Lis
   pub published : Publishes sv ix (record { service = sv; outcome = record { refusal = 0; count = 0; comparisons = 0; length = 0 } }) ix′
   unfolding stepOf
   published = record {
+    kept = refl;
     met = λ days numbers text. record {
       given = record { wf = w; published = record { state = record { standing = []; past = []; published = l }; shows = record { good = w .good; index = indexed } } };
       answer = λ m h. refl;

@@ -72,8 +72,9 @@ pub record Changed (sv : Standing) (c : Call) (r : Stepped) : Type 0 where
   pub wf : Wf (r .service)
   pub met : (ix days numbers text : List ℕ) → Given sv ix → Met sv ix (asking c days numbers text) r ix numbers text
 
--- the same of publish, whatever the index held before
+-- the same of publish, whatever the index held before; the service is as it was
 pub record Publishes (sv : Standing) (ix : List ℕ) (r : Stepped) (ix′ : List ℕ) : Type 0 where
+  pub kept : r .service ≡ sv
   pub met : (days numbers text : List ℕ) → Met sv ix (asking Call.Publish days numbers text) r ix′ numbers text
 
 -- the same of a question: whatever service stands beside the index, and whatever list for a text, they are as they were

@@ -8,10 +8,16 @@ use lib.ListN.{length, take, length-reverse, length-take}
 use Rattle.refusal.specs.Table.{accepted}
 use Rattle.spell.specs.declared.Spell.{Spell}
 use Rattle.model.specs.Edits.{remember}
+use Rattle.packing.specs.Blocks.{Every}
+use Rattle.packing.specs.Words.{Narrow, spellWords, spellOf}
+use Rattle.packing.proofs.Blocks.{every-map}
+use Rattle.packing.proofs.Words.{spell-back}
 use Rattle.standing.specs.declared.Standing.{Standing}
 use Rattle.standing.specs.declared.Edited.{Edited}
 use Rattle.standing.specs.Standing.{listOf, entries, pasts, Wf, Edits, TakesBack}
+use Rattle.standing.specs.Packed.{entryWords, entryOf, packed, unpacked}
 use Rattle.standing.proofs.Past.{length-past}
+use Rattle.standing.proofs.Packed.{entry-back, unpacked-packed}
 use Rattle.standing.proofs.Calls.{refusal-some, list-some, past-some}
 
 -- the past is at most 64 lists
@@ -41,3 +47,11 @@ module _ (st : Standing) (r : Edited) (n : ℕ) (l′ : List Spell) (e : Edits s
         t .list ∙ sym (list-some l (listOf st) p rest (remembered h)),
         t .past ∙ sym (past-some l (listOf st) p rest (remembered h)),
       )
+
+-- PACKING IS THE IDENTITY: the words of a standing list that the calls gave read back as it, all its places, used or not. Of each
+-- place no more is asked than what the checker knows of every value: a grade is 16 bits wide, and a reading is a 32-bit float.
+pub packing-identity : (st : Standing) → Wf st → Every (λ s. Narrow (s .urgency)) (st .spells) → Every (λ e. Narrow (e .spell .urgency)) (st .journal)
+    → unpacked (packed st) ≡ st
+packing-identity st w hs hj =
+    unpacked-packed st (w .places) (w .rooms) (every-map (λ s. Narrow (s .urgency)) (λ s. spellOf (spellWords s) ≡ s) spell-back (st .spells) hs)
+    (every-map (λ e. Narrow (e .spell .urgency)) (λ e. entryOf (entryWords e) ≡ e) (λ e h. entry-back e (spell-back (e .spell) h)) (st .journal) hj)

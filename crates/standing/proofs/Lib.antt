@@ -8,3 +8,4 @@ pub mod Calls
 pub mod Rows
 pub mod Claims
 pub mod Loading
+pub mod Packed

@@ -19,6 +19,9 @@ use register::Written;
 use spell::Spell;
 use spell::Urgency;
 
+// words.rt: the standing list in words of 16 bits, and back.
+pub mod words;
+
 // How to go back one edit: the spell number, and the spell that stood under it before, if one did.
 pub struct Undo {
     number: u16,

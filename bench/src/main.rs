@@ -1,0 +1,161 @@
+//! Times ways to list the rows that stand on a day or a span, side by side in one run, and prints tables in Markdown.
+//!
+//!     bench [--rounds N] [--questions N] [--seed N]
+//!
+//! All contenders answer the same questions over the same rows, and all answers are compared before anything is timed.
+
+mod calls;
+mod contenders;
+#[allow(dead_code)]
+#[path = "../../rust/links.rs"]
+mod links;
+#[allow(dead_code)]
+#[path = "../../include/phayaklit.rs"]
+mod phayaklit;
+mod proved;
+#[allow(dead_code)]
+#[path = "../../rust/rng.rs"]
+mod rng;
+mod rows;
+mod table;
+mod timing;
+
+use proved::Proved;
+use rng::Rng;
+use rows::{rows_listing, workloads, Workload, LAST_DAY, ROWS};
+use timing::{measure, Case, Question, Taken, CRATE, IIT, IITII, PAIRS, PROVED};
+
+/// The length of the spans asked about.
+const SPAN: u16 = 7;
+
+struct Options {
+    rounds: usize,
+    questions: usize,
+    seed: u64,
+}
+
+fn options() -> Options {
+    let mut options = Options { rounds: 41, questions: 2000, seed: 1 };
+    let mut arguments = std::env::args().skip(1);
+    while let Some(name) = arguments.next() {
+        let value = arguments.next().and_then(|value| value.parse().ok()).expect("each option takes a number");
+        match name.as_str() {
+            "--rounds" => options.rounds = value,
+            "--questions" => options.questions = value,
+            "--seed" => options.seed = value as u64,
+            _ => panic!("no option {name}"),
+        }
+    }
+    options
+}
+
+/// Questions to so many lists, one list after the other, for spans of so many days, anywhere on the calendar.
+fn questions(options: &Options, lists: usize, length: u16) -> Vec<Question> {
+    let mut rng = Rng::new(options.seed + length as u64);
+    let mut question = |at| {
+        let a = rng.range(1, (LAST_DAY - length + 1) as usize) as u16;
+        Question { list: at * lists / options.questions, a, b: a + length - 1 }
+    };
+    (0..options.questions).map(&mut question).collect()
+}
+
+/// A table with a column for each workload: its first row says how many rows are listed.
+fn print_by_workload(workloads: &[Workload], taken: &[Taken], rows: Vec<(String, Vec<String>)>) {
+    let columns: Vec<&str> = std::iter::once("").chain(workloads.iter().map(|workload| workload.name)).collect();
+    let listed = taken.iter().map(|taken| format!("{:.1}", taken.listed)).collect();
+    let rows: Vec<_> = std::iter::once(("spells listed, mean".to_string(), listed)).chain(rows).collect();
+    table::print(&columns, &rows);
+}
+
+/// A row for each contender with what `cell` makes of each workload's times.
+fn by_contender(taken: &[Taken], cell: impl Fn(&Taken, &str) -> f64) -> Vec<(String, Vec<String>)> {
+    let row = |name: &str| (name.to_string(), taken.iter().map(|taken| format!("{:.1}", cell(taken, name))).collect());
+    taken[0].nanoseconds.iter().map(|(name, _)| row(name)).collect()
+}
+
+/// How many times as fast as the contender the proved library is, and whether that reaches the target.
+fn ratio(taken: &Taken, name: &str, target: f64) -> String {
+    let ratio = taken.of(name) / taken.of(PROVED);
+    format!("{ratio:.1}{}", if ratio < target { " **short**" } else { "" })
+}
+
+/// The ratios that are to be reached: against both forms of libiitii's tree, the crate, and the scan of pairs.
+fn ratios(workloads: &[Workload], taken: &[Taken]) -> Vec<(String, Vec<String>)> {
+    let pairs_target = |name: &str| if name == "about 1" { 15.0 } else { 2.0 };
+    let against = |name, target| taken.iter().map(|taken| ratio(taken, name, target)).collect();
+    let both = workloads.iter().zip(taken);
+    let against_pairs = both.map(|(workload, taken)| ratio(taken, PAIRS, pairs_target(workload.name))).collect();
+    vec![
+        (format!("{IIT}, at least 1.5"), against(IIT, 1.5)),
+        (format!("{IITII}, at least 1.5"), against(IITII, 1.5)),
+        (format!("{CRATE}, at least 4"), against(CRATE, 4.0)),
+        (format!("{PAIRS}, at least 2 (15 at about 1)"), against_pairs),
+        ("sorted scan, early stop".to_string(), against("sorted scan, early stop", 0.0)),
+        ("sorted scan, branch-free".to_string(), against("sorted scan, branch-free", 0.0)),
+    ]
+}
+
+/// The looks for each listed row.
+fn looks(case: &Case) -> String {
+    let proved = Proved::new(&case.lists[0]);
+    let mut out = [0; ROWS];
+    let answers: Vec<_> = case.questions.iter().map(|question| proved.ask(question.a, question.b, &mut out)).collect();
+    let sum = |field: fn(&phayaklit::Listed) -> usize| answers.iter().map(field).sum::<usize>() as f64;
+    format!("{:.2}", sum(|listed| listed.looks) / sum(|listed| listed.count))
+}
+
+fn report_questions(options: &Options, workloads: &[Workload], kind: &str, length: u16) {
+    let case =
+        |workload: &Workload| Case { lists: vec![workload.rows.clone()], questions: questions(options, 1, length) };
+    let cases: Vec<Case> = workloads.iter().map(case).collect();
+    let taken = measure(&cases, options.rounds);
+    println!("\n## {kind}, 1,024 spells\n\nNanoseconds a question:");
+    print_by_workload(workloads, &taken, by_contender(&taken, |taken, name| taken.of(name)));
+    println!("\nNanoseconds a listed spell, and the proved library's looks a listed spell:");
+    let mut rows = by_contender(&taken, |taken, name| taken.of(name) / taken.listed);
+    rows.push(("looks".to_string(), cases.iter().map(looks).collect()));
+    print_by_workload(workloads, &taken, rows);
+    println!("\nHow many times as fast the proved library is as:");
+    print_by_workload(workloads, &taken, ratios(workloads, &taken));
+}
+
+/// As many lists of so many rows as make 1,024 in all, so that the processor's predictors have as much to learn at each
+/// length; a day lists `mean` rows in the mean.
+fn lists_of(options: &Options, count: usize, mean: f64) -> Case {
+    let lists = if std::env::var("ONE").is_ok() { 1 } else { ROWS / count };
+    let list = |at| rows_listing(options.seed + 100 * at as u64, count, mean);
+    Case { lists: (0..lists).map(list).collect(), questions: questions(options, lists, 1) }
+}
+
+/// The nanoseconds for each listed row at lists of 64 to 1,024 rows of which a day lists the same number.
+fn report_growth(options: &Options, mean: f64) {
+    let taken = measure(&[64, 128, 256, 512, 1024].map(|count| lists_of(options, count, mean)), options.rounds);
+    let row = |name: &str| {
+        let each: Vec<f64> = taken.iter().map(|taken| taken.of(name) / taken.listed).collect();
+        let (most, least) = (each.iter().copied().fold(0.0, f64::max), each.iter().copied().fold(f64::MAX, f64::min));
+        let cells = each.iter().map(|each| format!("{each:.1}")).chain([format!("{:.2}", most / least)]);
+        (name.to_string(), cells.collect())
+    };
+    let rows: Vec<_> = taken[0].nanoseconds.iter().map(|(name, _)| row(name)).collect();
+    println!("\nAbout {mean} spells listed a day, nanoseconds a listed spell:");
+    table::print(&["", "n = 64", "128", "256", "512", "1,024", "largest / smallest"], &rows);
+}
+
+fn report_bytes() {
+    println!("\n## Memory\n");
+    println!("- index block: {} bytes", 2 * phayaklit::INDEX_WORDS);
+    println!("- service block: {} bytes", 2 * phayaklit::SERVICE_WORDS);
+    println!("- pairs of days with their numbers, as the scans have them: {} bytes", 6 * ROWS);
+}
+
+fn main() {
+    let options = options();
+    let workloads = workloads(options.seed);
+    report_questions(&options, &workloads, "Day questions", 1);
+    report_questions(&options, &workloads, "Span questions of 7 days", SPAN);
+    println!("\n## Growth, day questions");
+    report_growth(&options, 1.0);
+    report_growth(&options, 15.0);
+    calls::report(&workloads[4].rows, 10 * options.rounds);
+    report_bytes();
+}

@@ -1,0 +1,154 @@
+// A spell in seven words of 16 bits, and back: number, candidate, first day, last day, the kind of its urgency, and the low and
+// high 16 bits of the urgency's value.
+ghost use mathlib.Core.Path.{_≡_};
+ghost use Prim.Native.Nat.{_+_, _*_, _/_, _%_, _≤_};
+ghost use lib.ListN.{length, drop};
+ghost use Rattle.packing.specs.Blocks.{parts, Put, PutAll};
+ghost use Rattle.packing.specs.Words.{kindOf, valueOf, urgencyOf, low, high, joined, noSpell, spellWords, spellOf};
+use spell::Spell;
+use spell::Urgency;
+
+// ---- An urgency in two numbers
+
+// 0 for a grade, 1 for a reading.
+fn kind_of(u: Urgency) -> u16
+    ensures { λ r. ⌜ r ≡ kindOf u ⌝ }
+{
+    match u {
+        Urgency::Grade(_) => 0,
+        Urgency::Reading(_) => 1,
+    }
+}
+
+// The grade, or the reading's bits.
+fn value_of(u: Urgency) -> u32
+    ensures { λ r. ⌜ r ≡ valueOf u ⌝ }
+{
+    match u {
+        Urgency::Grade(g) => g as u32,
+        Urgency::Reading(x) => spell::bits_of(x),
+    }
+}
+
+// The urgency of a kind and a value. A grade above 65,535, and any other kind, is the grade 0, which no check passes.
+pub fn urgency_of(kind: u16, value: u32) -> Urgency
+    ensures { λ r. ⌜ r ≡ urgencyOf kind value ⌝ }
+{
+    if kind == 1 {
+        return Urgency::Reading(spell::reading_of(value));
+    }
+    if kind != 0 {
+        return Urgency::Grade(0);
+    }
+    if value > 65535 {
+        return Urgency::Grade(0);
+    }
+    Urgency::Grade(value as u16)
+}
+
+fn low_of(value: u32) -> u16
+    ensures { λ r. ⌜ r ≡ low value ⌝ }
+{
+    (value % 65536) as u16
+}
+
+fn high_of(value: u32) -> u16
+    ensures { λ r. ⌜ r ≡ high value ⌝ }
+{
+    (value / 65536) as u16
+}
+
+fn join(a: u16, b: u16) -> u32
+    ensures { λ r. ⌜ r ≡ joined a b ⌝ }
+{
+    (b as u32) * 65536 + (a as u32)
+}
+
+// ---- One spell
+
+// The words of s at the place `at`; where there is no room for them, nothing is written.
+pub fn put_spell(s: Spell, out: &mut [u16], at: usize)
+    ensures { λ _. ⌜ Put spellWords spellOf s at (now (out .entry)) (now (out .exit)) ⌝ }
+{
+    if out.len() < 7 {
+        return;
+    }
+    if out.len() - 7 < at {
+        return;
+    }
+    let u = s.urgency;
+    let kind = kind_of(u);
+    let value = value_of(u);
+    let low = low_of(value);
+    let high = high_of(value);
+    out[at] = s.number;
+    out[at + 1] = s.candidate;
+    out[at + 2] = s.first;
+    out[at + 3] = s.last;
+    out[at + 4] = kind;
+    out[at + 5] = low;
+    out[at + 6] = high;
+}
+
+fn none() -> Spell
+    ensures { λ r. ⌜ r ≡ noSpell ⌝ }
+{
+    Spell {
+        number: 0,
+        candidate: 0,
+        first: 0,
+        last: 0,
+        urgency: Urgency::Grade(0),
+    }
+}
+
+// The spell of the seven words at the place `at`; where there are not seven, one of zeros.
+pub fn spell_at(words: &[u16], at: usize) -> Spell
+    ensures { λ r. ⌜ r ≡ spellOf (drop at (now (words .entry))) ⌝ }
+{
+    if words.len() < 7 {
+        return none();
+    }
+    if words.len() - 7 < at {
+        return none();
+    }
+    let value = join(words[at + 5], words[at + 6]);
+    let urgency = urgency_of(words[at + 4], value);
+    Spell {
+        number: words[at],
+        candidate: words[at + 1],
+        first: words[at + 2],
+        last: words[at + 3],
+        urgency,
+    }
+}
+
+// ---- The array of spells
+
+// The words of all spells in the first places; where there is no room for them, nothing is written.
+pub fn put_spells(spells: [Spell; 1024], out: &mut [u16])
+    ensures { λ _. ⌜ PutAll spellWords spellOf spells (now (out .entry)) (now (out .exit)) ⌝ }
+{
+    if out.len() < 7168 {
+        return;
+    }
+    let mut i = 0;
+    while i < 1024 {
+        let x = spells[i];
+        put_spell(x, out, 7 * i);
+        i += 1;
+    }
+}
+
+// The spells of the first words.
+pub fn spells_at(words: &[u16]) -> [Spell; 1024]
+    ensures { λ r. ⌜ r ≡ parts 7 spellOf 1024 (now (words .entry)) ⌝ }
+{
+    let mut spells = [none(); 1024];
+    let mut i = 0;
+    while i < 1024 {
+        spells[i] = spell_at(words, 7 * i);
+        i += 1;
+    }
+    spells
+}

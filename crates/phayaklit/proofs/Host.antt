@@ -1,0 +1,29 @@
+-- A call on the service of a block of words is a call on the block. Assumes nothing.
+use mathlib.Core.Path.{_≡_, ap, sym, _∙_}
+use mathlib.Core.List.{List}
+use Prim.Native.Nat.{ℕ}
+use Rattle.spell.specs.declared.Spell.{Spell}
+use Rattle.model.specs.declared.Call.{Call}
+use Rattle.standing.specs.declared.Standing.{Standing}
+use Rattle.standing.specs.Standing.{Wf}
+use Rattle.standing.specs.Packed.{unpacked}
+use Rattle.service.specs.declared.Stepped.{Stepped}
+use Rattle.service.specs.Service.{Changed, Publishes}
+use Rattle.phayaklit.specs.declared.Reply.{Reply}
+use Rattle.phayaklit.specs.Host.{Held, outcomeOf, steppedOf}
+
+-- the service of words that the calls gave is one that they gave
+pub held : (words : List ℕ) (sv : Standing) → sv ≡ unpacked words → Held words → Wf sv
+held words sv e h = rw e h
+
+-- an edit of the service of the words, packed again
+pub edited : (words words′ : List ℕ) (sv : Standing) (c : Call) (r : Stepped) (x : Reply) → sv ≡ unpacked words → steppedOf words′ x ≡ r → Changed sv c r
+    → Changed (unpacked words) c (steppedOf words′ x)
+edited words words′ sv c r x e f h = rw (← e, f) h
+
+-- publish keeps the service, so the words need not be packed again
+pub published : (words ix ix′ : List ℕ) (sv : Standing) (r : Stepped) (x : Reply) → sv ≡ unpacked words → outcomeOf x ≡ r .outcome → Publishes sv ix r ix′
+    → Publishes (unpacked words) ix (steppedOf words x) ix′
+published words ix ix′ sv r x e f p =
+    let same : r ≡ record { service = sv; outcome = outcomeOf x } = rw (f, ← p .kept) in
+    rw (← e) (rw same at p)

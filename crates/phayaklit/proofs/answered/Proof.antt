@@ -1,0 +1,10 @@
+-- `phayaklit::answered` meets its contract: field by field. Assumes nothing.
+use mathlib.Core.Path.{refl}
+use Rattle.phayaklit.proofs.answered.Statement.{statement}
+use Rattle.phayaklit.proofs.answered.Tie as tie
+
+returns : tie.Need-returns
+returns c = refl
+
+pub answered-spec : {M : Type 1} → statement M
+answered-spec = tie.close (tie.spec returns)

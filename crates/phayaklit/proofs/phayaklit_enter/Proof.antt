@@ -1,0 +1,27 @@
+-- `phayaklit::phayaklit_enter` meets its contract. Assumes nothing.
+use Rattle.phayaklit.proofs.Host.{held, edited}
+use borrow.Author.Needs.{needs}
+use Rattle.phayaklit.proofs.phayaklit_enter.Statement.{statement}
+use Rattle.phayaklit.proofs.phayaklit_enter.Tie as tie
+
+unpack-requires : tie.Need-unpack-requires
+unpack-requires c κs = search needs
+
+spell-in-requires : tie.Need-spell-in-requires
+spell-in-requires c κs = search needs
+
+enter-requires : tie.Need-enter-requires
+enter-requires c κs = held _ _ (c .before .unpack .ensures) (c .before .before .before .pre)
+
+put-back-requires : tie.Need-put-back-requires
+put-back-requires c κs = search needs
+
+returns : tie.Need-returns
+returns c =
+    let asked = c .before .before in
+    let given = asked .before in
+    edited _ _ _ _ _ _ (given .before .unpack .ensures) (c .put-back .ensures) (rw (← given .spell-in .ensures) (asked .enter .ensures))
+
+pub phayaklit-enter-spec : {M : Type 1} → statement M
+phayaklit-enter-spec =
+    tie.close (tie.spec unpack-requires spell-in-requires enter-requires put-back-requires returns)

@@ -1,0 +1,24 @@
+-- `phayaklit::phayaklit_publish` meets its contract. Assumes nothing.
+use Rattle.phayaklit.proofs.Host.{held, published}
+use borrow.Author.Needs.{needs}
+use Rattle.phayaklit.proofs.phayaklit_publish.Statement.{statement}
+use Rattle.phayaklit.proofs.phayaklit_publish.Tie as tie
+
+unpack-requires : tie.Need-unpack-requires
+unpack-requires c κs = search needs
+
+publish-requires : tie.Need-publish-requires
+publish-requires c κs = held _ _ (c .before .unpack .ensures) (c .before .before .pre)
+
+answered-requires : tie.Need-answered-requires
+answered-requires c κs = search needs
+
+returns : tie.Need-returns
+returns c =
+    let done = c .before in
+    let read = done .before .before in
+    published _ _ _ _ _ _ (read .unpack .ensures) (c .answered .ensures) (done .publish .ensures)
+
+pub phayaklit-publish-spec : {M : Type 1} → statement M
+phayaklit-publish-spec =
+    tie.close (tie.spec unpack-requires publish-requires answered-requires returns)

@@ -1,0 +1,16 @@
+-- `phayaklit::phayaklit_read` meets its contract. Assumes nothing.
+use borrow.Author.Needs.{needs}
+use Rattle.phayaklit.proofs.phayaklit_read.Statement.{statement}
+use Rattle.phayaklit.proofs.phayaklit_read.Tie as tie
+
+read-requires : tie.Need-read-requires
+read-requires c κs = search needs
+
+pack-requires : tie.Need-pack-requires
+pack-requires c κs = search needs
+
+returns : tie.Need-returns
+returns c = rw (c .pack .ensures .back) (c .before .before .before .read .ensures)
+
+pub phayaklit-read-spec : {M : Type 1} → statement M
+phayaklit-read-spec = tie.close (tie.spec read-requires pack-requires returns)

@@ -1,0 +1,23 @@
+-- `phayaklit::phayaklit_take_back` meets its contract. Assumes nothing.
+use Rattle.phayaklit.proofs.Host.{held, edited}
+use borrow.Author.Needs.{needs}
+use Rattle.phayaklit.proofs.phayaklit_take_back.Statement.{statement}
+use Rattle.phayaklit.proofs.phayaklit_take_back.Tie as tie
+
+unpack-requires : tie.Need-unpack-requires
+unpack-requires c κs = search needs
+
+take-back-requires : tie.Need-take-back-requires
+take-back-requires c κs = held _ _ (c .unpack .ensures) (c .before .before .pre)
+
+put-back-requires : tie.Need-put-back-requires
+put-back-requires c κs = search needs
+
+returns : tie.Need-returns
+returns c =
+    let asked = c .before .before in
+    edited _ _ _ _ _ _ (asked .before .unpack .ensures) (c .put-back .ensures) (asked .take-back .ensures)
+
+pub phayaklit-take-back-spec : {M : Type 1} → statement M
+phayaklit-take-back-spec =
+    tie.close (tie.spec unpack-requires take-back-requires put-back-requires returns)

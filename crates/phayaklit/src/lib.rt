@@ -1,0 +1,213 @@
+// The service for other software: functions that C and Rust link. The host lends the memory: a block of words for the service
+// and one for the index. Nothing is allocated and nothing is global.
+ghost use mathlib.Core.Path.{_≡_};
+ghost use Prim.Native.Nat.{ℕ};
+ghost use mathlib.Core.List.{List};
+ghost use Rattle.model.specs.Model.{fresh};
+ghost use Rattle.register.specs.Text.{readText};
+ghost use Rattle.standing.specs.Standing.{Wf};
+ghost use Rattle.standing.specs.Packed.{unpacked};
+ghost use Rattle.service.specs.Service.{Represents, Published, Changed, Publishes, Asked, Wrote, Begins};
+ghost use Rattle.phayaklit.specs.Host.{Held, spellIn, outcomeOf, steppedOf, startedOf};
+use model::Call;
+use service::Outcome;
+use service::Stepped;
+use spell::Spell;
+use stabbing::INDEX;
+use standing::words::SERVICE;
+
+// A spell as a host gives it. Kind 0 is a grade, and `value` is the grade; kind 1 is a reading, and `value` is its bits. Any other
+// kind, and a grade above 65,535, is a bad urgency, which is refused in its turn among the checks.
+#[repr(C)]
+pub struct Entry {
+    pub number: u16,
+    pub candidate: u16,
+    pub first: u16,
+    pub last: u16,
+    pub kind: u16,
+    pub value: u32,
+}
+
+// What a call answers: the refusal's number or 0, how many spells are listed, the comparisons made (document 01's looks), the
+// length of a written text.
+#[repr(C)]
+pub struct Reply {
+    pub refusal: u16,
+    pub count: usize,
+    pub comparisons: usize,
+    pub length: usize,
+}
+
+// What a reading answers: the refusal's number with its line, or 0 and 0.
+#[repr(C)]
+pub struct Opened {
+    pub refusal: u16,
+    pub line: u16,
+}
+
+fn spell_in(e: Entry) -> Spell
+    ensures { λ r. ⌜ r ≡ spellIn e ⌝ }
+{
+    let urgency = packing::urgency_of(e.kind, e.value);
+    Spell {
+        number: e.number,
+        candidate: e.candidate,
+        first: e.first,
+        last: e.last,
+        urgency,
+    }
+}
+
+fn answered(o: Outcome) -> Reply
+    ensures { λ r. ⌜ outcomeOf r ≡ o ⌝ }
+{
+    Reply {
+        refusal: o.refusal,
+        count: o.count,
+        comparisons: o.comparisons,
+        length: o.length,
+    }
+}
+
+// What an edit gave, with its service in the host's words.
+fn put_back(r: Stepped, words: &mut [u16; SERVICE]) -> Reply
+    requires { ⌜ Wf (r .service) ⌝ }
+    ensures { λ x. ⌜ steppedOf (now (words .exit)) x ≡ r ⌝ }
+{
+    let service = r.service;
+    let outcome = r.outcome;
+    standing::words::pack(service, words);
+    answered(outcome)
+}
+
+// ---- The beginning
+
+// A fresh service: nothing stands, nothing is published, and there is no past.
+#[no_mangle]
+pub extern "C" fn phayaklit_fresh(words: &mut [u16; SERVICE], index: &mut [u16; INDEX])
+    ensures { λ _. ⌜ Represents (unpacked (now (words .exit))) (now (index .exit)) fresh ⌝ }
+{
+    let service = service::fresh(index);
+    standing::words::pack(service, words);
+}
+
+// The service that a register text makes; a refused text makes a fresh one.
+#[no_mangle]
+pub extern "C" fn phayaklit_read(
+    text: &[u8],
+    words: &mut [u16; SERVICE],
+    index: &mut [u16; INDEX],
+) -> Opened
+    ensures { λ r. ⌜ Begins (readText (now (text .entry))) (startedOf (now (words .exit)) r) (now (index .exit)) ⌝ }
+{
+    let got = service::read(text, index);
+    let service = got.service;
+    standing::words::pack(service, words);
+    Opened {
+        refusal: got.refusal,
+        line: got.line,
+    }
+}
+
+// ---- Edits: the index is not touched
+
+// Put a spell in.
+#[no_mangle]
+pub extern "C" fn phayaklit_enter(words: &mut [u16; SERVICE], entry: Entry) -> Reply
+    requires { ⌜ Held (now words) ⌝ }
+    ensures { λ r. ⌜ Changed (unpacked (now (words .entry))) (Call.Enter (spellIn entry)) (steppedOf (now (words .exit)) r) ⌝ }
+{
+    let service = standing::words::unpack(words);
+    put_back(service::enter(service, spell_in(entry)), words)
+}
+
+// Replace the spell of that number by the given one.
+#[no_mangle]
+pub extern "C" fn phayaklit_amend(words: &mut [u16; SERVICE], entry: Entry) -> Reply
+    requires { ⌜ Held (now words) ⌝ }
+    ensures { λ r. ⌜ Changed (unpacked (now (words .entry))) (Call.Amend (spellIn entry)) (steppedOf (now (words .exit)) r) ⌝ }
+{
+    let service = standing::words::unpack(words);
+    put_back(service::amend(service, spell_in(entry)), words)
+}
+
+// Remove the spell of that number.
+#[no_mangle]
+pub extern "C" fn phayaklit_strike(words: &mut [u16; SERVICE], number: u16) -> Reply
+    requires { ⌜ Held (now words) ⌝ }
+    ensures { λ r. ⌜ Changed (unpacked (now (words .entry))) (Call.Strike number) (steppedOf (now (words .exit)) r) ⌝ }
+{
+    let service = standing::words::unpack(words);
+    put_back(service::strike(service, number), words)
+}
+
+// The standing list becomes the front of the past, which loses it.
+#[no_mangle]
+pub extern "C" fn phayaklit_take_back(words: &mut [u16; SERVICE]) -> Reply
+    requires { ⌜ Held (now words) ⌝ }
+    ensures { λ r. ⌜ Changed (unpacked (now (words .entry))) Call.TakeBack (steppedOf (now (words .exit)) r) ⌝ }
+{
+    let service = standing::words::unpack(words);
+    put_back(service::take_back(service), words)
+}
+
+// ---- Publish and writing: the service is read and not written
+
+// The published list becomes the standing list.
+#[no_mangle]
+pub extern "C" fn phayaklit_publish(words: &[u16; SERVICE], index: &mut [u16; INDEX]) -> Reply
+    requires { ⌜ Held (now words) ⌝ }
+    ensures { λ r. ⌜ Publishes (unpacked (now (words .entry))) (now (index .entry)) (steppedOf (now (words .entry)) r) (now (index .exit)) ⌝ }
+{
+    let service = standing::words::unpack(words);
+    let r = service::publish(service, index);
+    answered(r.outcome)
+}
+
+// The text of the standing list, into the first places of the lent list.
+#[no_mangle]
+pub extern "C" fn phayaklit_write(words: &[u16; SERVICE], text: &mut [u8]) -> Reply
+    requires { ⌜ Held (now words) ⌝ }
+    ensures { λ r. ⌜ Wrote (unpacked (now (words .entry))) (now (text .entry)) (outcomeOf r) (now (text .exit)) ⌝ }
+{
+    let service = standing::words::unpack(words);
+    answered(service::write(service, text))
+}
+
+// ---- Questions: the published index is read where it lies
+
+// Day d: the spells with first ≤ d ≤ last.
+#[no_mangle]
+pub extern "C" fn phayaklit_day(index: &[u16; INDEX], d: u16, numbers: &mut [u16]) -> Reply
+    requires { ⌜ Published (now index) ⌝ }
+    ensures { λ r. ⌜ ((days : List ℕ) → Asked (now (index .entry)) (Call.Day d) days (now (numbers .entry)) (outcomeOf r) (now (numbers .exit))) ⌝ }
+{
+    answered(service::day(index, d, numbers))
+}
+
+// The span from a to b: the spells with first ≤ b and last ≥ a.
+#[no_mangle]
+pub extern "C" fn phayaklit_span(index: &[u16; INDEX], a: u16, b: u16, numbers: &mut [u16]) -> Reply
+    requires { ⌜ Published (now index) ⌝ }
+    ensures { λ r. ⌜ ((days : List ℕ) → Asked (now (index .entry)) (Call.Span a b) days (now (numbers .entry)) (outcomeOf r) (now (numbers .exit))) ⌝ }
+{
+    answered(service::span(index, a, b, numbers))
+}
+
+// The cover of a published spell: the spells with first ≤ its first and last ≥ its last.
+#[no_mangle]
+pub extern "C" fn phayaklit_cover(index: &[u16; INDEX], number: u16, numbers: &mut [u16]) -> Reply
+    requires { ⌜ Published (now index) ⌝ }
+    ensures { λ r. ⌜ ((days : List ℕ) → Asked (now (index .entry)) (Call.Cover number) days (now (numbers .entry)) (outcomeOf r) (now (numbers .exit))) ⌝ }
+{
+    answered(service::cover(index, number, numbers))
+}
+
+// Several days: the spells that contain at least one of them.
+#[no_mangle]
+pub extern "C" fn phayaklit_days(index: &[u16; INDEX], days: &[u16], numbers: &mut [u16]) -> Reply
+    requires { ⌜ Published (now index) ⌝ }
+    ensures { λ r. ⌜ Asked (now (index .entry)) Call.Days (now (days .entry)) (now (numbers .entry)) (outcomeOf r) (now (numbers .exit)) ⌝ }
+{
+    answered(service::days(index, days, numbers))
+}

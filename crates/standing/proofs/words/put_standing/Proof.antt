@@ -1,0 +1,65 @@
+-- `standing::words::put_standing` meets its contract. Assumes nothing.
+use mathlib.Core.Path.{refl, sym, _∙_}
+use native.Mathlib.Omega.{arith}
+use lib.ListN.{length-set}
+use denote.Ref.{now}
+use Rattle.standing.proofs.Packed.{put-part, packed-length}
+use borrow.Author.Needs.{needs}
+use Rattle.standing.proofs.words.put_standing.Statement.{statement}
+use Rattle.standing.proofs.words.put_standing.Tie as tie
+
+put-spells-requires : tie.Need-put-spells-requires
+put-spells-requires c κs = search needs
+
+sub-put-journal : tie.Need-sub-put-journal
+sub-put-journal c = search needs
+
+part-put-journal-start : tie.Need-part-put-journal-start
+part-put-journal-start c = search needs
+
+part-put-journal-end : tie.Need-part-put-journal-end
+part-put-journal-end c = search needs
+
+put-journal-requires : tie.Need-put-journal-requires
+put-journal-requires c κs = search needs
+
+cast-out : tie.Need-cast-out
+cast-out c = search needs
+
+slice-write-out : tie.Need-slice-write-out
+slice-write-out c = search needs
+
+cast-out-2 : tie.Need-cast-out-2
+cast-out-2 c = search needs
+
+slice-write-out-2 : tie.Need-slice-write-out-2
+slice-write-out-2 c = simp length-set (omega arith)
+
+returns : tie.Need-returns
+returns c =
+    let laid = c .before .before .before .before in
+    let put = laid .before .before .before .before in
+    let start = put .before .before .before .before .before in
+    let a = start .args in
+    put-part (a .st) (start .pre .0 .places) (start .pre .0 .rooms) (now (a .out)) _ _ _ (start .pre .1) refl (put .put-spells .ensures) (laid .put-journal .ensures)
+
+same-length : tie.Need-same-length
+same-length c =
+    let start = c .before .before .before .before .before .before .before .before .before .before .before .before .before in
+    packed-length (start .args .st) (start .pre .0 .places) (start .pre .0 .rooms) _ (returns c) ∙ sym (start .pre .1)
+
+pub put-standing-spec : {M : Type 1} → statement M
+put-standing-spec =
+    tie.close
+    (tie.spec
+    put-spells-requires
+    sub-put-journal
+    part-put-journal-start
+    part-put-journal-end
+    put-journal-requires
+    cast-out
+    slice-write-out
+    cast-out-2
+    slice-write-out-2
+    same-length
+    returns)

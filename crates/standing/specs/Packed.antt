@@ -1,0 +1,35 @@
+-- A standing list in words of 16 bits, and the standing list of any words. Assumes nothing.
+use Prim.Native.Nat.{ℕ}
+use mathlib.Core.Path.{_≡_}
+use mathlib.Core.Bool.{not, cond}
+use mathlib.Core.List.{List, [], _∷_, _++_}
+use lib.Dec.{eqb}
+use lib.ListN.{getD, drop}
+use Rattle.packing.specs.Blocks.{written, parts}
+use Rattle.packing.specs.Words.{spellWords, spellOf}
+use Rattle.standing.specs.declared.Undo.{Undo}
+use Rattle.standing.specs.declared.Standing.{Standing}
+
+-- an entry of the journal: its number, 1 or 0 for a spell that stood or none, and the spell's words
+unfoldable pub entryWords : Undo → List ℕ
+entryWords e = e .number ∷ cond (e .stood) 1 0 ∷ spellWords (e .spell)
+
+unfoldable pub entryOf : List ℕ → Undo
+entryOf l = record { number = getD l 0 0; stood = not (eqb (getD l 1 0) 0); spell = spellOf (drop 2 l) }
+
+-- all places of the array, all places of the journal, the count and the depth
+unfoldable pub packed : Standing → List ℕ
+packed st = written spellWords (st .spells) ++ written entryWords (st .journal) ++ (st .count ∷ st .depth ∷ [])
+
+unfoldable pub unpacked : List ℕ → Standing
+unpacked l = record {
+  spells = parts 7 spellOf 1024 l;
+  count = getD l 7744 0;
+  journal = parts 9 entryOf 64 (drop 7168 l);
+  depth = getD l 7745 0;
+}
+
+-- l is st in words, and reads back as st
+pub record Packs (st : Standing) (l : List ℕ) : Type 0 where
+  pub words : l ≡ packed st
+  pub back : unpacked l ≡ st
