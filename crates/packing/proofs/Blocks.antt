@@ -1,7 +1,6 @@
 -- Values written one after the other, and read back: how a loop writes and reads them, and that reading gives back what was written. Assumes nothing.
 use mathlib.Core.Path.{_≡_, refl, sym, ap, _∙_}
 use mathlib.Core.List.{List, [], _∷_, _++_, append-assoc, append-nil}
-use mathlib.Core.Bool.{cond}
 use Prim.Native.Nat.{ℕ, zero, suc, _+_, _*_, _≤_, _<_}
 use native.Mathlib.Numerals.{add-one}
 use native.Mathlib.Nat.{suc-mul, zero-mul, le-trans, mul-le-mul-right}
@@ -18,11 +17,11 @@ use Rattle.packing.specs.Blocks.{put, written, parts, Every, Put, PutAll
 abbrev pub over : List ℕ → List ℕ → List ℕ
 over new l = new ++ drop (length new) l
 
-pub over-length : (new l : List ℕ) → length new ≤ length l → length (over new l) ≡ length l
+over-length : (new l : List ℕ) → length new ≤ length l → length (over new l) ≡ length l
 over-length new l h = omega (arith, length-append new (drop (length new) l), length-drop (length new) l)
 
 -- where there is room, and where there is none
-pub put-room : (k : ℕ) (new l : List ℕ) → k + length new ≤ length l → put k new l ≡ take k l ++ new ++ drop (k + length new) l
+put-room : (k : ℕ) (new l : List ℕ) → k + length new ≤ length l → put k new l ≡ take k l ++ new ++ drop (k + length new) l
 unfolding put
 put-room k new l h = simp (le-leb _ _ h)
 
@@ -41,7 +40,7 @@ put-length k new l = elim (decLe (k + length new) (length l)) [
 ]
 
 -- new put after what is over l
-pub put-over : (k : ℕ) (w new l : List ℕ) → k ≡ length w → k + length new ≤ length l → put k new (over w l) ≡ over (w ++ new) l
+put-over : (k : ℕ) (w new l : List ℕ) → k ≡ length w → k + length new ≤ length l → put k new (over w l) ≡ over (w ++ new) l
 put-over k w new l e h =
     let fits : length w ≤ length l = omega arith in
     let after : drop (k + length new) (w ++ drop (length w) l) ≡ drop (length w + length new) l =
@@ -65,7 +64,7 @@ module _ {A : Type 0} where
   every-snoc P (y ∷ l) x e p = (e .0, every-snoc P l x (e .1) p)
 
   -- a loop goes on by one
-  pub every-more : (P : A → Type 0) (l : List A) (i : ℕ) (d : A) → i < length l → Every P (take i l) → P (getD l i d) → Every P (take (i + 1) l)
+  every-more : (P : A → Type 0) (l : List A) (i : ℕ) (d : A) → i < length l → Every P (take i l) → P (getD l i d) → Every P (take (i + 1) l)
   every-more P l i d h e p = rw (add-one, take-suc l i d h) (every-snoc P (take i l) (getD l i d) e p)
 
   module _ (k : ℕ) (f : A → List ℕ) (long : (x : A) → length (f x) ≡ k) where
@@ -75,20 +74,20 @@ module _ {A : Type 0} where
     written-length (x ∷ l) = length-append (f x) (written f l) ∙ omega (arith, long x, written-length l, suc-mul (length l) k)
 
   module _ (f : A → List ℕ) where
-    pub written-snoc : (l : List A) (x : A) → written f (l ++ (x ∷ [])) ≡ written f l ++ f x
+    written-snoc : (l : List A) (x : A) → written f (l ++ (x ∷ [])) ≡ written f l ++ f x
     unfolding written
     written-snoc [] x = append-nil (f x)
     written-snoc (y ∷ l) x = rw (written-snoc l x) (sym (append-assoc (f y) (written f l) (f x)))
 
     -- a loop goes on by one: the words of the value i are put after those before it
-    pub written-more : (a : List A) (before c : List ℕ) (i k : ℕ) (d : A) → i < length a
+    written-more : (a : List A) (before c : List ℕ) (i k : ℕ) (d : A) → i < length a
         → k ≡ length (written f (take i a)) → k + length (f (getD a i d)) ≤ length before
         → c ≡ over (written f (take i a)) before → put k (f (getD a i d)) c ≡ over (written f (take (i + 1) a)) before
     written-more a before c i k d h e room so-far =
         rw (so-far, add-one, take-suc a i d h, written-snoc (take i a) (getD a i d)) (put-over k (written f (take i a)) (f (getD a i d)) before e room)
 
   module _ (k : ℕ) (g : List ℕ → A) where
-    pub parts-length : (n : ℕ) (l : List ℕ) → length (parts k g n l) ≡ n
+    parts-length : (n : ℕ) (l : List ℕ) → length (parts k g n l) ≡ n
     unfolding parts
     parts-length zero l = refl
     parts-length (suc n) l = ap suc (parts-length n (drop k l))

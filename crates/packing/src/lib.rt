@@ -1,8 +1,7 @@
 // A spell in seven words of 16 bits, and back: number, candidate, first day, last day, the kind of its urgency, and the low and
 // high 16 bits of the urgency's value.
 ghost use mathlib.Core.Path.{_≡_};
-ghost use Prim.Native.Nat.{_+_, _*_, _/_, _%_, _≤_};
-ghost use lib.ListN.{length, drop};
+ghost use lib.ListN.{drop};
 ghost use Rattle.packing.specs.Blocks.{parts, Put, PutAll};
 ghost use Rattle.packing.specs.Words.{kindOf, valueOf, urgencyOf, low, high, joined, noSpell, spellWords, spellOf};
 use spell::Spell;

@@ -16,7 +16,7 @@ use Rattle.replay.specs.History as history
 use Rattle.replay.proofs.Claims.{made-run, made-given}
 use Rattle.phayaklit.specs.declared.Reply.{Reply}
 use Rattle.phayaklit.specs.declared.Opened.{Opened}
-use Rattle.phayaklit.specs.Host.{Held, steppedOf, startedOf}
+use Rattle.phayaklit.specs.Host.{steppedOf, startedOf}
 use Rattle.phayaklit.specs.History.{Called, edited, published, wrote, asked, Hosted, none, then}
 
 -- PACKING IS THE IDENTITY: the words of a standing list read back as it. `pack` ensures it of every one that it is given.

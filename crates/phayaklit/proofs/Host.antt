@@ -1,8 +1,7 @@
 -- A call on the service of a block of words is a call on the block. Assumes nothing.
-use mathlib.Core.Path.{_≡_, ap, sym, _∙_}
+use mathlib.Core.Path.{_≡_}
 use mathlib.Core.List.{List}
 use Prim.Native.Nat.{ℕ}
-use Rattle.spell.specs.declared.Spell.{Spell}
 use Rattle.model.specs.declared.Call.{Call}
 use Rattle.standing.specs.declared.Standing.{Standing}
 use Rattle.standing.specs.Standing.{Wf}

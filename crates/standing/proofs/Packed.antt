@@ -12,7 +12,7 @@ use lib.Seq.{getD-drop, drop-drop, getD-at, getD-append-add, take-all, take-at, 
 use mir.Val.{boolByte}
 use Rattle.packing.specs.Blocks.{put, written, parts, Every, PutAll}
 use Rattle.packing.specs.Words.{spellWords, spellOf}
-use Rattle.packing.proofs.Blocks.{over, put-sets, put-first, written-length, read-back}
+use Rattle.packing.proofs.Blocks.{put-sets, put-first, written-length, read-back}
 use Rattle.packing.proofs.Words.{spell-long, spell-reads}
 use Rattle.standing.specs.declared.Undo.{Undo}
 use Rattle.standing.specs.declared.Standing.{Standing}

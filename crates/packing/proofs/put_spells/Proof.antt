@@ -1,6 +1,5 @@
 -- `packing::put_spells` meets its contract. The loop's invariant: the words of the first i spells are put. Assumes nothing.
 use mathlib.Core.Path.{_≡_, sym}
-use mathlib.Core.List.{List}
 use Prim.Native.Nat.{_-_, _*_, _≤_}
 use native.Mathlib.Omega.{arith}
 use borrow.Author.Needs.{needs}
