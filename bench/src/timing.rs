@@ -10,17 +10,12 @@ use crate::rows::{Row, ROWS};
 use std::hint::black_box;
 use std::time::Instant;
 
-/// A question to one of several lists for the days a to b; a day question has both equal.
-#[derive(Clone, Copy)]
-pub struct Question {
-    pub list: usize,
-    pub a: u16,
-    pub b: u16,
-}
+/// A question for the days a to b; a day question has both equal.
+pub type Question = (u16, u16);
 
-/// Lists of rows, and the questions put to them.
+/// A list of rows, and the questions put to it.
 pub struct Case {
-    pub lists: Vec<Vec<Row>>,
+    pub rows: Vec<Row>,
     pub questions: Vec<Question>,
 }
 
@@ -34,14 +29,14 @@ pub trait Contender {
     fn time(&mut self, questions: &[Question]) -> f64;
 }
 
-struct Named<L>(&'static str, Vec<L>);
+struct Named<L>(&'static str, L);
 
 impl<L: Lists> Named<L> {
-    fn ask(&mut self, Question { list, a, b }: Question, out: &mut [u16]) -> usize {
+    fn ask(&mut self, (a, b): Question, out: &mut [u16]) -> usize {
         if a == b {
-            self.1[list].day(a, out)
+            self.1.day(a, out)
         } else {
-            self.1[list].span(a, b, out)
+            self.1.span(a, b, out)
         }
     }
 }
@@ -71,26 +66,22 @@ impl<L: Lists> Contender for Named<L> {
     }
 }
 
-fn named<L: Lists + 'static>(name: &'static str, lists: &[Vec<Row>], new: impl Fn(&[Row]) -> L) -> Box<dyn Contender> {
-    Box::new(Named(name, lists.iter().map(|rows| new(rows)).collect()))
-}
-
 pub const PROVED: &str = "proved library";
 pub const PAIRS: &str = "scan of pairs";
 pub const CRATE: &str = "intervaltree (crate)";
 pub const IIT: &str = "libiitii: iit";
 pub const IITII: &str = "libiitii: iitii";
 
-fn contenders(lists: &[Vec<Row>]) -> Vec<Box<dyn Contender>> {
+fn contenders(rows: &[Row]) -> Vec<Box<dyn Contender>> {
     vec![
-        named(PROVED, lists, Proved::new),
-        named(PAIRS, lists, Scan::new),
-        named("sorted scan, early stop", lists, |rows| SortedScan(Scan::new(rows))),
-        named("sorted scan, branch-free", lists, BranchFreeScan::new),
-        named(CRATE, lists, PackagedCrate::new),
-        named(IIT, lists, PackagedHeader::plain),
-        named(IITII, lists, PackagedHeader::interpolated),
-        named("plain walk over links", lists, PlainWalk::new),
+        Box::new(Named(PROVED, Proved::new(rows))),
+        Box::new(Named(PAIRS, Scan::new(rows))),
+        Box::new(Named("sorted scan, early stop", SortedScan(Scan::new(rows)))),
+        Box::new(Named("sorted scan, branch-free", BranchFreeScan::new(rows))),
+        Box::new(Named(CRATE, PackagedCrate::new(rows))),
+        Box::new(Named(IIT, PackagedHeader::plain(rows))),
+        Box::new(Named(IITII, PackagedHeader::interpolated(rows))),
+        Box::new(Named("plain walk over links", PlainWalk::new(rows))),
     ]
 }
 
@@ -128,7 +119,7 @@ struct Course<'a> {
 
 impl Course<'_> {
     fn new(case: &Case) -> Course<'_> {
-        let mut contenders = contenders(&case.lists);
+        let mut contenders = contenders(&case.rows);
         let listed = agree(&mut contenders, &case.questions);
         let stretches: Vec<&[Question]> = case.questions.chunks(STRETCH).collect();
         let times = vec![vec![Vec::new(); stretches.len()]; contenders.len()];
