@@ -19,7 +19,7 @@ use Rattle.stabbing.proofs.Walk.{start-is, listing, comparisons-formula}
 use Rattle.stabbing.specs.Index.{Built, named, numbers, firsts, lasts}
 use Rattle.stabbing.proofs.Block.{Holds, built-holds}
 use Rattle.stabbing.specs.Answer.{Outcome, refused, give, question, calendar, dayOf, dayIn, Gave, spanOf, spanIn, covering, coverOf}
-use Rattle.stabbing_query.specs.Code.{Now, Does, ClimbAt, StartAt, WalkAsks, SpanAsks, numbered, listedOf}
+use Rattle.stabbing_query.specs.Code.{Now, Does, ClimbAt, StartAt, WalkAsks, SpanAsks, numbered, toldOf, listedOf}
 use Rattle.stabbing_query.proofs.Keeping.{place, comparisons-is}
 
 -- the walk's beginning and its end
@@ -46,6 +46,15 @@ module _ (ix xs : List ℕ) (l m : ℕ) (q : WalkAsks ix l m) (n : length xs ≡
   unfolding walk
   walked xs′ r d = d .does nothing start-now
 
+-- the two ends of `toldOf`
+pub told-none : (s : ℕ) → 1024 < s % 65536 → toldOf s ≡ record { refusal = 11; count = 0; comparisons = 0 }
+unfolding toldOf
+told-none s h = rw (lt-leb (s % 65536) 1024 h, toldOf)
+
+pub told-all : (s : ℕ) → s % 65536 ≤ 1024 → toldOf s ≡ record { refusal = 0; count = 1024 - s % 65536; comparisons = s / 65536 }
+unfolding toldOf
+told-all s h = rw (le-leb (s % 65536) 1024 h, toldOf)
+
 -- the two ends of `give`
 module _ (ns : List ℕ) (comparisons : ℕ) (out : List ℕ) where
   pub give-all : length ns ≤ length out → give ns comparisons out ≡ record { result = record { refusal = 0; count = length ns; comparisons = comparisons }; out = ns ++ drop (length ns) out }
@@ -69,8 +78,8 @@ module _ (ix xs : List ℕ) (s : ℕ) (f : Found) (g : Now xs s f) (out : List �
   pub k-is : 1024 - s % 65536 ≡ length ns
   k-is = omega (arith, at-is, g .fits, length-map (f .list) (λ (p : ℕ). getD ix p 0))
 
-  pub too-short : length out < 1024 - s % 65536 → (r : Listed) → r ≡ record { refusal = 11; count = 0; comparisons = 0 } → Gave r out (give ns (f .comparisons) out)
-  too-short h r e = rw (give-none ns (f .comparisons) out (omega (arith, k-is))) (record { result = e; out = refl })
+  pub too-short : length out < 1024 - s % 65536 → Gave (toldOf 1025) out (give ns (f .comparisons) out)
+  too-short h = rw (give-none ns (f .comparisons) out (omega (arith, k-is))) (record { result = told-none 1025 (omega arith); out = refl })
 
   -- the places from the one reached on hold what was found
   there : take (1024 - s % 65536) (drop (s % 65536) xs) ≡ f .list
@@ -79,10 +88,10 @@ module _ (ix xs : List ℕ) (s : ℕ) (f : Found) (g : Now xs s f) (out : List �
       rw z (take-all (1024 - s % 65536) (f .list) (omega (arith, at-is, g .fits)))
 
   pub all-given : 1024 - s % 65536 ≤ length out → (after : List ℕ) → after ≡ numbered ix (take (1024 - s % 65536) (drop (s % 65536) xs)) ++ drop (1024 - s % 65536) out
-      → Gave (record { refusal = 0; count = 1024 - s % 65536; comparisons = s / 65536 }) after (give ns (f .comparisons) out)
+      → Gave (toldOf s) after (give ns (f .comparisons) out)
   all-given h after e =
       let c : s / 65536 ≡ f .comparisons = comparisons-is s (length (f .list)) (f .comparisons) (g .fits) (g .is) in
-      rw (give-all ns (f .comparisons) out (omega (arith, k-is))) (record { result = rw (k-is, c); out = e ∙ rw (there, k-is) })
+      rw (give-all ns (f .comparisons) out (omega (arith, k-is))) (record { result = told-all s (omega (arith, at-is)) ∙ rw (k-is, c); out = e ∙ rw (there, k-is) })
 
 -- what is listed, by its numbers
 pub keep-map : (f g : ℕ → ℕ) (t : ℕ → Bool) (k : ℕ) → ((p : ℕ) → p < k → f p ≡ g p) → map f (keep t k) ≡ map g (keep t k)
@@ -129,8 +138,8 @@ module _ (ix : List ℕ) (b : Built ix) (h l m : ℕ) (d : 1 ≤ l) (e : m ≡ s
   pub asks-walk : WalkAsks ix l m
   asks-walk = record { built = b; dated = d; start = begins ix (numbers ix) (firsts ix) (lasts ix) (built-holds ix b) h l m e }
 
-  pub gives : (out after : List ℕ) (r : Listed) (o : Outcome) → o ≡ question (numbers ix) (firsts ix) (lasts ix) h l out → Gave r after (listedOf ix l m out) → Gave r after o
-  gives out after r o z g = rw z (rw (answers ix (numbers ix) (firsts ix) (lasts ix) (built-holds ix b) h l m e out) at g)
+  pub gives : (out after : List ℕ) (s : ℕ) (r : Listed) (o : Outcome) → o ≡ question (numbers ix) (firsts ix) (lasts ix) h l out → Gave (toldOf s) after (listedOf ix l m out) → r ≡ toldOf s → Gave r after o
+  gives out after s r o z g t = rw (z, t) (rw (answers ix (numbers ix) (firsts ix) (lasts ix) (built-holds ix b) h l m e out) at g)
 
 -- the start of a day, and of a span, as they are stored
 pub day-start : (ix : List ℕ) (b : Built ix) (d x m : ℕ) → d ≤ 4000 → x ≡ d → m ≡ getD ix (x + 10240) 0 → m ≡ start (firsts ix) (lasts ix) d d

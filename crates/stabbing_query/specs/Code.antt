@@ -1,10 +1,12 @@
 -- What the functions behind the questions keep, ask and give: records and short names that their contracts cite. Assumes nothing.
-use Prim.Native.Nat.{ℕ, zero, suc, _+_, _-_, _*_, _≤_, _<_}
+use Prim.Native.Nat.{ℕ, zero, suc, _+_, _-_, _*_, _/_, _%_, _≤_, _<_}
 use mathlib.Core.Bool.{Bool, true, false}
 use mathlib.Core.List.{List, [], _∷_, _++_, map}
 use mathlib.Core.Path.{_≡_}
-use lib.Dec.{ltb}
+use lib.Dec.{leb, ltb}
 use lib.ListN.{length, getD, drop}
+use Rattle.refusal.specs.Table.{shortBuffer}
+use Rattle.stabbing.specs.declared.Listed.{Listed}
 use Rattle.stabbing.specs.Tree.{Found, keep, day, parent, child, fits, start, latest, chain, rise, climb, walk}
 use Rattle.stabbing.proofs.Links.{Head, bottom, Stretch}
 use Rattle.stabbing.proofs.Steps.{over}
@@ -93,6 +95,14 @@ walkOf ix l m = walk (firsts ix) (lasts ix) l m
 -- the numbers of the rows at these positions, as a block has them
 abbrev pub numbered : List ℕ → List ℕ → List ℕ
 numbered ix ps = map (λ p. getD ix p 0) ps
+
+-- an answer from the one number that hands it on: the state that the walk ends in, or a number whose place is past the end of the
+-- list of finds where the buffer is short
+unfoldable pub toldOf : ℕ → Listed
+toldOf s = elim (leb (s % 65536) 1024) [
+  | true ↦ record { refusal = 0; count = 1024 - s % 65536; comparisons = s / 65536 }
+  | false ↦ record { refusal = shortBuffer; count = 0; comparisons = 0 }
+]
 
 -- what is listed of a walk's positions
 abbrev pub listedOf : List ℕ → ℕ → ℕ → List ℕ → Outcome

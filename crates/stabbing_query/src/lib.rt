@@ -7,7 +7,7 @@ ghost use lib.ListN.{length, take, drop};
 ghost use Rattle.stabbing.specs.Tree.{one, some};
 ghost use Rattle.stabbing.specs.Index.{Built};
 ghost use Rattle.stabbing.specs.Answer.{Gave, dayIn, spanIn, coverIn, daysIn, calendar, calendars, risingFrom};
-ghost use Rattle.stabbing_query.specs.Code.{Does, ChainAsks, RiseAsks, ClimbAsks, Now, chainOf, riseOf, climbOf, WalkAsks, SpanAsks, walkOf, startOf, listedOf, numbered, under, dayFrom, daysFrom, AddAsks, GatherAsks, Added};
+ghost use Rattle.stabbing_query.specs.Code.{Does, ChainAsks, RiseAsks, ClimbAsks, Now, chainOf, riseOf, climbOf, WalkAsks, SpanAsks, walkOf, startOf, toldOf, listedOf, numbered, under, dayFrom, daysFrom, AddAsks, GatherAsks, Added};
 use refusal::OFF_CALENDAR;
 use refusal::REVERSED;
 use refusal::SHORT_BUFFER;
@@ -137,24 +137,39 @@ fn refuse(number: u16) -> Listed
     }
 }
 
+// An answer is handed on in one number, which stays in a register: the state that the walk ends in, or this one, whose place is
+// past the list's end, where the buffer is short.
+const SHORT: usize = 1025;
+
+// What that number says.
+fn told(s: usize) -> Listed
+    ensures { λ r. ⌜ r ≡ toldOf s ⌝ }
+{
+    let at = s % 65536;
+    if 1024 < at {
+        return refuse(SHORT_BUFFER);
+    }
+    Listed {
+        refusal: 0,
+        count: 1024 - at,
+        comparisons: s / 65536,
+    }
+}
+
 // The rows that the walk from the start with the mark m finds.
-fn answer(index: &[u16; INDEX], l: u16, m: usize, out: &mut [u16]) -> Listed
+fn answer(index: &[u16; INDEX], l: u16, m: usize, out: &mut [u16]) -> usize
     requires { ⌜ WalkAsks (now index) l m ⌝ }
-    ensures { λ r. ⌜ Gave r (now (out .exit)) (listedOf (now (index .entry)) l m (now (out .entry))) ⌝ }
+    ensures { λ r. ⌜ Gave (toldOf r) (now (out .exit)) (listedOf (now (index .entry)) l m (now (out .entry))) ⌝ }
 {
     let mut found = [0u16; 1024];
     let s = walk(index, l, m, &mut found);
     let at = s % 65536;
     let k = 1024 - at;
     if out.len() < k {
-        return refuse(SHORT_BUFFER);
+        return SHORT;
     }
     write(index, &found, at, k, out);
-    Listed {
-        refusal: 0,
-        count: k,
-        comparisons: s / 65536,
-    }
+    s
 }
 
 // ---- Day, span, cover
@@ -177,7 +192,7 @@ pub fn day(index: &[u16; INDEX], d: u16, out: &mut [u16]) -> Listed
     if !is_day(d) {
         return refuse(OFF_CALENDAR);
     }
-    answer(index, d, wide(index[wide(d) + START]), out)
+    told(answer(index, d, wide(index[wide(d) + START]), out))
 }
 
 // The start of the span from a to b: the greatest head that begins by day b if it begins on day a or later, else the start of
@@ -210,7 +225,7 @@ pub fn span(index: &[u16; INDEX], a: u16, b: u16, out: &mut [u16]) -> Listed
     if b < a {
         return refuse(REVERSED);
     }
-    answer(index, a, span_start(index, a, b), out)
+    told(answer(index, a, span_start(index, a, b), out))
 }
 
 // The cover of the spell with that number: the spells with first ≤ its first and last ≥ its last.
@@ -225,7 +240,7 @@ pub fn cover(index: &[u16; INDEX], number: u16, out: &mut [u16]) -> Listed
     let p = m - 1;
     let first = wide(index[p + FIRST]);
     let last = index[p + LAST];
-    answer(index, last, wide(index[first + BEGUN]), out)
+    told(answer(index, last, wide(index[first + BEGUN]), out))
 }
 
 // ---- Several days

@@ -6,7 +6,6 @@ use Rattle.stabbing_query.proofs.answer.Tie as tie
 use Rattle.stabbing_query.proofs.answer.Reads as reads
 use Rattle.stabbing_query.proofs.answer.Lts as lts
 use Rattle.stabbing_query.proofs.write.Reads as write-reads
-use Rattle.stabbing_query.proofs.refuse.Reads as refuse-reads
 use Rattle.stabbing_query.proofs.walk.Reads as walk-reads
 
 walk-requires : tie.Need-walk-requires
@@ -15,13 +14,10 @@ walk-requires c κs = search needs
 sub-k : tie.Need-sub-k
 sub-k c = search needs
 
-refuse-requires : tie.Need-refuse-requires
-refuse-requires c κs = search needs
-
 returns : tie.Need-returns
 returns c =
-    let g = c .before .before .before .before .before .args in
-    Steps.too-short (g .index .now) _ _ _ (c .before .before .walk .ensures) (g .out .now) (c .before .if1 .taken) _ (c .refuse .ensures)
+    let g = c .before .before .before .before .args in
+    Steps.too-short (g .index .now) _ _ _ (c .before .walk .ensures) (g .out .now) (c .if1 .taken)
 
 write-requires : tie.Need-write-requires
 write-requires c κs = search needs
@@ -38,4 +34,4 @@ returns-2 c =
 pub answer-spec : {M : Type 1} → statement M
 answer-spec =
     tie.close
-    (tie.spec walk-requires sub-k refuse-requires returns write-requires same-length returns-2)
+    (tie.spec walk-requires sub-k returns write-requires same-length returns-2)

@@ -151,18 +151,21 @@ answer-requires c κs =
     let k : c .before .before .before .before .before .before .before .wide2 .result ≡ suc (c .before .before .before .before .before .before .before .wide2 .result - 1) = omega (arith, c .before .before .before .before .before .before .if1 .left) in
     Steps.asks-walk (g .index .now) (s .pre) _ _ _ (Steps.cover-dated (g .index .now) (s .pre) (g .number) _ _ n e z _ k _ _ refl (c .before .before .before .before .wide3 .ensures .0)) (Steps.cover-start (g .index .now) (s .pre) (g .number) _ _ n e z _ k _ _ refl (c .before .before .before .before .wide3 .ensures .0) _ (c .before .wide4 .ensures .0))
 
+told-requires : tie.Need-told-requires
+told-requires c κs = search needs
+
 same-length : tie.Need-same-length
 same-length c = search needs
 
 returns-2 : tie.Need-returns-2
 returns-2 c =
-    let s = c .before .before .before .before .before .before .before .before .before .before .before .before .before .before in
+    let s = c .before .before .before .before .before .before .before .before .before .before .before .before .before .before .before in
     let g = s .args in
     let n : g .number < 65536 = omega (arith, s .fits .number .fits) in
-    let e = c .before .before .before .before .before .before .before .before .before .before .before .before .wide .ensures .0 in
-    let z = c .before .before .before .before .before .before .before .before .before .before .wide2 .ensures .0 in
-    let k : c .before .before .before .before .before .before .before .before .before .before .wide2 .result ≡ suc (c .before .before .before .before .before .before .before .before .before .before .wide2 .result - 1) = omega (arith, c .before .before .before .before .before .before .before .before .before .if1 .left) in
-    Steps.gives (g .index .now) (s .pre) _ _ _ (Steps.cover-dated (g .index .now) (s .pre) (g .number) _ _ n e z _ k _ _ refl (c .before .before .before .before .before .before .before .wide3 .ensures .0)) (Steps.cover-start (g .index .now) (s .pre) (g .number) _ _ n e z _ k _ _ refl (c .before .before .before .before .before .before .before .wide3 .ensures .0) _ (c .before .before .before .before .wide4 .ensures .0)) (g .out .now) _ _ _ (Steps.cover-in (g .index .now) (s .pre) (g .number) _ _ n e z _ k _ _ refl (c .before .before .before .before .before .before .before .wide3 .ensures .0) (g .out .now)) (c .before .before .answer .ensures)
+    let e = c .before .before .before .before .before .before .before .before .before .before .before .before .before .wide .ensures .0 in
+    let z = c .before .before .before .before .before .before .before .before .before .before .before .wide2 .ensures .0 in
+    let k : c .before .before .before .before .before .before .before .before .before .before .before .wide2 .result ≡ suc (c .before .before .before .before .before .before .before .before .before .before .before .wide2 .result - 1) = omega (arith, c .before .before .before .before .before .before .before .before .before .before .if1 .left) in
+    Steps.gives (g .index .now) (s .pre) _ _ _ (Steps.cover-dated (g .index .now) (s .pre) (g .number) _ _ n e z _ k _ _ refl (c .before .before .before .before .before .before .before .before .wide3 .ensures .0)) (Steps.cover-start (g .index .now) (s .pre) (g .number) _ _ n e z _ k _ _ refl (c .before .before .before .before .before .before .before .before .wide3 .ensures .0) _ (c .before .before .before .before .before .wide4 .ensures .0)) (g .out .now) _ _ _ _ (Steps.cover-in (g .index .now) (s .pre) (g .number) _ _ n e z _ k _ _ refl (c .before .before .before .before .before .before .before .before .wide3 .ensures .0) (g .out .now)) (c .before .before .before .answer .ensures) (c .told .ensures)
 
 pub cover-spec : {M : Type 1} → statement M
 cover-spec =
@@ -188,5 +191,6 @@ cover-spec =
     element-copy-out-wide-3
     wide-requires-4
     answer-requires
+    told-requires
     same-length
     returns-2)

@@ -41,16 +41,19 @@ answer-requires c κs =
     let z = Steps.day-start (g .index .now) (s .pre) (g .d) _ _ (Steps.dated (g .d) e .1) (c .before .before .before .wide .ensures .0) (c .before .wide2 .ensures .0) in
     Steps.asks-walk (g .index .now) (s .pre) (g .d) (g .d) _ (Steps.dated (g .d) e .0) z
 
+told-requires : tie.Need-told-requires
+told-requires c κs = search needs
+
 same-length : tie.Need-same-length
 same-length c = search needs
 
 returns-2 : tie.Need-returns-2
 returns-2 c =
-    let s = c .before .before .before .before .before .before .before .before .before .before in
+    let s = c .before .before .before .before .before .before .before .before .before .before .before in
     let g = s .args in
-    let e = sym (c .before .before .before .before .before .before .before .before .is-day .ensures) ∙ not-false _ (c .before .before .before .before .before .before .before .if1 .left) in
-    let z = Steps.day-start (g .index .now) (s .pre) (g .d) _ _ (Steps.dated (g .d) e .1) (c .before .before .before .before .before .before .wide .ensures .0) (c .before .before .before .before .wide2 .ensures .0) in
-    Steps.gives (g .index .now) (s .pre) (g .d) (g .d) _ (Steps.dated (g .d) e .0) z (g .out .now) _ _ _ (Steps.day-in (g .index .now) (g .d) (g .out .now) e) (c .before .before .answer .ensures)
+    let e = sym (c .before .before .before .before .before .before .before .before .before .is-day .ensures) ∙ not-false _ (c .before .before .before .before .before .before .before .before .if1 .left) in
+    let z = Steps.day-start (g .index .now) (s .pre) (g .d) _ _ (Steps.dated (g .d) e .1) (c .before .before .before .before .before .before .before .wide .ensures .0) (c .before .before .before .before .before .wide2 .ensures .0) in
+    Steps.gives (g .index .now) (s .pre) (g .d) (g .d) _ (Steps.dated (g .d) e .0) z (g .out .now) _ _ _ _ (Steps.day-in (g .index .now) (g .d) (g .out .now) e) (c .before .before .before .answer .ensures) (c .told .ensures)
 
 pub day-spec : {M : Type 1} → statement M
 day-spec =
@@ -65,5 +68,6 @@ day-spec =
     element-copy-out-wide
     wide-requires-2
     answer-requires
+    told-requires
     same-length
     returns-2)

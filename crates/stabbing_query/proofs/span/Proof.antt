@@ -62,16 +62,19 @@ answer-requires c κs =
     let y : calendar (g .b) ≡ true = sym (c .before .before .before .before .is-day2 .ensures) ∙ not-false _ (c .before .before .before .if2 .left) in
     Steps.asks-walk (g .index .now) (s .pre) (g .b) (g .a) _ (Steps.dated (g .a) x .0) (c .before .span-start .ensures)
 
+told-requires : tie.Need-told-requires
+told-requires c κs = search needs
+
 same-length : tie.Need-same-length
 same-length c = search needs
 
 returns-4 : tie.Need-returns-4
 returns-4 c =
-    let s = c .before .before .before .before .before .before .before .before .before .before .before in
+    let s = c .before .before .before .before .before .before .before .before .before .before .before .before in
     let g = s .args in
-    let x : calendar (g .a) ≡ true = sym (c .before .before .before .before .before .before .before .before .before .is-day .ensures) ∙ not-false _ (c .before .before .before .before .before .before .before .before .if1 .left) in
-    let y : calendar (g .b) ≡ true = sym (c .before .before .before .before .before .before .before .is-day2 .ensures) ∙ not-false _ (c .before .before .before .before .before .before .if2 .left) in
-    Steps.gives (g .index .now) (s .pre) (g .b) (g .a) _ (Steps.dated (g .a) x .0) (c .before .before .before .before .span-start .ensures) (g .out .now) _ _ _ (Steps.span-in (g .index .now) (g .a) (g .b) (g .out .now) x y (c .before .before .before .before .before .if3 .left)) (c .before .before .answer .ensures)
+    let x : calendar (g .a) ≡ true = sym (c .before .before .before .before .before .before .before .before .before .before .is-day .ensures) ∙ not-false _ (c .before .before .before .before .before .before .before .before .before .if1 .left) in
+    let y : calendar (g .b) ≡ true = sym (c .before .before .before .before .before .before .before .before .is-day2 .ensures) ∙ not-false _ (c .before .before .before .before .before .before .before .if2 .left) in
+    Steps.gives (g .index .now) (s .pre) (g .b) (g .a) _ (Steps.dated (g .a) x .0) (c .before .before .before .before .before .span-start .ensures) (g .out .now) _ _ _ _ (Steps.span-in (g .index .now) (g .a) (g .b) (g .out .now) x y (c .before .before .before .before .before .before .if3 .left)) (c .before .before .before .answer .ensures) (c .told .ensures)
 
 pub span-spec : {M : Type 1} → statement M
 span-spec =
@@ -87,5 +90,6 @@ span-spec =
     returns-3
     span-start-requires
     answer-requires
+    told-requires
     same-length
     returns-4)
