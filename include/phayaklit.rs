@@ -178,6 +178,11 @@ impl<'a> Service<'a> {
         accepted(reply.refusal).map(|()| reply.length)
     }
 
+    /// The words of the block, as the calls left them.
+    pub fn words(&self) -> &[u16] {
+        self.0
+    }
+
     /// The block, given back to the host.
     pub fn into_words(self) -> &'a mut [u16] {
         self.0

@@ -38,6 +38,15 @@ impl Archive {
     fn published(&mut self) -> Published<'_> {
         self.both().1.published()
     }
+
+    /// Makes an edit. A refused one must leave the service's block as it was, word for word.
+    fn edit(&mut self, call: impl FnOnce(&mut Service<'static>) -> Result<(), Refusal>) -> u16 {
+        let service = self.service();
+        let before = service.words().to_vec();
+        let refusal = number(call(service));
+        assert!(refusal == 0 || service.words() == before, "a refused edit changed the service's words");
+        refusal
+    }
 }
 
 fn number(result: Result<(), Refusal>) -> u16 {
@@ -70,19 +79,19 @@ impl Target for Archive {
     }
 
     fn enter(&mut self, spell: Spell) -> u16 {
-        number(self.service().enter(spell))
+        self.edit(|service| service.enter(spell))
     }
 
     fn amend(&mut self, spell: Spell) -> u16 {
-        number(self.service().amend(spell))
+        self.edit(|service| service.amend(spell))
     }
 
     fn strike(&mut self, spell: u16) -> u16 {
-        number(self.service().strike(spell))
+        self.edit(|service| service.strike(spell))
     }
 
     fn take_back(&mut self) -> u16 {
-        number(self.service().take_back())
+        self.edit(|service| service.take_back())
     }
 
     fn publish(&mut self) -> u16 {
