@@ -1,19 +1,23 @@
 -- A call on the service of a block of words is a call on the block. Assumes nothing.
-use mathlib.Core.Path.{_≡_}
+use mathlib.Core.Path.{_≡_, sym, ap, _∙_}
 use mathlib.Core.List.{List}
 use Prim.Native.Nat.{ℕ}
 use Rattle.model.specs.declared.Call.{Call}
 use Rattle.standing.specs.declared.Standing.{Standing}
 use Rattle.standing.specs.Standing.{Wf}
-use Rattle.standing.specs.Packed.{unpacked}
+use Rattle.standing.specs.Packed.{packed, unpacked, Packs}
 use Rattle.service.specs.declared.Stepped.{Stepped}
 use Rattle.service.specs.Service.{Changed, Publishes}
 use Rattle.phayaklit.specs.declared.Reply.{Reply}
-use Rattle.phayaklit.specs.Host.{Held, outcomeOf, steppedOf}
+use Rattle.phayaklit.specs.Host.{Held, Laid, outcomeOf, steppedOf}
 
 -- the service of words that the calls gave is one that they gave
 pub held : (words : List ℕ) (sv : Standing) → sv ≡ unpacked words → Held words → Wf sv
 held words sv e h = rw e h
+
+-- what is packed is laid out, word for word
+pub laid : (words : List ℕ) (sv : Standing) → Packs sv words → Laid words
+laid words sv p = p .words ∙ ap packed (sym (p .back))
 
 -- an edit of the service of the words, packed again
 pub edited : (words words′ : List ℕ) (sv : Standing) (c : Call) (r : Stepped) (x : Reply) → sv ≡ unpacked words → steppedOf words′ x ≡ r → Changed sv c r

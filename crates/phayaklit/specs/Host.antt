@@ -1,10 +1,11 @@
 -- What a host's structs and words stand for. Assumes nothing.
 use Prim.Native.Nat.{ℕ}
+use mathlib.Core.Path.{_≡_}
 use mathlib.Core.List.{List}
 use Rattle.spell.specs.declared.Spell.{Spell}
 use Rattle.packing.specs.Words.{urgencyOf}
 use Rattle.standing.specs.Standing.{Wf}
-use Rattle.standing.specs.Packed.{unpacked}
+use Rattle.standing.specs.Packed.{packed, unpacked}
 use Rattle.service.specs.declared.Outcome.{Outcome}
 use Rattle.service.specs.declared.Stepped.{Stepped}
 use Rattle.service.specs.declared.Started.{Started}
@@ -15,6 +16,10 @@ use Rattle.phayaklit.specs.declared.Opened.{Opened}
 -- the words of a service that the calls gave
 abbrev pub Held : List ℕ → Type 0
 Held words = Wf (unpacked words)
+
+-- every word of a block that a call wrote: the words are those of the service that they hold
+abbrev pub Laid : List ℕ → Type 0
+Laid words = words ≡ packed (unpacked words)
 
 -- the spell that a host gives
 abbrev pub spellIn : Entry → Spell

@@ -8,7 +8,7 @@ ghost use Rattle.register.specs.Text.{readText};
 ghost use Rattle.standing.specs.Standing.{Wf};
 ghost use Rattle.standing.specs.Packed.{unpacked};
 ghost use Rattle.service.specs.Service.{Represents, Published, Changed, Publishes, Asked, Wrote, Begins};
-ghost use Rattle.phayaklit.specs.Host.{Held, spellIn, outcomeOf, steppedOf, startedOf};
+ghost use Rattle.phayaklit.specs.Host.{Held, Laid, spellIn, outcomeOf, steppedOf, startedOf};
 use model::Call;
 use service::Outcome;
 use service::Stepped;
@@ -73,6 +73,7 @@ fn answered(o: Outcome) -> Reply
 fn put_back(r: Stepped, words: &mut [u16; SERVICE]) -> Reply
     requires { ⌜ Wf (r .service) ⌝ }
     ensures { λ x. ⌜ steppedOf (now (words .exit)) x ≡ r ⌝ }
+    ensures { λ _. ⌜ Laid (now (words .exit)) ⌝ }
 {
     let service = r.service;
     let outcome = r.outcome;
@@ -86,6 +87,7 @@ fn put_back(r: Stepped, words: &mut [u16; SERVICE]) -> Reply
 #[no_mangle]
 pub extern "C" fn phayaklit_fresh(words: &mut [u16; SERVICE], index: &mut [u16; INDEX])
     ensures { λ _. ⌜ Represents (unpacked (now (words .exit))) (now (index .exit)) fresh ⌝ }
+    ensures { λ _. ⌜ Laid (now (words .exit)) ⌝ }
 {
     let service = service::fresh(index);
     standing::words::pack(service, words);
@@ -99,6 +101,7 @@ pub extern "C" fn phayaklit_read(
     index: &mut [u16; INDEX],
 ) -> Opened
     ensures { λ r. ⌜ Begins (readText (now (text .entry))) (startedOf (now (words .exit)) r) (now (index .exit)) ⌝ }
+    ensures { λ _. ⌜ Laid (now (words .exit)) ⌝ }
 {
     let got = service::read(text, index);
     let service = got.service;
@@ -116,6 +119,7 @@ pub extern "C" fn phayaklit_read(
 pub extern "C" fn phayaklit_enter(words: &mut [u16; SERVICE], entry: Entry) -> Reply
     requires { ⌜ Held (now words) ⌝ }
     ensures { λ r. ⌜ Changed (unpacked (now (words .entry))) (Call.Enter (spellIn entry)) (steppedOf (now (words .exit)) r) ⌝ }
+    ensures { λ _. ⌜ Laid (now (words .exit)) ⌝ }
 {
     let service = standing::words::unpack(words);
     put_back(service::enter(service, spell_in(entry)), words)
@@ -126,6 +130,7 @@ pub extern "C" fn phayaklit_enter(words: &mut [u16; SERVICE], entry: Entry) -> R
 pub extern "C" fn phayaklit_amend(words: &mut [u16; SERVICE], entry: Entry) -> Reply
     requires { ⌜ Held (now words) ⌝ }
     ensures { λ r. ⌜ Changed (unpacked (now (words .entry))) (Call.Amend (spellIn entry)) (steppedOf (now (words .exit)) r) ⌝ }
+    ensures { λ _. ⌜ Laid (now (words .exit)) ⌝ }
 {
     let service = standing::words::unpack(words);
     put_back(service::amend(service, spell_in(entry)), words)
@@ -136,6 +141,7 @@ pub extern "C" fn phayaklit_amend(words: &mut [u16; SERVICE], entry: Entry) -> R
 pub extern "C" fn phayaklit_strike(words: &mut [u16; SERVICE], number: u16) -> Reply
     requires { ⌜ Held (now words) ⌝ }
     ensures { λ r. ⌜ Changed (unpacked (now (words .entry))) (Call.Strike number) (steppedOf (now (words .exit)) r) ⌝ }
+    ensures { λ _. ⌜ Laid (now (words .exit)) ⌝ }
 {
     let service = standing::words::unpack(words);
     put_back(service::strike(service, number), words)
@@ -146,6 +152,7 @@ pub extern "C" fn phayaklit_strike(words: &mut [u16; SERVICE], number: u16) -> R
 pub extern "C" fn phayaklit_take_back(words: &mut [u16; SERVICE]) -> Reply
     requires { ⌜ Held (now words) ⌝ }
     ensures { λ r. ⌜ Changed (unpacked (now (words .entry))) Call.TakeBack (steppedOf (now (words .exit)) r) ⌝ }
+    ensures { λ _. ⌜ Laid (now (words .exit)) ⌝ }
 {
     let service = standing::words::unpack(words);
     put_back(service::take_back(service), words)

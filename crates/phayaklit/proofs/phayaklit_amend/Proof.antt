@@ -20,7 +20,7 @@ returns : tie.Need-returns
 returns c =
     let asked = c .before .before in
     let given = asked .before in
-    edited _ _ _ _ _ _ (given .before .unpack .ensures) (c .put-back .ensures) (rw (← given .spell-in .ensures) (asked .amend .ensures))
+    (edited _ _ _ _ _ _ (given .before .unpack .ensures) (c .put-back .ensures .0) (rw (← given .spell-in .ensures) (asked .amend .ensures)), c .put-back .ensures .1)
 
 pub phayaklit-amend-spec : {M : Type 1} → statement M
 phayaklit-amend-spec =

@@ -1,5 +1,6 @@
 -- `phayaklit::phayaklit_read` meets its contract. Assumes nothing.
 use borrow.Author.Needs.{needs}
+use Rattle.phayaklit.proofs.Host.{laid}
 use Rattle.phayaklit.proofs.phayaklit_read.Statement.{statement}
 use Rattle.phayaklit.proofs.phayaklit_read.Tie as tie
 
@@ -10,7 +11,7 @@ pack-requires : tie.Need-pack-requires
 pack-requires c κs = search needs
 
 returns : tie.Need-returns
-returns c = rw (c .pack .ensures .back) (c .before .before .before .read .ensures)
+returns c = (rw (c .pack .ensures .back) (c .before .before .before .read .ensures), laid _ _ (c .pack .ensures))
 
 pub phayaklit-read-spec : {M : Type 1} → statement M
 phayaklit-read-spec = tie.close (tie.spec read-requires pack-requires returns)

@@ -16,7 +16,7 @@ put-back-requires c κs = search needs
 returns : tie.Need-returns
 returns c =
     let asked = c .before .before in
-    edited _ _ _ _ _ _ (asked .before .unpack .ensures) (c .put-back .ensures) (asked .take-back .ensures)
+    (edited _ _ _ _ _ _ (asked .before .unpack .ensures) (c .put-back .ensures .0) (asked .take-back .ensures), c .put-back .ensures .1)
 
 pub phayaklit-take-back-spec : {M : Type 1} → statement M
 phayaklit-take-back-spec =
