@@ -1,6 +1,9 @@
 -- What the library is for: whoever makes the calls, through the exported functions and on words that a host lent, the answers
 -- are the account's. Assumes nothing.
-use mathlib.Core.Path.{_≡_}
+use mathlib.Core.Path.{_≡_, sym, ap, _∙_}
+use mathlib.Core.Bool.{false}
+use lib.Dec.{eqb}
+use Rattle.refusal.specs.Table.{accepted}
 use mathlib.Core.List.{List}
 use Prim.Native.Nat.{ℕ}
 use Rattle.register.specs.Text.{readText}
@@ -11,18 +14,24 @@ use Rattle.standing.specs.declared.Standing.{Standing}
 use Rattle.standing.specs.Standing.{Wf}
 use Rattle.standing.specs.Packed.{packed, unpacked}
 use Rattle.standing.proofs.Claims.{packing-identity}
-use Rattle.service.specs.Service.{Represents, Given, Met, Begins}
+use Rattle.model.specs.declared.Call.{Call}
+use Rattle.service.specs.Service.{Represents, Given, Met, Changed, Begins}
 use Rattle.replay.specs.History as history
 use Rattle.replay.proofs.Claims.{made-run, made-given}
 use Rattle.phayaklit.specs.declared.Reply.{Reply}
 use Rattle.phayaklit.specs.declared.Opened.{Opened}
-use Rattle.phayaklit.specs.Host.{steppedOf, startedOf}
+use Rattle.phayaklit.specs.Host.{Laid, steppedOf, startedOf}
 use Rattle.phayaklit.specs.History.{Called, edited, published, wrote, asked, Hosted, none, then}
 
 -- PACKING IS THE IDENTITY: the words of a standing list read back as it. `pack` ensures it of every one that it is given.
 pub packed-back : (st : Standing) → Wf st → Every (λ s. Narrow (s .urgency)) (st .spells) → Every (λ e. Narrow (e .spell .urgency)) (st .journal)
     → unpacked (packed st) ≡ st
 packed-back = packing-identity
+
+-- A REFUSED EDIT leaves the host's words as they were, word for word
+pub refused-keeps-words : {words words′ : List ℕ} {c : Call} {r : Reply} → Laid words → Laid words′
+    → Changed (unpacked words) c (steppedOf words′ r) → eqb (r .refusal) accepted ≡ false → words′ ≡ words
+refused-keeps-words a b d t = b ∙ ap packed (d .kept t) ∙ sym a
 
 -- EACH EXPORTED CALL is a step of the service that the words hold
 pub called-met : {words words′ ix ix′ numbers text : List ℕ} {q : Request} {r : Reply} → Called words ix q r words′ ix′ numbers text

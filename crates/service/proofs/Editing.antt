@@ -1,7 +1,7 @@
 -- From an edit of the standing list to the postcondition of the call. Assumes nothing.
 use Prim.Native.Nat.{ℕ}
 use mathlib.Core.Path.{_≡_, refl, sym, ap, _∙_, subst}
-use mathlib.Core.Bool.{Bool, true, false, cond}
+use mathlib.Core.Bool.{Bool, true, false, cond, false≢true}
 use mathlib.Core.List.{List, [], _∷_}
 use borrow.Author.Tests.{eqb-true}
 use lib.Dec.{eqb}
@@ -23,13 +23,14 @@ abbrev pub steppedOf : Edited → Stepped
 steppedOf e = record { service = e .standing; outcome = record { refusal = e .refusal; count = 0; comparisons = 0; length = 0 } }
 
 -- a result that answers and represents as the account does, whatever stands beside it
-changed : (sv : Standing) (c : Call) (e : Edited) → Wf (e .standing)
+changed : (sv : Standing) (c : Call) (e : Edited) → Wf (e .standing) → (eqb (e .refusal) accepted ≡ false → e .standing ≡ sv)
     → ((m : State) (ix days numbers text : List ℕ) → Represents sv ix m
     → (answerOf (steppedOf e .outcome) numbers text ≡ stepOf c m (asking c days numbers text) .answer)
     × Represents (e .standing) ix (stepOf c m (asking c days numbers text) .state))
     → Changed sv c (steppedOf e)
-changed sv c e w f = record {
+changed sv c e w kept f = record {
   wf = w;
+  kept = kept;
   met = λ ix days numbers text g. record {
     given = record { wf = w; published = g .published };
     answer = λ m h. f m ix days numbers text h .0;
@@ -46,7 +47,7 @@ module _ (sv : Standing) (c : Call) (e : Edited) (n : List Spell → ℕ) (f : L
     (is : (m : State) (q : Request) → stepOf c m q ≡ edit (n (m .standing)) (f (m .standing)) m q)
     (d : Edits sv e (n (listOf sv)) (f (listOf sv))) where
   pub edit-changed : Changed sv c (steppedOf e)
-  edit-changed = changed sv c e (d .wf) (λ m ix days numbers text h.
+  edit-changed = changed sv c e (d .wf) (λ t. d .kept (sym (ap (λ (k : ℕ). eqb k accepted) (d .refusal)) ∙ t)) (λ m ix days numbers text h.
       let q = asking c days numbers text in
       let k : ℕ = n (listOf sv) in
       let here : edit (n (m .standing)) (f (m .standing)) m q ≡ edit k (f (listOf sv)) m q = rw (h .standing) in
@@ -83,9 +84,16 @@ unfolding stepOf
 strike-changed sv k e d = edit-changed sv (Strike k) e (λ l. strikeRefusal l k) (remove k) (λ m q. refl) d
 
 -- ---- Take back
+
+-- it is refused where there is no past
+no-past : (past : List (List Spell)) → eqb (takeBackRefusal past) accepted ≡ false → past ≡ []
+unfolding takeBackRefusal
+no-past [] t = refl
+no-past (l ∷ past) t = absurd (false≢true (sym t))
+
 pub back-changed : (sv : Standing) (e : Edited) → TakesBack sv e → Changed sv TakeBack (steppedOf e)
 unfolding stepOf takeBack takeBackRefusal frontOr restOf
-back-changed sv e d = changed sv TakeBack e (d .wf) (λ m ix days numbers text h.
+back-changed sv e d = changed sv TakeBack e (d .wf) (λ t. d .kept (no-past (pasts sv) (sym (ap (λ (k : ℕ). eqb k accepted) (d .refusal)) ∙ t))) (λ m ix days numbers text h.
     let q = asking TakeBack days numbers text in
     subst (λ (x : After). (answerOf (steppedOf e .outcome) numbers text ≡ x .answer) × Represents (e .standing) ix (x .state))
     (ap (λ (past : List (List Spell)). takeBack past m q) (h .past))

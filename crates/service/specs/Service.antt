@@ -1,6 +1,9 @@
 -- How a service and its index stand for the account's state, and the one postcondition of a call. Assumes nothing.
 use Prim.Native.Nat.{ℕ}
 use mathlib.Core.Path.{_≡_}
+use mathlib.Core.Bool.{false}
+use lib.Dec.{eqb}
+use Rattle.refusal.specs.Table.{accepted}
 use mathlib.Core.List.{List, map}
 use Rattle.spell.specs.declared.Spell.{Spell}
 use Rattle.spell.specs.Listing.{Good}
@@ -67,9 +70,11 @@ pub record Met (sv : Standing) (ix : List ℕ) (q : Request) (r : Stepped) (ix�
   pub answer : (m : State) → Represents sv ix m → answerOf (r .outcome) numbers text ≡ step m q .answer
   pub after : (m : State) → Represents sv ix m → Represents (r .service) ix′ (step m q .state)
 
--- the same of an edit or a take back, which is lent nothing: whatever index and lists stand beside it, they are as they were
+-- the same of an edit or a take back, which is lent nothing: whatever index and lists stand beside it, they are as they were; and where
+-- it is refused, so is the service
 pub record Changed (sv : Standing) (c : Call) (r : Stepped) : Type 0 where
   pub wf : Wf (r .service)
+  pub kept : eqb (r .outcome .refusal) accepted ≡ false → r .service ≡ sv
   pub met : (ix days numbers text : List ℕ) → Given sv ix → Met sv ix (asking c days numbers text) r ix numbers text
 
 -- the same of publish, whatever the index held before; the service is as it was
