@@ -45,7 +45,7 @@ extern "C" {
 #define PHAYAKLIT_INDEX_WORDS 83779
 
 /* More stack than any call takes. */
-#define PHAYAKLIT_STACK_BYTES 524288
+#define PHAYAKLIT_STACK_BYTES 262144
 
 /* Limits: the standing spells, the lists in the past, the calendar's last day, the bytes of a register that is read, and the
  * bytes that the largest register takes when it is written. A list of PHAYAKLIT_SPELLS places is never too short. */

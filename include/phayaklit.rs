@@ -12,7 +12,7 @@ pub const SERVICE_WORDS: usize = 7746;
 pub const INDEX_WORDS: usize = 83_779;
 
 /// More stack than any call takes.
-pub const STACK_BYTES: usize = 524_288;
+pub const STACK_BYTES: usize = 262_144;
 
 /// The most spells that stand: a list of so many places is never too short.
 pub const SPELLS: usize = 1024;
@@ -193,6 +193,11 @@ impl<'a> Index<'a> {
     /// The published list, to ask.
     pub fn published(&self) -> Published<'_> {
         Published(self.0)
+    }
+
+    /// The words of the block, as the calls left them.
+    pub fn words(&self) -> &[u16] {
+        self.0
     }
 
     /// The block, given back to the host.

@@ -158,18 +158,24 @@ mod tests {
         assert_eq!(shared.day(9, &mut []), Err(Refusal::SHORT_BUFFER));
     }
 
-    /// All days asked of a list whose walks are the deepest, in a thread with the least stack that a host may give.
+    /// A full register read, edited, published and written, and all days asked of a list whose walks are the deepest, in a thread
+    /// with the least stack that a host may give.
     #[test]
-    fn the_deepest_question_has_stack_enough() {
+    fn the_deepest_calls_have_stack_enough() {
         let nested = (1..SPELLS).map(|at| format!("{at}\t1\t{at}\t3999\tG\t1\n"));
         let text: String = nested.chain([format!("{SPELLS}\t1\t{SPELLS}\t4000\tG\t1\n")]).collect();
-        let begun = phayaklit::read(text.as_bytes(), words(SERVICE_WORDS), words(INDEX_WORDS));
-        let (service, mut index, read) = begun.expect(LENGTHS);
-        assert_eq!(read, Ok(()));
-        service.publish(&mut index);
-        let all: Vec<u16> = (1..=4000).collect();
-        let ask = move || index.published().days(&all, words(SPELLS)).map(|listed| listed.count);
-        let asking = std::thread::Builder::new().stack_size(STACK_BYTES).spawn(ask).expect("a thread");
-        assert_eq!(asking.join().expect("it comes back"), Ok(SPELLS));
+        let calls = move || {
+            let begun = phayaklit::read(text.as_bytes(), words(SERVICE_WORDS), words(INDEX_WORDS));
+            let (mut service, mut index, read) = begun.expect(LENGTHS);
+            assert_eq!(read, Ok(()));
+            assert_eq!(service.strike(1), Ok(()));
+            assert_eq!(service.take_back(), Ok(()));
+            service.publish(&mut index);
+            assert_eq!(service.write(&mut vec![0; text.len()]), Ok(text.len()));
+            let all: Vec<u16> = (1..=4000).collect();
+            index.published().days(&all, words(SPELLS)).map(|listed| listed.count)
+        };
+        let calling = std::thread::Builder::new().stack_size(STACK_BYTES).spawn(calls).expect("a thread");
+        assert_eq!(calling.join().expect("it comes back"), Ok(SPELLS));
     }
 }

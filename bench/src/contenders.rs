@@ -9,6 +9,8 @@ use std::ffi::c_void;
 pub trait Lists {
     fn day(&mut self, d: u16, out: &mut [u16]) -> usize;
     fn span(&mut self, a: u16, b: u16, out: &mut [u16]) -> usize;
+    /// Brings what it goes by into the near cache, without asking.
+    fn warm(&self) {}
 }
 
 /// Goes through all pairs of days.

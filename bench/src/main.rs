@@ -112,7 +112,7 @@ fn looks(case: &Case) -> String {
 
 fn report_questions(options: &Options, workloads: &[Workload], kind: &str, length: u16) {
     let asked = questions(options, length);
-    let case = |workload: &Workload| Case { rows: workload.rows.clone(), questions: asked.clone() };
+    let case = |workload: &Workload| Case { rows: workload.rows.clone(), questions: asked.clone(), warm: false };
     let cases: Vec<Case> = workloads.iter().map(case).collect();
     let taken = measure(&cases, options.rounds);
     println!("\n## {kind}, 1,024 spells\n\nNanoseconds a question:");
@@ -125,20 +125,34 @@ fn report_questions(options: &Options, workloads: &[Workload], kind: &str, lengt
     print_by_workload(workloads, &taken, ratios(workloads, &taken));
 }
 
-/// The nanoseconds for each listed row at lists of 64 to 1,024 rows of which a day lists the same number.
-fn report_growth(options: &Options, mean: f64) {
+/// The sizes of the lists over which growth is told.
+const SIZES: [usize; 5] = [64, 128, 256, 512, ROWS];
+
+/// The nanoseconds for each listed row at lists of each size of which a day lists the same number: one list of a size, or as many
+/// as make 1,024 rows, among which the questions are shared out.
+fn report_growth(options: &Options, mean: f64, many: bool) {
+    let lists = |size| if many { ROWS / size } else { 1 };
     let days = questions(options, 1);
-    let case = |count| Case { rows: rows_listing(options.seed, count, mean), questions: days.clone() };
-    let taken = measure(&[64, 128, 256, 512, 1024].map(case), options.rounds);
+    let case = |size, list: usize| {
+        let part = days.len() / lists(size);
+        let rows = rows_listing(options.seed + list as u64, size, mean);
+        Case { rows, questions: days[list * part..][..part].to_vec(), warm: many }
+    };
+    let cases: Vec<Case> = SIZES.iter().flat_map(|&size| (0..lists(size)).map(move |list| case(size, list))).collect();
+    let mut taken = measure(&cases, options.rounds).into_iter();
+    let by_size: Vec<Vec<Taken>> = SIZES.iter().map(|&size| taken.by_ref().take(lists(size)).collect()).collect();
     let row = |name: &str| {
-        let each: Vec<f64> = taken.iter().map(|taken| taken.of(name) / taken.listed).collect();
+        let sum = |taken: &[Taken], of: &dyn Fn(&Taken) -> f64| taken.iter().map(|taken| taken.asked * of(taken)).sum::<f64>();
+        let each: Vec<f64> =
+            by_size.iter().map(|taken| sum(taken, &|taken| taken.of(name)) / sum(taken, &|taken| taken.listed)).collect();
         let growth = each.iter().copied().fold(0.0, f64::max) / each.iter().copied().fold(f64::MAX, f64::min);
         let factor = format!("{growth:.2}{}", mark(name != PROVED || growth <= 1.5));
         let cells = each.iter().map(|each| format!("{each:.1}")).chain([factor]);
         (name.to_string(), cells.collect())
     };
-    let rows: Vec<_> = taken[0].nanoseconds.iter().map(|(name, _)| row(name)).collect();
-    println!("\nAbout {mean} spells listed a day, nanoseconds a listed spell:");
+    let rows: Vec<_> = by_size[0][0].nanoseconds.iter().map(|(name, _)| row(name)).collect();
+    let lists = if many { "as many registers of each size as make 1,024 spells" } else { "one register of each size" };
+    println!("\nAbout {mean} spells listed a day, {lists}, nanoseconds a listed spell:");
     table::print(&["", "n = 64", "128", "256", "512", "1,024", "largest / smallest, at most 1.5"], &rows);
 }
 
@@ -155,8 +169,9 @@ fn main() {
     report_questions(&options, &workloads, "Day questions", 1);
     report_questions(&options, &workloads, "Span questions of 2 days", SPAN);
     println!("\n## Growth, day questions");
-    report_growth(&options, 1.0);
-    report_growth(&options, 15.0);
+    for (mean, many) in [(1.0, false), (15.0, false), (1.0, true), (15.0, true)] {
+        report_growth(&options, mean, many);
+    }
     calls::report(&workloads[4].rows, 10 * options.rounds);
     report_bytes();
 }

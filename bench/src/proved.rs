@@ -3,6 +3,7 @@
 use crate::contenders::Lists;
 use crate::phayaklit::{self, Index, Listed, Service};
 use crate::rows::{text_of, Row};
+use std::hint::black_box;
 
 /// A service in blocks that live as long as the program.
 pub struct Proved {
@@ -38,5 +39,10 @@ impl Lists for Proved {
 
     fn span(&mut self, a: u16, b: u16, out: &mut [u16]) -> usize {
         self.index.published().span(a, b, out).map_or(0, |listed| listed.count)
+    }
+
+    /// A day question reads the columns and the starts of the days, which stand first in the block.
+    fn warm(&self) {
+        black_box(self.index.words()[..14_241].iter().fold(0, |sum: u16, &word| sum.wrapping_add(word)));
     }
 }

@@ -13,10 +13,11 @@ use std::time::Instant;
 /// A question for the days a to b; a day question has both equal.
 pub type Question = (u16, u16);
 
-/// A list of rows, and the questions put to it.
+/// A list of rows, and the questions put to it; `warm` is whether contenders bring what they go by near before they are timed.
 pub struct Case {
     pub rows: Vec<Row>,
     pub questions: Vec<Question>,
+    pub warm: bool,
 }
 
 /// The number of questions timed at once.
@@ -27,6 +28,7 @@ pub trait Contender {
     fn name(&self) -> &'static str;
     fn answers(&mut self, questions: &[Question]) -> Vec<Vec<u16>>;
     fn time(&mut self, questions: &[Question]) -> f64;
+    fn warm(&self);
 }
 
 struct Named<L>(&'static str, L);
@@ -64,6 +66,10 @@ impl<L: Lists> Contender for Named<L> {
         }
         begin.elapsed().as_nanos() as f64
     }
+
+    fn warm(&self) {
+        self.1.warm();
+    }
 }
 
 pub const PROVED: &str = "proved library";
@@ -85,8 +91,10 @@ fn contenders(rows: &[Row]) -> Vec<Box<dyn Contender>> {
     ]
 }
 
-/// What a list of questions took: for each contender the nanoseconds a question, and how many rows one lists in the mean.
+/// What a list of questions took: for each contender the nanoseconds a question, how many were asked, and how many rows one lists in
+/// the mean.
 pub struct Taken {
+    pub asked: f64,
     pub listed: f64,
     pub nanoseconds: Vec<(&'static str, f64)>,
 }
@@ -112,6 +120,7 @@ type Times = Vec<Vec<f64>>;
 /// A case under way: its contenders with the times that they have taken.
 struct Course<'a> {
     stretches: Vec<&'a [Question]>,
+    warm: bool,
     listed: usize,
     contenders: Vec<Box<dyn Contender>>,
     times: Vec<Times>,
@@ -123,12 +132,15 @@ impl Course<'_> {
         let listed = agree(&mut contenders, &case.questions);
         let stretches: Vec<&[Question]> = case.questions.chunks(STRETCH).collect();
         let times = vec![vec![Vec::new(); stretches.len()]; contenders.len()];
-        Course { stretches, listed, contenders, times }
+        Course { stretches, warm: case.warm, listed, contenders, times }
     }
 
     /// Lets all contenders take part, one after the other.
     fn round(&mut self) {
         for (contender, times) in self.contenders.iter_mut().zip(&mut self.times) {
+            if self.warm {
+                contender.warm();
+            }
             for (stretch, times) in self.stretches.iter().zip(times) {
                 times.push(contender.time(stretch));
             }
@@ -140,7 +152,7 @@ impl Course<'_> {
         let a_question = |times: Times| times.into_iter().map(median).sum::<f64>() / asked;
         let names = self.contenders.iter().map(|contender| contender.name());
         let nanoseconds = names.zip(self.times.into_iter().map(a_question)).collect();
-        Taken { listed: self.listed as f64 / asked, nanoseconds }
+        Taken { asked, listed: self.listed as f64 / asked, nanoseconds }
     }
 }
 

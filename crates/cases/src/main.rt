@@ -4,9 +4,15 @@
 // again with just as many places as it lists and with one less; the sums are of the first of these, the checksum is of all
 // three: refusal, count, comparisons, the numbers listed, and the place after them, which must hold what it held.
 use libc::STDOUT_FILENO;
+use stabbing::BY_NUMBER;
 use stabbing::INDEX;
 use stabbing::Listed;
-ghost use Rattle.stabbing.specs.Index.{Built};
+use stabbing::ROWS;
+ghost use Prim.Native.Nat.{_<_};
+ghost use mathlib.Core.Path.{_≡_};
+ghost use mathlib.Core.Bool.{true};
+ghost use Rattle.cases.specs.Own.{Own};
+ghost use Rattle.stabbing.specs.Index.{rows, Built};
 
 // What every place of a list holds before it is lent.
 const MARK: u16 = 60001;
@@ -26,6 +32,13 @@ fn plus(a: u64, b: u64) -> u64 {
 
 fn wide(x: u16) -> u64 {
     x as u64
+}
+
+fn place(x: u16) -> usize
+    ensures { λ r. ⌜ r ≡ x ⌝ }
+    ensures { λ r. ⌜ r < 65536 ⌝ }
+{
+    x as usize
 }
 
 // ---- The checksum
@@ -333,6 +346,22 @@ fn ask_all(name: &[u8], index: &[u16; INDEX], number: &[u16; 1024], n: usize, fa
     ask_several(name, index, far);
 }
 
+// Whether the table by number leads from the number of each row to that row: a number that two rows have leads to one of them.
+fn own_numbers(index: &[u16; INDEX]) -> bool
+    ensures { λ r. ⌜ (r ≡ true → Own (now (index .entry)) (rows (now (index .entry)))) ⌝ }
+{
+    let n = place(index[ROWS]);
+    let mut p: usize = 0;
+    while p < n {
+        let number = place(index[p]);
+        if place(index[number + BY_NUMBER]) != p + 1 {
+            return false;
+        }
+        p += 1;
+    }
+    true
+}
+
 // The rows are taken into a checksum of their own, so that both accounts are seen to have the same.
 fn family(
     name: &[u8],
@@ -349,6 +378,10 @@ fn family(
     report_rows(name, n, c);
     if !stabbing_index::build(number, first, last, n, index) {
         print(b"refused\n");
+        return;
+    }
+    if !own_numbers(index) {
+        print(b"a number twice\n");
         return;
     }
     ask_all(name, index, number, n, far);

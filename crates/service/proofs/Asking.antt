@@ -21,7 +21,7 @@ use Rattle.model.proofs.Claims.{reads-keep}
 use Rattle.service.specs.declared.Outcome.{Outcome}
 use Rattle.service.specs.declared.Stepped.{Stepped}
 use Rattle.service.specs.Service.{indexOf, Shows, Represents, Published, Given, asking, answerOf, Met, Asked}
-use Rattle.service.proofs.Questions.{told, numbersOf, day-told, span-told, cover-told, days-told}
+use Rattle.service.proofs.Questions.{told, numbersOf, own, day-told, span-told, cover-told, days-told}
 use Rattle.service.proofs.Publishing.{rows-ok}
 
 -- ---- The rows of an index are those of the list that it shows
@@ -36,7 +36,7 @@ module _ (m : State) (ix : List ℕ) (s : Shows ix m) where
   few = omega (arith, length-map p (λ (x : Spell). x .first), s .good .few)
 
   pub shows-built : Built ix
-  shows-built = subst Built (sym (s .index)) (block.built-of (numbersOf p) (firstsOf p) (lastsOf p) few (rows-ok p (s .good)) same)
+  shows-built = subst Built (sym (s .index)) (block.built-of (numbersOf p) (firstsOf p) (lastsOf p) few (rows-ok p (s .good)) same (own p (s .good .unique)))
 
   pub shows-numbers : numbers ix ≡ numbersOf p
   shows-numbers = ap numbers (s .index) ∙ block.numbers-of (numbersOf p) (firstsOf p) (lastsOf p) few (rows-ok p (s .good)) same

@@ -15,7 +15,7 @@ use Rattle.spell.proofs.Entered.{both}
 use Rattle.stabbing.specs.Tree.{keep, fits, start, formula, below}
 use Rattle.stabbing.specs.Index.{named}
 use Rattle.stabbing.specs.Answer.{Outcome, refused, give, question, calendars, risingFrom, meets, containsAny, dayOf, spanOf, covering, coverOf, daysOf}
-use Rattle.stabbing.proofs.Marks.{by-test, by-mark, clash, Below, below-is}
+use Rattle.stabbing.proofs.Marks.{by-test, by-mark, clash, Below, below-is, below-own}
 use Rattle.model.specs.Questions.{reaches, onAny, daysOk, rising, filter, listed, firstsOf, lastsOf, comparisonsOf}
 use Rattle.model.specs.Model.{State, Request, Answer, After, refuse, give as giveNumbers, ask, day, span, cover, days}
 use Rattle.model.proofs.Bridge.{Agree, agree, rows-kept, fits-agree}
@@ -72,6 +72,9 @@ rising-days (d ∷ ds) h =
     rw (lt-ltb 0 d up, rising-from d ds)
 
 -- ---- The spell of a number
+number-at : (l : List Spell) (i : ℕ) → getD (numbersOf l) i 0 ≡ getD l i blank .number
+number-at l i = List·getD-map (λ (s : Spell). s .number) l i blank
+
 stands-at : (l : List Spell) (i : ℕ) → i < length l → stands l (getD l i blank .number) ≡ true
 unfolding stands
 stands-at [] i h = absurd (omega arith)
@@ -90,6 +93,13 @@ differ (x ∷ l) d zero j h k e = omega arith
 differ (x ∷ l) d (suc i) zero h k e =
     clash (stands-at l i (omega arith)) (rw e at (not-true (stands l (x .number)) (both (not (stands l (x .number))) (distinct l) d .0)))
 differ (x ∷ l) d (suc i) (suc j) h k e = differ l (both (not (stands l (x .number))) (distinct l) d .1) i j (omega arith) (omega arith) e
+
+-- so each number of a list with unique numbers leads to its own row
+pub own : (l : List Spell) → distinct l ≡ true → (p : ℕ) → p < length (firstsOf l)
+    → named (numbersOf l) (firstsOf l) (lastsOf l) (getD (numbersOf l) p 0) ≡ suc p
+unfolding named
+own l d = below-own (numbersOf l) (length (firstsOf l)) (λ i j h k e.
+    differ l d i j h (omega (arith, k, length-map l (λ (s : Spell). s .first))) (sym (number-at l j) ∙ e ∙ number-at l i))
 
 module _ (m : State) (q : Request) where
   give-told : (ns : List ℕ) (c : ℕ) → told (give ns c (q .numbers)) (q .text) ≡ giveNumbers ns c m q .answer
@@ -154,12 +164,9 @@ module _ (m : State) (q : Request) where
       let size : n ≡ length rows = length-map rows (λ (s : Spell). s .first) in
       let i : Below t n (below t n) = below-is t n in
       by-mark (below t n)
-      (λ z. rw (z, covering) (sym (ap (λ (x : After). x .answer) (cover-miss k rows (λ j h e. i .miss j (omega arith) (omega arith) (eq-eqb _ _ (at j ∙ e)))))))
+      (λ z. rw (z, covering) (sym (ap (λ (x : After). x .answer) (cover-miss k rows (λ j h e. i .miss j (omega arith) (omega arith) (eq-eqb _ _ (number-at rows j ∙ e)))))))
       (λ p z. rw (z, covering) (
-      let here : getD rows p blank .number ≡ k = sym (at p) ∙ eqb-true (getD (numbersOf rows) p 0) k (i .hit p z) in
+      let here : getD rows p blank .number ≡ k = sym (number-at rows p) ∙ eqb-true (getD (numbersOf rows) p 0) k (i .hit p z) in
       let inside : p < length rows = omega (arith, i .within) in
       rw (List·getD-map (λ (s : Spell). s .first) rows p blank, List·getD-map (λ (s : Spell). s .last) rows p blank) (question-told _ _)
       ∙ sym (ap (λ (x : After). x .answer) (cover-hit k rows p inside here (λ j h e. differ rows d p j h inside (e ∙ sym here))))))
-    where
-      at : (j : ℕ) → getD (numbersOf rows) j 0 ≡ getD rows j blank .number
-      at j = List·getD-map (λ (s : Spell). s .number) rows j blank

@@ -104,6 +104,7 @@ pub record Holds (ix ns fs ls : List ℕ) : Type 0 where
   pub starts : (d : ℕ) → d ≤ 4000 → getD ix (d + 10240) 0 ≡ start fs ls d d
   pub begun : (d : ℕ) → d ≤ 4000 → getD ix (d + 14241) 0 ≡ latest fs ls d
   pub by-number : (x : ℕ) → x < 65536 → getD ix (x + 18242) 0 ≡ below (λ p. eqb (getD ns p 0) x) (length fs)
+  pub own : (p : ℕ) → p < length fs → getD ns p 0 < 65536 → getD ix (getD ns p 0 + 18242) 0 ≡ suc p
 
 pub block-length : (ns fs ls : List ℕ) → length (blockOf ns fs ls) ≡ 83779
 unfolding blockOf
@@ -203,68 +204,82 @@ module _ (ns fs ls : List ℕ) (few : length fs ≤ 1024) where
   from₁₃ : (k : ℕ) → getD ix (k + 83778) 0 ≡ getD rest₁₃ k 0
   from₁₃ = next-column ix 18242 65536 _ _ from₁₂
 
-  word₀ : (k : ℕ) → k < 1024 → getD ix k 0 ≡ day ns k
+  -- the columns of the rows, the table by number, the count of rows
+  pub number-word : (k : ℕ) → k < 1024 → getD ix k 0 ≡ day ns k
   unfolding blockOf
-  word₀ k h = here 1024 _ _ k h
+  number-word k h = here 1024 _ _ k h
+
+  first-word : (k : ℕ) → k < 1024 → getD ix (k + 1024) 0 ≡ day fs k
+  first-word k h = from₁ k ∙ here 1024 _ _ k h
+
+  last-word : (k : ℕ) → k < 1024 → getD ix (k + 2048) 0 ≡ day ls k
+  last-word k h = from₂ k ∙ here 1024 _ _ k h
+
+  pub named-word : (x : ℕ) → x < 65536 → getD ix (x + 18242) 0 ≡ named ns fs ls x
+  named-word x h = from₁₂ x ∙ here 65536 _ _ x h
+
+  pub rows-of : rows ix ≡ length fs
+  rows-of = from₁₃ 0
+
+  -- a list that is as long as the rows are many, and whose words stand in the block from `off` on
+  read-back : (off : ℕ) (xs : List ℕ) → length xs ≡ length fs → off ≤ 2048 → ((k : ℕ) → k < 1024 → getD ix (k + off) 0 ≡ getD xs k 0) → take (rows ix) (drop off ix) ≡ xs
+  read-back off xs n h at =
+      let long : length (take (rows ix) (drop off ix)) ≡ length fs
+      = rw rows-of (length-take-le (length fs) (drop off ix) (omega (arith, length-drop off ix, block-length ns fs ls))) in
+      ext-getD 0 (take (rows ix) (drop off ix)) xs (long ∙ sym n) (λ k g.
+      let g′ : k < length fs = rw long at g in
+      let z : off + k ≡ k + off = omega arith in
+      getD-take (rows ix) (drop off ix) k 0 (rw rows-of g′) ∙ getD-drop off ix k 0 ∙ ap (λ (i : ℕ). getD ix i 0) z ∙ at k (omega arith))
 
   module _ (e : rowsOk fs ls ≡ true) (same : length ns ≡ length fs) where
-    -- what the questions read of it
-    pub holds : Holds ix ns fs ls
-    unfolding named
-    holds = record {
-      few = few;
-      named = same;
-      sorted = rows-sorted fs ls e;
-      begins = λ p h. rows-days fs ls e p h .0;
-      forward = λ p h. rows-days fs ls e p h .1;
-      ends = λ p h. rows-days fs ls e p h .2;
-      numbers = λ p h. word₀ p (omega arith);
-      firsts = λ p h. from₁ p ∙ here 1024 _ _ p (omega arith);
-      lasts = λ p h. from₂ p ∙ here 1024 _ _ p (omega arith);
-      parents = λ p h hp. from₃ p ∙ here 1024 _ _ p (omega arith) ∙ head-link (parent fs ls) p h hp;
-      lefts = λ p h hp. from₄ p ∙ here 1024 _ _ p (omega arith) ∙ head-link (leftSibling fs ls) p h hp;
-      left-lasts = λ p h hp. from₅ p ∙ here 1024 _ _ p (omega arith) ∙ ap (lastOf ls) (head-link (leftSibling fs ls) p h hp);
-      children = λ p h hp. from₆ p ∙ here 1024 _ _ p (omega arith) ∙ head-link (lastChild fs ls) p h hp;
-      child-lasts = λ p h hp. from₇ p ∙ here 1024 _ _ p (omega arith) ∙ ap (lastOf ls) (head-link (lastChild fs ls) p h hp);
-      nexts = λ p h. from₈ p ∙ here 1024 _ _ p (omega arith) ∙ row-link (next fs ls) p h;
-      next-lasts = λ p h. from₉ p ∙ here 1024 _ _ p (omega arith) ∙ ap (lastOf ls) (row-link (next fs ls) p h);
-      starts = λ d h. from₁₀ d ∙ here 4001 _ _ d (omega arith);
-      begun = λ d h. from₁₁ d ∙ here 4001 _ _ d (omega arith);
-      by-number = λ x h. from₁₂ x ∙ here 65536 _ _ x h;
-    }
-
-    pub rows-of : rows ix ≡ length fs
-    rows-of = from₁₃ 0
-
-    -- a list that is as long as the rows are many, and whose words stand in the block from `off` on
-    read-back : (off : ℕ) (xs : List ℕ) → length xs ≡ length fs → off ≤ 2048 → ((k : ℕ) → k < length fs → getD ix (k + off) 0 ≡ getD xs k 0) → take (rows ix) (drop off ix) ≡ xs
-    read-back off xs n h at =
-        let long : length (take (rows ix) (drop off ix)) ≡ length fs
-        = rw rows-of (length-take-le (length fs) (drop off ix) (omega (arith, length-drop off ix, block-length ns fs ls))) in
-        ext-getD 0 (take (rows ix) (drop off ix)) xs (long ∙ sym n) (λ k g.
-        let g′ : k < length fs = rw long at g in
-        let z : off + k ≡ k + off = omega arith in
-        getD-take (rows ix) (drop off ix) k 0 (rw rows-of g′) ∙ getD-drop off ix k 0 ∙ ap (λ (i : ℕ). getD ix i 0) z ∙ at k g′)
-
     pub numbers-of : numbers ix ≡ ns
     unfolding numbers
-    numbers-of = read-back 0 ns same (omega arith) (λ k h. let z : k + 0 ≡ k = omega arith in rw z (holds .numbers k h))
+    numbers-of = read-back 0 ns same (omega arith) (λ k h. let z : k + 0 ≡ k = omega arith in rw z (number-word k h))
 
     pub firsts-of : firsts ix ≡ fs
     unfolding firsts
-    firsts-of = read-back 1024 fs refl (omega arith) (holds .firsts)
+    firsts-of = read-back 1024 fs refl (omega arith) first-word
 
     pub lasts-of : lasts ix ≡ ls
     unfolding lasts
-    lasts-of = read-back 2048 ls (holds .sorted .same) (omega arith) (holds .lasts)
+    lasts-of = read-back 2048 ls (rows-sorted fs ls e .same) (omega arith) last-word
 
-    -- the block of rows that can be published is one that publish may leave
-    pub built-of : Built ix
-    built-of = record {
-      few = rw rows-of few;
-      in-order = rw (firsts-of, lasts-of) e;
-      block = rw (numbers-of, firsts-of, lasts-of);
-    }
+    -- each number leads to its own row
+    module _ (own : (p : ℕ) → p < length fs → named ns fs ls (getD ns p 0) ≡ suc p) where
+      -- what the questions read of it
+      pub holds : Holds ix ns fs ls
+      unfolding named
+      holds = record {
+        few = few;
+        named = same;
+        sorted = rows-sorted fs ls e;
+        begins = λ p h. rows-days fs ls e p h .0;
+        forward = λ p h. rows-days fs ls e p h .1;
+        ends = λ p h. rows-days fs ls e p h .2;
+        numbers = λ p h. number-word p (omega arith);
+        firsts = λ p h. first-word p (omega arith);
+        lasts = λ p h. last-word p (omega arith);
+        parents = λ p h hp. from₃ p ∙ here 1024 _ _ p (omega arith) ∙ head-link (parent fs ls) p h hp;
+        lefts = λ p h hp. from₄ p ∙ here 1024 _ _ p (omega arith) ∙ head-link (leftSibling fs ls) p h hp;
+        left-lasts = λ p h hp. from₅ p ∙ here 1024 _ _ p (omega arith) ∙ ap (lastOf ls) (head-link (leftSibling fs ls) p h hp);
+        children = λ p h hp. from₆ p ∙ here 1024 _ _ p (omega arith) ∙ head-link (lastChild fs ls) p h hp;
+        child-lasts = λ p h hp. from₇ p ∙ here 1024 _ _ p (omega arith) ∙ ap (lastOf ls) (head-link (lastChild fs ls) p h hp);
+        nexts = λ p h. from₈ p ∙ here 1024 _ _ p (omega arith) ∙ row-link (next fs ls) p h;
+        next-lasts = λ p h. from₉ p ∙ here 1024 _ _ p (omega arith) ∙ ap (lastOf ls) (row-link (next fs ls) p h);
+        starts = λ d h. from₁₀ d ∙ here 4001 _ _ d (omega arith);
+        begun = λ d h. from₁₁ d ∙ here 4001 _ _ d (omega arith);
+        by-number = named-word;
+        own = λ p h small. named-word (getD ns p 0) small ∙ own p h;
+      }
+
+      -- the block of rows that can be published is one that publish may leave
+      pub built-of : Built ix
+      built-of = record {
+        few = rw rows-of few;
+        in-order = rw (firsts-of, lasts-of) e;
+        block = rw (numbers-of, firsts-of, lasts-of);
+        own = λ p h. rw (numbers-of, firsts-of, lasts-of) (own p (omega (arith, rows-of)));
+      }
 
 -- what publish leaves holds what the questions read
 pub built-holds : (ix : List ℕ) → Built ix → Holds ix (numbers ix) (firsts ix) (lasts ix)
@@ -274,4 +289,4 @@ built-holds ix b =
     let ns-rows : length (numbers ix) ≡ rows ix = length-take-le (rows ix) ix (omega (arith, b .few)) in
     let fs-rows : length (firsts ix) ≡ rows ix = length-take-le (rows ix) (drop 1024 ix) (omega (arith, b .few, length-drop 1024 ix)) in
     subst (λ (x : List ℕ). Holds x (numbers ix) (firsts ix) (lasts ix)) (sym (b .block))
-    (holds (numbers ix) (firsts ix) (lasts ix) (omega (arith, b .few)) (b .in-order) (ns-rows ∙ sym fs-rows))
+    (holds (numbers ix) (firsts ix) (lasts ix) (omega (arith, b .few)) (b .in-order) (ns-rows ∙ sym fs-rows) (λ p h. b .own p (omega arith)))

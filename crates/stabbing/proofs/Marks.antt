@@ -7,9 +7,9 @@ use mathlib.Core.Bool.{Bool, true, false, not, _&&_, _||_}
 use mathlib.Core.List.{List, [], _∷_, _++_, append-assoc, append-nil}
 use mathlib.Core.Path.{_≡_, refl, sym, ap, subst, _∙_}
 use mathlib.Core.Logic.{_≢_}
-use lib.ListN.{length}
+use lib.ListN.{length, getD}
 use lib.Dec.{eqb, leb}
-use borrow.Author.Tests.{eqb-true, eqb-false, leb-true, leb-false}
+use borrow.Author.Tests.{eqb-true, eqb-false, eq-eqb, leb-true, leb-false}
 use Rattle.stabbing.specs.Tree.{below, keep, count, one}
 
 -- cases on a test, and on a mark
@@ -118,3 +118,10 @@ below-only t k r r′ a b = by-test (leb r r′)
     apart : (r r′ : ℕ) → Below t k r → Below t k r′ → r < r′ → ⊥
     apart r zero a b h = omega arith
     apart r (suc p) a b h = a .miss p (omega arith) (b .within) (b .hit p refl)
+
+-- where no two of the first n numbers are the same, the search for one of them finds its own place
+pub below-own : (ns : List ℕ) (n : ℕ) → ((i j : ℕ) → j < i → i < n → getD ns j 0 ≡ getD ns i 0 → ⊥) → (p : ℕ) → p < n
+    → below (λ q. eqb (getD ns q 0) (getD ns p 0)) n ≡ suc p
+below-own ns n differ p h =
+    let t : ℕ → Bool = λ (q : ℕ). eqb (getD ns q 0) (getD ns p 0) in
+    below-skip t (suc p) n h (λ q g k e. differ q p g k (sym (eqb-true (getD ns q 0) (getD ns p 0) e))) ∙ below-hit t p (eq-eqb (getD ns p 0) (getD ns p 0) refl)

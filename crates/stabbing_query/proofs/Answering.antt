@@ -20,17 +20,17 @@ use Rattle.stabbing.specs.Index.{Built, named, numbers, firsts, lasts}
 use Rattle.stabbing.proofs.Block.{Holds, built-holds}
 use Rattle.stabbing.specs.Answer.{Outcome, refused, give, question, calendar, dayOf, dayIn, Gave, spanOf, spanIn, covering, coverOf}
 use Rattle.stabbing_query.specs.Code.{Now, Does, ClimbAt, StartAt, WalkAsks, SpanAsks, numbered, toldOf, listedOf}
-use Rattle.stabbing_query.proofs.Keeping.{place, comparisons-is}
+use Rattle.stabbing_query.proofs.Keeping.{now-place, comparisons-is}
 
 -- the walk's beginning and its end
 module _ (ix xs : List ℕ) (l m : ℕ) (q : WalkAsks ix l m) (n : length xs ≡ 1024) where
   holds : Holds ix (numbers ix) (firsts ix) (lasts ix)
   holds = built-holds ix (q .built)
 
-  start-now : Now xs 1024 nothing
-  start-now = record { size = n; fits = zero-le; is = refl; list = drop-of-length-le xs {i = 1024} (omega arith) }
+  start-now : Now ix xs 67108864 nothing
+  start-now = record { size = n; fits = zero-le; few = omega arith; is = refl; list = drop-of-length-le xs {i = 1024} (omega arith) }
 
-  pub asks : ClimbAt ix (numbers ix) (firsts ix) (lasts ix) l m xs 1024
+  pub asks : ClimbAt ix (numbers ix) (firsts ix) (lasts ix) l m xs 67108864
   asks = record {
     built = holds;
     dated = q .dated;
@@ -42,18 +42,18 @@ module _ (ix xs : List ℕ) (l m : ℕ) (q : WalkAsks ix l m) (n : length xs ≡
     few = omega (arith, q .start .within);
   }
 
-  pub walked : (xs′ : List ℕ) (r : ℕ) → Does xs 1024 xs′ r (climb (firsts ix) (lasts ix) l (length (firsts ix)) m) → Now xs′ r (walk (firsts ix) (lasts ix) l m)
+  pub walked : (xs′ : List ℕ) (r : ℕ) → Does ix xs 67108864 xs′ r (climb (firsts ix) (lasts ix) l (length (firsts ix)) m) → Now ix xs′ r (walk (firsts ix) (lasts ix) l m)
   unfolding walk
   walked xs′ r d = d .does nothing start-now
 
 -- the two ends of `toldOf`
-pub told-none : (s : ℕ) → 1024 < s % 65536 → toldOf s ≡ record { refusal = 11; count = 0; comparisons = 0 }
+pub told-none : (s : ℕ) → 1024 < s / 65536 → toldOf s ≡ record { refusal = 11; count = 0; comparisons = 0 }
 unfolding toldOf
-told-none s h = rw (lt-leb (s % 65536) 1024 h, toldOf)
+told-none s h = rw (lt-leb (s / 65536) 1024 h, toldOf)
 
-pub told-all : (s : ℕ) → s % 65536 ≤ 1024 → toldOf s ≡ record { refusal = 0; count = 1024 - s % 65536; comparisons = s / 65536 }
+pub told-all : (s : ℕ) → s / 65536 ≤ 1024 → toldOf s ≡ record { refusal = 0; count = 1024 - s / 65536; comparisons = s % 65536 }
 unfolding toldOf
-told-all s h = rw (le-leb (s % 65536) 1024 h, toldOf)
+told-all s h = rw (le-leb (s / 65536) 1024 h, toldOf)
 
 -- the two ends of `give`
 module _ (ns : List ℕ) (comparisons : ℕ) (out : List ℕ) where
@@ -65,33 +65,33 @@ module _ (ns : List ℕ) (comparisons : ℕ) (out : List ℕ) where
   unfolding give
   give-none h = rw (lt-leb (length ns) (length out) h, give)
 
-module _ (ix xs : List ℕ) (s : ℕ) (f : Found) (g : Now xs s f) (out : List ℕ) where
+module _ (ix xs : List ℕ) (s : ℕ) (f : Found) (g : Now ix xs s f) (out : List ℕ) where
   abbrev ns : List ℕ
   ns = numbered ix (f .list)
 
-  pub at-is : s % 65536 ≡ 1024 - length (f .list)
-  at-is = place s (length (f .list)) (f .comparisons) (g .fits) (g .is)
+  at-is : s / 65536 ≡ 1024 - length (f .list)
+  at-is = now-place ix xs s f g
 
-  pub at-in : s % 65536 + (1024 - s % 65536) ≤ 1024
+  pub at-in : s / 65536 ≤ 1024
   at-in = omega (arith, at-is)
 
-  pub k-is : 1024 - s % 65536 ≡ length ns
+  pub k-is : 1024 - s / 65536 ≡ length ns
   k-is = omega (arith, at-is, g .fits, length-map (f .list) (λ (p : ℕ). getD ix p 0))
 
-  pub too-short : length out < 1024 - s % 65536 → Gave (toldOf 1025) out (give ns (f .comparisons) out)
-  too-short h = rw (give-none ns (f .comparisons) out (omega (arith, k-is))) (record { result = told-none 1025 (omega arith); out = refl })
+  pub too-short : length out < 1024 - s / 65536 → Gave (toldOf 67174400) out (give ns (f .comparisons) out)
+  too-short h = rw (give-none ns (f .comparisons) out (omega (arith, k-is))) (record { result = told-none 67174400 (omega arith); out = refl })
 
   -- the places from the one reached on hold what was found
-  there : take (1024 - s % 65536) (drop (s % 65536) xs) ≡ f .list
+  there : take (1024 - s / 65536) (drop (s / 65536) xs) ≡ ns
   there =
-      let z : drop (s % 65536) xs ≡ f .list = rw at-is (g .list) in
-      rw z (take-all (1024 - s % 65536) (f .list) (omega (arith, at-is, g .fits)))
+      let z : drop (s / 65536) xs ≡ ns = rw at-is (g .list) in
+      rw z (take-all (1024 - s / 65536) ns (omega (arith, k-is)))
 
-  pub all-given : 1024 - s % 65536 ≤ length out → (after : List ℕ) → after ≡ numbered ix (take (1024 - s % 65536) (drop (s % 65536) xs)) ++ drop (1024 - s % 65536) out
+  pub all-given : 1024 - s / 65536 ≤ length out → (after : List ℕ) → after ≡ take (1024 - s / 65536) (drop (s / 65536) xs) ++ drop (1024 - s / 65536) out
       → Gave (toldOf s) after (give ns (f .comparisons) out)
   all-given h after e =
-      let c : s / 65536 ≡ f .comparisons = comparisons-is s (length (f .list)) (f .comparisons) (g .fits) (g .is) in
-      rw (give-all ns (f .comparisons) out (omega (arith, k-is))) (record { result = told-all s (omega (arith, at-is)) ∙ rw (k-is, c); out = e ∙ rw (there, k-is) })
+      let c : s % 65536 ≡ f .comparisons = comparisons-is s (length (f .list)) (f .comparisons) (g .fits) (g .few) (g .is) in
+      rw (give-all ns (f .comparisons) out (omega (arith, k-is))) (record { result = told-all s at-in ∙ rw (k-is, c); out = e ∙ rw (there, k-is) })
 
 -- what is listed, by its numbers
 pub keep-map : (f g : ℕ → ℕ) (t : ℕ → Bool) (k : ℕ) → ((p : ℕ) → p < k → f p ≡ g p) → map f (keep t k) ≡ map g (keep t k)

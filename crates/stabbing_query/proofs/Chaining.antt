@@ -13,7 +13,7 @@ use Rattle.stabbing.proofs.Steps.{compare-same}
 use Rattle.stabbing.specs.Index.{lastOf}
 use Rattle.stabbing.proofs.Block.{Holds}
 use Rattle.stabbing_query.specs.Code.{Now, Does, ChainAt}
-use Rattle.stabbing_query.proofs.Keeping.{ticked, ticked-list, ticked-comparisons, one-le, now-tick, lit, place-less, now-push, named, compare-miss, compare-hit, compared, next-le, next-only}
+use Rattle.stabbing_query.proofs.Keeping.{ticked, ticked-list, ticked-comparisons, one-le, now-tick, as-few, as-long, lit, place-less, now-push, named, compare-miss, compare-hit, compared, next-le, next-only}
 
 -- one position of a chain, by its link
 chain-step : (ix ns fs ls : List ℕ) → Holds ix ns fs ls → (l p : ℕ) (f : Found) → chain fs ls l p f ≡ compare fs ls l (next fs ls p) (chain fs ls l) (push p f)
@@ -29,37 +29,38 @@ module _ (ix ns fs ls : List ℕ) (l p : ℕ) (xs : List ℕ) (s : ℕ) (q : Cha
   room : length (q .at .list) < 1024
   room = omega (arith, q .free)
 
-  pub narrow : p < 65536
-  narrow = omega (arith, q .inside, b .few)
+  pub inside-rows : p < 1024
+  inside-rows = omega (arith, q .inside, b .few)
 
-  pub positive : 1 ≤ s
-  positive = lit xs s (q .at) (q .now) room
+  pub positive : 65536 ≤ s
+  positive = lit ix xs s (q .at) (q .now) room
 
-  pub inside : (s - 1) % 65536 < 1024
-  inside = rw (place-less xs s (q .at) (q .now) room) (omega arith)
+  pub inside : (s - 65536) / 65536 < 1024
+  inside = rw (place-less ix xs s (q .at) (q .now) room) (omega arith)
 
-  pub few : s ≤ 65536 * 8192 + 1024
-  few = omega (arith, q .few, q .now .is)
+  few-at : q .at .comparisons ≤ 8192
+  few-at = omega (arith, q .few)
+
+  pub few : s ≤ 67117056
+  few = omega (arith, few-at, q .now .is)
 
   -- the state after p is listed, and after the comparison with the next
-  module _ (c : ℕ) (e : c ≡ 65536 * one (some (getD ix (p + 9216) 0))) where
+  module _ (c : ℕ) (e : c ≡ one (some (getD ix (p + 9216) 0))) where
     abbrev m : ℕ
     m = next fs ls p
 
-    count : c ≡ 65536 * one (some m)
-    count = e ∙ ap (λ (x : ℕ). 65536 * one (some x)) (b .next-lasts p (q .inside)) ∙ ap (λ (x : ℕ). 65536 * x) (compared ix ns fs ls b m (let z = next-le ix ns fs ls b p in omega (arith, q .inside)))
+    count : c ≡ one (some m)
+    count = e ∙ ap (λ (x : ℕ). one (some x)) (b .next-lasts p (q .inside)) ∙ compared ix ns fs ls b m (let z = next-le ix ns fs ls b p in omega (arith, q .inside))
 
     abbrev xs₁ : List ℕ
-    xs₁ = set xs ((s - 1) % 65536) p
+    xs₁ = set xs ((s - 65536) / 65536) (getD ix p 0)
 
-    -- what was found has at most as many places as `at` has
-    same : (f : Found) → Now xs s f → length (f .list) < 1024
-    same f g = omega (arith, g .is, g .fits, q .now .is, q .now .fits, room)
+    listed : (f : Found) → Now ix xs s f → Now ix xs₁ (s - 65536 + c) (ticked m (push p f))
+    listed f g =
+        let r : length (f .list) < 1024 = rw (as-long ix xs s (q .at) (q .now) f g) room in
+        now-tick ix xs₁ (s - 65536) (push p f) (now-push ix xs s f g r p) (as-few ix xs s (q .at) (q .now) 8192 few-at f g) m c count
 
-    listed : (f : Found) → Now xs s f → Now xs₁ (s - 1 + c) (ticked m (push p f))
-    listed f g = now-tick xs₁ (s - 1) (push p f) (now-push xs s f g (same f g) p) m c count
-
-    pub ends : getD ix (p + 9216) 0 < l → Does xs s xs₁ (s - 1 + c) (chain fs ls l p)
+    pub ends : getD ix (p + 9216) 0 < l → Does ix xs s xs₁ (s - 65536 + c) (chain fs ls l p)
     ends h = record { does = λ f g. rw (chain-step ix ns fs ls b l p f ∙ compare-miss ls l (q .dated) fs m (chain fs ls l) (push p f) (rw (b .next-lasts p (q .inside)) at h)) (listed f g) }
 
     module _ (h : l ≤ getD ix (p + 9216) 0) (k : ℕ) (z : k ≡ getD ix (p + 8192) 0) where
@@ -75,7 +76,7 @@ module _ (ix ns fs ls : List ℕ) (l p : ℕ) (xs : List ℕ) (s : ℕ) (q : Cha
       pub falls : k - 1 < p
       falls = omega (arith, k-is, linked, next-le ix ns fs ls b p)
 
-      pub asks : ChainAt ix ns fs ls l (k - 1) xs₁ (s - 1 + c)
+      pub asks : ChainAt ix ns fs ls l (k - 1) xs₁ (s - 65536 + c)
       asks = record {
         built = b;
         dated = q .dated;
@@ -86,7 +87,7 @@ module _ (ix ns fs ls : List ℕ) (l p : ℕ) (xs : List ℕ) (s : ℕ) (q : Cha
         few = omega (arith, ticked-comparisons m (push p (q .at)), one-le (some m), falls, q .few);
       }
 
-      pub goes-on : (xs₂ : List ℕ) (r : ℕ) → Does xs₁ (s - 1 + c) xs₂ r (chain fs ls l (k - 1)) → Does xs s xs₂ r (chain fs ls l p)
+      pub goes-on : (xs₂ : List ℕ) (r : ℕ) → Does ix xs₁ (s - 65536 + c) xs₂ r (chain fs ls l (k - 1)) → Does ix xs s xs₂ r (chain fs ls l p)
       goes-on xs₂ r t = record {
         does = λ f g. rw (chain-step ix ns fs ls b l p f ∙ compare-hit ls l (q .dated) fs m (chain fs ls l) (push p f) h′) (rw k-is at (t .does (ticked m (push p f)) (listed f g)));
       }

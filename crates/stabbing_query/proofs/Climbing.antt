@@ -12,7 +12,7 @@ use Rattle.stabbing.proofs.Steps.{climb-step}
 use Rattle.stabbing.specs.Index.{lastOf}
 use Rattle.stabbing.proofs.Block.{Holds}
 use Rattle.stabbing_query.specs.Code.{Now, Does, ChainAt, RiseAt, ClimbAt}
-use Rattle.stabbing_query.proofs.Keeping.{ticked, ticked-list, ticked-comparisons, one-le, now-tick, named, compare-miss, compare-hit, reaches, compared, left-in}
+use Rattle.stabbing_query.proofs.Keeping.{ticked, ticked-list, ticked-comparisons, one-le, as-few, now-tick, named, compare-miss, compare-hit, reaches, compared, left-in}
 use Rattle.stabbing_query.proofs.Rooms.{Costs, compare-costs, chain-costs}
 use Rattle.stabbing_query.proofs.Rising.{asked}
 
@@ -20,7 +20,7 @@ module _ (ix ns fs ls : List ℕ) (l m : ℕ) (xs : List ℕ) (s : ℕ) (q : Cli
   b : Holds ix ns fs ls
   b = q .built
 
-  pub stops : m ≡ 0 → Does xs s xs s (climb fs ls l (length fs) m)
+  pub stops : m ≡ 0 → Does ix xs s xs s (climb fs ls l (length fs) m)
   stops z = record { does = λ f g. rw (ap (λ (x : ℕ). climb fs ls l (length fs) x f) z ∙ climb-none fs ls l (length fs) f) g }
 
   module _ (v : ℕ) (z : m ≡ suc v) where
@@ -64,23 +64,29 @@ module _ (ix ns fs ls : List ℕ) (l m : ℕ) (xs : List ℕ) (s : ℕ) (q : Cli
     cost₁ = chain-costs fs ls (b .sorted) l v (q .at) hv in-rows lasts
 
     -- after v's chain: the comparison with the left sibling
-    module _ (xs₁ : List ℕ) (t : ℕ) (d₁ : Does xs s xs₁ t (chain fs ls l v)) where
-      now₁ : Now xs₁ t f₁
+    module _ (xs₁ : List ℕ) (t : ℕ) (d₁ : Does ix xs s xs₁ t (chain fs ls l v)) where
+      now₁ : Now ix xs₁ t f₁
       unfolding f₁
       now₁ = d₁ .does (q .at) (q .now)
 
-      pub few₁ : t ≤ 65536 * 8192 + 1024
-      few₁ = omega (arith, cost₁ .comparisons, q .few, b .few, now₁ .is)
+      few-f₁ : f₁ .comparisons ≤ 8192
+      few-f₁ = omega (arith, cost₁ .comparisons, q .few, b .few)
 
-      module _ (c : ℕ) (e : c ≡ 65536 * one (some (getD ix (v + 5120) 0))) where
-        count : c ≡ 65536 * one (some left)
-        count = e ∙ ap (λ (x : ℕ). 65536 * one (some x)) (b .left-lasts v in-rows hv) ∙ ap (λ (x : ℕ). 65536 * x) (compared ix ns fs ls b left (let y = left-in ix ns fs ls b v in omega (arith, in-rows)))
+      pub few₁ : t ≤ 67117056
+      few₁ = omega (arith, few-f₁, now₁ .is)
+
+      module _ (c : ℕ) (e : c ≡ one (some (getD ix (v + 5120) 0))) where
+        count : c ≡ one (some left)
+        count = e ∙ ap (λ (x : ℕ). one (some x)) (b .left-lasts v in-rows hv) ∙ compared ix ns fs ls b left (let y = left-in ix ns fs ls b v in omega (arith, in-rows))
+
+        -- what was found after v's chain, with that comparison
+        after : (f : Found) → Now ix xs s f → Now ix xs₁ (t + c) (ticked left (chain fs ls l v f))
+        after f g = now-tick ix xs₁ t (chain fs ls l v f) (d₁ .does f g) (as-few ix xs₁ t f₁ now₁ 8192 few-f₁ (chain fs ls l v f) (d₁ .does f g)) left c count
 
         -- it fails
-        pub none-beside : getD ix (v + 5120) 0 < l → Does xs s xs₁ (t + c) (λ f. compare fs ls l left go (chain fs ls l v f))
+        pub none-beside : getD ix (v + 5120) 0 < l → Does ix xs s xs₁ (t + c) (λ f. compare fs ls l left go (chain fs ls l v f))
         none-beside h = record {
-          does = λ f g. rw (compare-miss ls l (q .dated) fs left go (chain fs ls l v f) (rw (b .left-lasts v in-rows hv) at h))
-              (now-tick xs₁ t (chain fs ls l v f) (d₁ .does f g) left c count);
+          does = λ f g. rw (compare-miss ls l (q .dated) fs left go (chain fs ls l v f) (rw (b .left-lasts v in-rows hv) at h)) (after f g);
         }
 
         -- it succeeds
@@ -101,18 +107,18 @@ module _ (ix ns fs ls : List ℕ) (l m : ℕ) (xs : List ℕ) (s : ℕ) (q : Cli
           asks-rise =
               let o : one (some left) ≡ 1 = rw suc-k in
               asked ix ns fs ls l lo v (k - 1) xs₁ (t + c) b (q .dated) (own fs ls v hv in-rows) (sym (left-is fs ls v) ∙ suc-k) (reaches ls l (q .dated) left (k - 1) h′ suc-k)
-              (ticked left f₁) (now-tick xs₁ t f₁ now₁ left c count)
+              (ticked left f₁) (now-tick ix xs₁ t f₁ now₁ few-f₁ left c count)
               (rw (ticked-list left f₁) (omega (arith, cost₁ .list, q .free)))
               (omega (arith, ticked-comparisons left f₁, o, cost₁ .comparisons, q .few))
 
-          pub all-beside : (xs₂ : List ℕ) (u : ℕ) → Does xs₁ (t + c) xs₂ u (rise fs ls l (length fs) (k - 1)) → Does xs s xs₂ u (λ f. compare fs ls l left go (chain fs ls l v f))
+          pub all-beside : (xs₂ : List ℕ) (u : ℕ) → Does ix xs₁ (t + c) xs₂ u (rise fs ls l (length fs) (k - 1)) → Does ix xs s xs₂ u (λ f. compare fs ls l left go (chain fs ls l v f))
           all-beside xs₂ u d₂ = record {
             does = λ f g. rw (compare-hit ls l (q .dated) fs left go (chain fs ls l v f) h′)
-                (rw k-is at (d₂ .does (ticked left (chain fs ls l v f)) (now-tick xs₁ t (chain fs ls l v f) (d₁ .does f g) left c count)));
+                (rw k-is at (d₂ .does (ticked left (chain fs ls l v f)) (after f g)));
           }
 
     -- after what is beside v: the parent
-    module _ (xs₂ : List ℕ) (u : ℕ) (d₂ : Does xs s xs₂ u (λ f. compare fs ls l (leftSibling fs ls v) (rise fs ls l (length fs)) (chain fs ls l v f))) (k : ℕ) (y : k ≡ getD ix (v + 3072) 0) where
+    module _ (xs₂ : List ℕ) (u : ℕ) (d₂ : Does ix xs s xs₂ u (λ f. compare fs ls l (leftSibling fs ls v) (rise fs ls l (length fs)) (chain fs ls l v f))) (k : ℕ) (y : k ≡ getD ix (v + 3072) 0) where
       up-is : k ≡ lo
       up-is = y ∙ b .parents v in-rows hv
 
@@ -139,7 +145,7 @@ module _ (ix ns fs ls : List ℕ) (l m : ℕ) (xs : List ℕ) (s : ℕ) (q : Cli
         few = omega (arith, cost₁ .comparisons, cost₂ .comparisons, q .few, up-is);
       }
 
-      pub goes-on : (xs₃ : List ℕ) (x : ℕ) → Does xs₂ u xs₃ x (climb fs ls l (length fs) k) → Does xs s xs₃ x (climb fs ls l (length fs) m)
+      pub goes-on : (xs₃ : List ℕ) (x : ℕ) → Does ix xs₂ u xs₃ x (climb fs ls l (length fs) k) → Does ix xs s xs₃ x (climb fs ls l (length fs) m)
       goes-on xs₃ x d₃ = record {
         does = λ f g. rw (ap (λ (n : ℕ). climb fs ls l (length fs) n f) z ∙ climb-step fs ls l v f in-rows)
             (rw up-is at (d₃ .does (compare fs ls l left go (chain fs ls l v f)) (d₂ .does f g)));

@@ -1,4 +1,4 @@
--- A list copied place by place into the first places of another. Assumes nothing.
+-- Lists copied place by place into the first places of another, and dropped from. Assumes nothing.
 use Prim.Native.Nat.{ℕ, zero, suc, _+_, _≤_, _<_}
 use native.Mathlib.Omega.{arith}
 use native.Mathlib.Numerals.{add-one}
@@ -15,7 +15,7 @@ filled d s j x v e hd hs =
     ∙ sym (append-snoc (take j s) (getD s j x) (drop (suc j) d))
     ∙ ap (λ (r : List ℕ). r ++ drop (suc j) d) (sym (take-suc s j x hs)))
 
-pub map-take : (f : ℕ → ℕ) (n : ℕ) (xs : List ℕ) → take n (map f xs) ≡ map f (take n xs)
-map-take f zero xs = refl
-map-take f (suc n) [] = refl
-map-take f (suc n) (x ∷ xs) = ap (λ (ys : List ℕ). f x ∷ ys) (map-take f n xs)
+pub drop-map : (f : ℕ → ℕ) (n : ℕ) (xs : List ℕ) → drop n (map f xs) ≡ map f (drop n xs)
+drop-map f zero xs = refl
+drop-map f (suc n) [] = refl
+drop-map f (suc n) (x ∷ xs) = drop-map f n xs

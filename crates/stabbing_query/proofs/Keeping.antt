@@ -36,50 +36,59 @@ ticked-comparisons zero f = omega arith
 ticked-comparisons (suc p) f = omega arith
 
 -- the parts of the state
-module _ (s n k : ℕ) (h : n ≤ 1024) (e : s + n ≡ 65536 * k + 1024) where
-  split : s ≡ (1024 - n) + 65536 * k
+module _ (s n k : ℕ) (h : n ≤ 1024) (c : k < 65536) (e : s + 65536 * n ≡ 67108864 + k) where
+  split : s ≡ k + 65536 * (1024 - n)
   split = omega arith
 
-  pub place : s % 65536 ≡ 1024 - n
-  place = rw split (add-mul-mod-self-left (1024 - n) 65536 k ∙ mod-eq-of-lt (omega arith))
-
-  pub comparisons-is : s / 65536 ≡ k
-  comparisons-is =
-      let z : (1024 - n) / 65536 ≡ 0 = div-eq-of-lt (omega arith) in
-      let e′ : ((1024 - n) + 65536 * k) / 65536 ≡ (1024 - n) / 65536 + k = add-mul-div-left (1024 - n) k (omega arith) in
+  pub place : s / 65536 ≡ 1024 - n
+  place =
+      let z : k / 65536 ≡ 0 = div-eq-of-lt c in
+      let e′ : (k + 65536 * (1024 - n)) / 65536 ≡ k / 65536 + (1024 - n) = add-mul-div-left k (1024 - n) (omega arith) in
       rw split (omega arith)
 
-module _ (xs : List ℕ) (s : ℕ) (f : Found) (g : Now xs s f) where
-  pub now-place : s % 65536 ≡ 1024 - length (f .list)
-  now-place = place s (length (f .list)) (f .comparisons) (g .fits) (g .is)
+  pub comparisons-is : s % 65536 ≡ k
+  comparisons-is = rw split (add-mul-mod-self-left k 65536 (1024 - n) ∙ mod-eq-of-lt c)
 
-  pub now-tick : (m c : ℕ) → c ≡ 65536 * one (some m) → Now xs (s + c) (ticked m f)
-  now-tick zero c e = record { size = g .size; fits = g .fits; is = omega (arith, g .is); list = g .list }
-  now-tick (suc p) c e = record { size = g .size; fits = g .fits; is = omega (arith, g .is); list = g .list }
+module _ (ix xs : List ℕ) (s : ℕ) (f : Found) (g : Now ix xs s f) where
+  pub now-place : s / 65536 ≡ 1024 - length (f .list)
+  now-place = place s (length (f .list)) (f .comparisons) (g .fits) (g .few) (g .is)
+
+  -- the state tells how much was found
+  pub as-few : (n : ℕ) → f .comparisons ≤ n → (f′ : Found) → Now ix xs s f′ → f′ .comparisons ≤ n
+  as-few n h f′ g′ = omega (arith, g .is, g′ .is, g .few, g′ .few)
+
+  pub as-long : (f′ : Found) → Now ix xs s f′ → length (f′ .list) ≡ length (f .list)
+  as-long f′ g′ = omega (arith, g .is, g′ .is, g .few, g′ .few)
+
+  pub now-tick : f .comparisons ≤ 8192 → (m c : ℕ) → c ≡ one (some m) → Now ix xs (s + c) (ticked m f)
+  now-tick h zero c e = record { size = g .size; fits = g .fits; few = g .few; is = omega (arith, g .is); list = g .list }
+  now-tick h (suc p) c e = record { size = g .size; fits = g .fits; few = omega arith; is = omega (arith, g .is); list = g .list }
 
   module _ (room : length (f .list) < 1024) where
-    pub lit : 1 ≤ s
+    pub lit : 65536 ≤ s
     lit = omega (arith, g .is)
 
-    minus : (s - 1) + suc (length (f .list)) ≡ 65536 * f .comparisons + 1024
-    minus = omega (arith, g .is)
+    minus : (s - 65536) + 65536 * suc (length (f .list)) ≡ 67108864 + f .comparisons
+    minus = omega (arith, g .is, lit)
 
-    pub place-less : (s - 1) % 65536 ≡ 1024 - suc (length (f .list))
-    place-less = place (s - 1) (suc (length (f .list))) (f .comparisons) room minus
+    pub place-less : (s - 65536) / 65536 ≡ 1024 - suc (length (f .list))
+    place-less = place (s - 65536) (suc (length (f .list))) (f .comparisons) room (g .few) minus
 
-    pub now-push : (p : ℕ) → Now (set xs ((s - 1) % 65536) p) (s - 1) (push p f)
+    pub now-push : (p : ℕ) → Now ix (set xs ((s - 65536) / 65536) (getD ix p 0)) (s - 65536) (push p f)
     now-push p =
         let n : length xs ≡ 1024 = g .size in
         let k : ℕ = 1024 - suc (length (f .list)) in
+        let v : ℕ = getD ix p 0 in
         let z : suc k ≡ 1024 - length (f .list) = omega arith in
-        let in-range : k < length (set xs k p) = rw length-set (omega arith) in
-        let e : drop k (set xs k p) ≡ p ∷ drop (suc k) xs
-        = drop-cons (set xs k p) k 0 in-range ∙ rw (getD-set-same xs k p 0 (omega arith), drop-set-lt (suc k) xs k p (omega arith)) in
+        let in-range : k < length (set xs k v) = rw length-set (omega arith) in
+        let e : drop k (set xs k v) ≡ v ∷ drop (suc k) xs
+        = drop-cons (set xs k v) k 0 in-range ∙ rw (getD-set-same xs k v 0 (omega arith), drop-set-lt (suc k) xs k v (omega arith)) in
         rw place-less (record {
           size = length-set xs _ _ ∙ n;
           fits = room;
+          few = g .few;
           is = minus;
-          list = e ∙ ap (λ (j : ℕ). p ∷ drop j xs) z ∙ ap (λ (ys : List ℕ). p ∷ ys) (g .list);
+          list = e ∙ ap (λ (j : ℕ). v ∷ drop j xs) z ∙ ap (λ (ys : List ℕ). v ∷ ys) (g .list);
         })
 
 -- what the stored last day of a neighbour says

@@ -11,7 +11,7 @@ use Rattle.stabbing.proofs.Steps.{over, over-is, rise-step, heads, heads-upper,
 use Rattle.stabbing.specs.Index.{lastOf}
 use Rattle.stabbing.proofs.Block.{Holds}
 use Rattle.stabbing_query.specs.Code.{Now, Does, ChainAt, RiseAt}
-use Rattle.stabbing_query.proofs.Keeping.{ticked, ticked-list, ticked-comparisons, one-le, now-tick, named, compare-miss, compare-hit, reaches, compared, left-in, child-in}
+use Rattle.stabbing_query.proofs.Keeping.{ticked, ticked-list, ticked-comparisons, one-le, as-few, now-tick, named, compare-miss, compare-hit, reaches, compared, left-in, child-in}
 use Rattle.stabbing_query.proofs.Rooms.{Costs, compare-costs, chain-costs}
 
 -- the heads not yet visited of the stretch whose last child w is
@@ -20,7 +20,7 @@ unvisited fs ls w = heads fs ls (parent fs ls w) (over fs ls w)
 
 -- what is asked of the last child w of a stretch that is given otherwise
 pub asked : (ix ns fs ls : List ℕ) (l m v w : ℕ) (xs : List ℕ) (s : ℕ) → Holds ix ns fs ls → 1 ≤ l → (r : Stretch fs ls m v) → child fs ls m v ≡ suc w → l ≤ day ls w
-    → (f : Found) → Now xs s f → length (f .list) + bottom fs ls v ≤ 1024 → f .comparisons + 3 * bottom fs ls v ≤ 3 * length fs + m → RiseAt ix ns fs ls l w xs s
+    → (f : Found) → Now ix xs s f → length (f .list) + bottom fs ls v ≤ 1024 → f .comparisons + 3 * bottom fs ls v ≤ 3 * length fs + m → RiseAt ix ns fs ls l w xs s
 asked ix ns fs ls l m v w xs s b d r e k f g free few =
     let cp : parent fs ls w ≡ m = c-parent fs ls m v r w e in
     let ov : over fs ls w ≡ v = over-is fs ls m v r w e in
@@ -61,8 +61,14 @@ module _ (ix ns fs ls : List ℕ) (l w : ℕ) (xs : List ℕ) (s : ℕ) (q : Ris
   hw : Head fs ls w
   hw = c-head fs ls lo hi r w (q .is)
 
-  pub few : s ≤ 65536 * 4096 + 1024
-  few = omega (arith, q .few, q .now .is, b .few, over-w, inside)
+  few-at : q .at .comparisons ≤ 8192
+  few-at = omega (arith, q .few, b .few, over-w, inside)
+
+  pub few : s ≤ 67117056
+  few = omega (arith, few-at, q .now .is)
+
+  small : (f : Found) → Now ix xs s f → f .comparisons ≤ 8192
+  small = as-few ix xs s (q .at) (q .now) 8192 few-at
 
   abbrev go : ℕ → Found → Found
   go = rise fs ls l (length fs)
@@ -74,13 +80,13 @@ module _ (ix ns fs ls : List ℕ) (l w : ℕ) (xs : List ℕ) (s : ℕ) (q : Ris
   left = leftSibling fs ls w
 
   -- the comparison with the last child
-  module _ (c₁ : ℕ) (e₁ : c₁ ≡ 65536 * one (some (getD ix (w + 7168) 0))) where
-    count₁ : c₁ ≡ 65536 * one (some kid)
-    count₁ = e₁ ∙ ap (λ (x : ℕ). 65536 * one (some x)) (b .child-lasts w in-rows hw) ∙ ap (λ (x : ℕ). 65536 * x) (compared ix ns fs ls b kid (child-in ix ns fs ls b w))
+  module _ (c₁ : ℕ) (e₁ : c₁ ≡ one (some (getD ix (w + 7168) 0))) where
+    count₁ : c₁ ≡ one (some kid)
+    count₁ = e₁ ∙ ap (λ (x : ℕ). one (some x)) (b .child-lasts w in-rows hw) ∙ compared ix ns fs ls b kid (child-in ix ns fs ls b w)
 
     -- it fails
-    pub none-below : getD ix (w + 7168) 0 < l → Does xs s xs (s + c₁) (compare fs ls l kid go)
-    none-below h = record { does = λ f g. rw (compare-miss ls l (q .dated) fs kid go f (rw (b .child-lasts w in-rows hw) at h)) (now-tick xs s f g kid c₁ count₁) }
+    pub none-below : getD ix (w + 7168) 0 < l → Does ix xs s xs (s + c₁) (compare fs ls l kid go)
+    none-below h = record { does = λ f g. rw (compare-miss ls l (q .dated) fs kid go f (rw (b .child-lasts w in-rows hw) at h)) (now-tick ix xs s f g (small f g) kid c₁ count₁) }
 
     -- it succeeds
     module _ (h : l ≤ getD ix (w + 7168) 0) (k : ℕ) (z : k ≡ getD ix (w + 6144) 0) where
@@ -107,17 +113,17 @@ module _ (ix ns fs ls : List ℕ) (l w : ℕ) (xs : List ℕ) (s : ℕ) (q : Ris
 
       pub asks-below : RiseAt ix ns fs ls l (k - 1) xs (s + c₁)
       asks-below = asked ix ns fs ls l (suc w) hi (k - 1) xs (s + c₁) b (q .dated) u c-is (reaches ls l (q .dated) kid (k - 1) h′ suc-k)
-          (ticked kid (q .at)) (now-tick xs s (q .at) (q .now) kid c₁ count₁)
+          (ticked kid (q .at)) (now-tick ix xs s (q .at) (q .now) few-at kid c₁ count₁)
           (rw (ticked-list kid (q .at)) (q .free))
           (omega (arith, ticked-comparisons kid (q .at), one-le (some kid), q .few, over-w))
 
-      pub all-below : (xs₁ : List ℕ) (t : ℕ) → Does xs (s + c₁) xs₁ t (rise fs ls l (length fs) (k - 1)) → Does xs s xs₁ t (compare fs ls l kid go)
+      pub all-below : (xs₁ : List ℕ) (t : ℕ) → Does ix xs (s + c₁) xs₁ t (rise fs ls l (length fs) (k - 1)) → Does ix xs s xs₁ t (compare fs ls l kid go)
       all-below xs₁ t d = record {
-        does = λ f g. rw (compare-hit ls l (q .dated) fs kid go f h′) (rw k-is at (d .does (ticked kid f) (now-tick xs s f g kid c₁ count₁)));
+        does = λ f g. rw (compare-hit ls l (q .dated) fs kid go f h′) (rw k-is at (d .does (ticked kid f) (now-tick ix xs s f g (small f g) kid c₁ count₁)));
       }
 
   -- after what is below w
-  module _ (xs₁ : List ℕ) (t : ℕ) (d₁ : Does xs s xs₁ t (compare fs ls l (lastChild fs ls w) (rise fs ls l (length fs)))) where
+  module _ (xs₁ : List ℕ) (t : ℕ) (d₁ : Does ix xs s xs₁ t (compare fs ls l (lastChild fs ls w) (rise fs ls l (length fs)))) where
     f₁ : Found
     f₁ = compare fs ls l kid go (q .at)
 
@@ -138,7 +144,7 @@ module _ (ix ns fs ls : List ℕ) (l w : ℕ) (xs : List ℕ) (s : ℕ) (q : Ris
     }
 
     -- after w's chain: the comparison with the left sibling
-    module _ (xs₂ : List ℕ) (y : ℕ) (d₂ : Does xs₁ t xs₂ y (chain fs ls l w)) where
+    module _ (xs₂ : List ℕ) (y : ℕ) (d₂ : Does ix xs₁ t xs₂ y (chain fs ls l w)) where
       f₂ : Found
       f₂ = chain fs ls l w f₁
 
@@ -146,25 +152,36 @@ module _ (ix ns fs ls : List ℕ) (l w : ℕ) (xs : List ℕ) (s : ℕ) (q : Ris
       unfolding f₂
       cost₂ = chain-costs fs ls (b .sorted) l w f₁ hw in-rows (q .lasting)
 
-      now₂ : Now xs₂ y f₂
+      now₂ : Now ix xs₂ y f₂
       unfolding f₂ f₁
       now₂ = d₂ .does f₁ (d₁ .does (q .at) (q .now))
 
-      pub few₂ : y ≤ 65536 * 8192 + 1024
-      few₂ = omega (arith, cost₁ .comparisons, cost₂ .comparisons, q .few, b .few, over-w, inside, one-le (some kid), now₂ .is)
+      few-f₂ : f₂ .comparisons ≤ 8192
+      few-f₂ = omega (arith, cost₁ .comparisons, cost₂ .comparisons, q .few, b .few, over-w, inside, one-le (some kid))
 
-      module _ (c₂ : ℕ) (e₂ : c₂ ≡ 65536 * one (some (getD ix (w + 5120) 0))) where
-        count₂ : c₂ ≡ 65536 * one (some left)
-        count₂ = e₂ ∙ ap (λ (x : ℕ). 65536 * one (some x)) (b .left-lasts w in-rows hw) ∙ ap (λ (x : ℕ). 65536 * x) (compared ix ns fs ls b left (let z = left-in ix ns fs ls b w in omega (arith, in-rows)))
+      pub few₂ : y ≤ 67117056
+      few₂ = omega (arith, few-f₂, now₂ .is)
+
+      small₂ : (f : Found) → Now ix xs₂ y f → f .comparisons ≤ 8192
+      small₂ = as-few ix xs₂ y f₂ now₂ 8192 few-f₂
+
+      module _ (c₂ : ℕ) (e₂ : c₂ ≡ one (some (getD ix (w + 5120) 0))) where
+        count₂ : c₂ ≡ one (some left)
+        count₂ = e₂ ∙ ap (λ (x : ℕ). one (some x)) (b .left-lasts w in-rows hw) ∙ compared ix ns fs ls b left (let z = left-in ix ns fs ls b w in omega (arith, in-rows))
+
+        -- what was found after w's chain, with that comparison
+        after : (f : Found) → Now ix xs s f → Now ix xs₂ (y + c₂) (ticked left (chain fs ls l w (compare fs ls l kid go f)))
+        after f g =
+            let g₂ = d₂ .does (compare fs ls l kid go f) (d₁ .does f g) in
+            now-tick ix xs₂ y (chain fs ls l w (compare fs ls l kid go f)) g₂ (small₂ (chain fs ls l w (compare fs ls l kid go f)) g₂) left c₂ count₂
 
         step : (f : Found) → rise fs ls l (length fs) w f ≡ compare fs ls l left go (chain fs ls l w (compare fs ls l kid go f))
         step f = rise-step fs ls l lo hi w f r (q .is)
 
         -- it fails
-        pub none-beside : getD ix (w + 5120) 0 < l → Does xs s xs₂ (y + c₂) (rise fs ls l (length fs) w)
+        pub none-beside : getD ix (w + 5120) 0 < l → Does ix xs s xs₂ (y + c₂) (rise fs ls l (length fs) w)
         none-beside h = record {
-          does = λ f g. rw (step f ∙ compare-miss ls l (q .dated) fs left go (chain fs ls l w (compare fs ls l kid go f)) (rw (b .left-lasts w in-rows hw) at h))
-              (now-tick xs₂ y (chain fs ls l w (compare fs ls l kid go f)) (d₂ .does (compare fs ls l kid go f) (d₁ .does f g)) left c₂ count₂);
+          does = λ f g. rw (step f ∙ compare-miss ls l (q .dated) fs left go (chain fs ls l w (compare fs ls l kid go f)) (rw (b .left-lasts w in-rows hw) at h)) (after f g);
         }
 
         -- it succeeds
@@ -194,14 +211,14 @@ module _ (ix ns fs ls : List ℕ) (l w : ℕ) (xs : List ℕ) (s : ℕ) (q : Ris
           asks-beside =
               let o : one (some left) ≡ 1 = rw suc-j in
               asked ix ns fs ls l lo w (k - 1) xs₂ (y + c₂) b (q .dated) d j-child (reaches ls l (q .dated) left (k - 1) j′ suc-j)
-              (ticked left f₂) (now-tick xs₂ y f₂ now₂ left c₂ count₂)
+              (ticked left f₂) (now-tick ix xs₂ y f₂ now₂ few-f₂ left c₂ count₂)
               (rw (ticked-list left f₂) (omega (arith, cost₁ .list, cost₂ .list, q .free)))
               (omega (arith, ticked-comparisons left f₂, o, cost₁ .comparisons, cost₂ .comparisons, q .few))
 
-          pub all-beside : (xs₃ : List ℕ) (x : ℕ) → Does xs₂ (y + c₂) xs₃ x (rise fs ls l (length fs) (k - 1)) → Does xs s xs₃ x (rise fs ls l (length fs) w)
+          pub all-beside : (xs₃ : List ℕ) (x : ℕ) → Does ix xs₂ (y + c₂) xs₃ x (rise fs ls l (length fs) (k - 1)) → Does ix xs s xs₃ x (rise fs ls l (length fs) w)
           all-beside xs₃ x t₃ = record {
             does = λ f g.
                 let f′ : Found = chain fs ls l w (compare fs ls l kid go f) in
                 rw (step f ∙ compare-hit ls l (q .dated) fs left go f′ j′)
-                (rw j-is at (t₃ .does (ticked left f′) (now-tick xs₂ y f′ (d₂ .does (compare fs ls l kid go f) (d₁ .does f g)) left c₂ count₂)));
+                (rw j-is at (t₃ .does (ticked left f′) (after f g)));
           }

@@ -1,17 +1,17 @@
 -- The steps of the days question, apart from the code. Assumes nothing.
-use Prim.Native.Nat.{ℕ, zero, suc, _+_, _-_, _*_, _%_, _≤_, _<_, zero-le}
+use Prim.Native.Nat.{ℕ, zero, suc, _+_, _-_, _*_, _/_, _≤_, _<_, zero-le}
 use native.Mathlib.Nat.{le-refl}
 use native.Mathlib.Omega.{arith}
 use native.Mathlib.Numerals.{add-one}
 use mathlib.Core.Bool.{Bool, true, false, _&&_}
-use mathlib.Core.List.{List, [], _∷_, _++_, map, append-assoc, append-nil}
+use mathlib.Core.List.{List, [], _∷_, _++_, map, map-append, append-assoc, append-nil}
 use mathlib.Core.Logic.{_≢_}
 use mathlib.Core.Path.{_≡_, refl, sym, ap, _∙_}
 use lib.Dec.{leb, ltb}
-use lib.ListN.{length, getD, take, drop, length-append, length-drop, length-map, drop-of-length-le}
-use lib.Seq.{drop-cons, drop-append-le, drop-length, drop-drop, take-at, drop-at, take-all}
+use lib.ListN.{take-append-drop, length, getD, take, drop, length-append, length-drop, length-map, drop-of-length-le, List·getD-append, List·getD-map}
+use lib.Seq.{getD-drop, drop-cons, drop-drop, take-at, drop-at, take-all, length-take-le}
 use borrow.Rule.Slice.PartMut.{putMid, postOf}
-use borrow.Author.Tests.{le-leb, lt-leb, lt-ltb, le-ltb, leb-true, leb-false, ltb-true}
+use borrow.Author.Tests.{le-leb, lt-leb, lt-ltb, le-ltb, leb-true, leb-false, ltb-true, ltb-false}
 use Rattle.stabbing.specs.Tree.{keep, fits, start, latest, walk}
 use Rattle.stabbing.specs.Index.{Built, numbers, firsts, lasts}
 use Rattle.stabbing.specs.declared.Listed.{Listed}
@@ -21,8 +21,10 @@ use Rattle.stabbing.proofs.Walk.{listing}
 use Rattle.stabbing.proofs.Starts.{latest-is}
 use Rattle.stabbing.proofs.Block.{Holds, built-holds}
 use Rattle.stabbing.proofs.Days.{from, keep-from, added, added-room, added-none, added-all, latest-none}
-use Rattle.stabbing_query.specs.Code.{Now, walkOf, numbered, under, dayFrom, daysFrom, AddAsks, GatherAsks, Added}
+use Rattle.stabbing_query.specs.Code.{Now, walkOf, numbered, InRows, Skips, past, dayFrom, daysFrom, AddAsks, GatherAsks, Added}
 use Rattle.stabbing_query.proofs.Keeping.{now-place}
+use Rattle.stabbing_query.proofs.Filling.{drop-map}
+use Rattle.stabbing_query.proofs.Skipping.{past-le, rest-from, keep-within}
 use Rattle.stabbing_query.proofs.Answering.{give-all, give-none, refusal, keep-map}
 
 -- ---- The checks, day by day
@@ -51,14 +53,6 @@ module _ (ds : List ℕ) (i : ℕ) (h : i < length ds) where
   unfolding risingFrom
   on b e = ap (risingFrom b) cons ∙ rw (lt-ltb b d e)
 
-  pub stays : (m : ℕ) → m ≤ d → under m (drop i ds) ≡ 0
-  unfolding under
-  stays m e = rw cons (rw (le-ltb d m e, under))
-
-  pub passes : (m : ℕ) → d < m → under m (drop i ds) ≡ suc (under m (drop (i + 1) ds))
-  unfolding under
-  passes m e = ap (under m) cons ∙ rw (lt-ltb d m e, under)
-
 -- and past the last
 module _ (ds : List ℕ) (i : ℕ) (h : length ds ≤ i) where
   pub all-dated : calendars (drop i ds) ≡ true
@@ -69,58 +63,7 @@ module _ (ds : List ℕ) (i : ℕ) (h : length ds ≤ i) where
   unfolding risingFrom
   all-rise b = rw (drop-of-length-le ds {i = i} h)
 
-  pub all-passed : (m : ℕ) → under m (drop i ds) ≡ 0
-  unfolding under
-  all-passed m = rw (drop-of-length-le ds {i = i} h)
-
 -- ---- What one day adds
-
-pub under-le : (m : ℕ) (ps : List ℕ) → under m ps ≤ length ps
-unfolding under
-under-le m [] = zero-le
-under-le m (p ∷ ps) = by-test (ltb p m) (λ e. rw (e, under) (omega (arith, under-le m ps))) (λ e. rw (e, under) zero-le)
-
--- a last position that is below m, and one that is not
-under-all : (m : ℕ) (ps : List ℕ) (n : ℕ) → n < m → under m ps ≡ length ps → under m (ps ++ (n ∷ [])) ≡ suc (under m ps)
-unfolding under
-under-all m [] n h e = rw (lt-ltb n m h, under)
-under-all m (p ∷ ps) n h e = by-test (ltb p m)
-    (λ y. let e′ : under m ps ≡ length ps = let z : suc (under m ps) ≡ suc (length ps) = rw (y, under) at e in omega arith in rw (y, under) (ap suc (under-all m ps n h e′)))
-    (λ y. let z : 0 ≡ suc (length ps) = rw (y, under) at e in absurd (omega arith))
-
-under-most : (m : ℕ) (ps : List ℕ) (n : ℕ) → m ≤ n → under m (ps ++ (n ∷ [])) ≡ under m ps
-unfolding under
-under-most m [] n h = rw (le-ltb n m h, under)
-under-most m (p ∷ ps) n h = by-test (ltb p m) (λ y. rw (y, under) (ap suc (under-most m ps n h))) (λ y. rw (y, under))
-
--- below m, all lie below m
-under-below : (t : ℕ → Bool) (m n : ℕ) → n ≤ m → under m (keep t n) ≡ length (keep t n)
-unfolding keep under
-under-below t m zero h = refl
-under-below t m (suc n) h =
-    let ih = under-below t m n (omega arith) in
-    by-test (t n)
-    (λ e. rw (keep-hit t n e) (under-all m (keep t n) n h ih ∙ omega (arith, ih, length-append (keep t n) (n ∷ []))))
-    (λ e. rw (keep-miss t n e) ih)
-
--- past those that lie below m come those from m on
-pub under-from : (t : ℕ → Bool) (m n : ℕ) → drop (under m (keep t n)) (keep t n) ≡ keep (from m t) n
-unfolding keep under
-under-from t m zero = refl
-under-from t m (suc n) =
-    let w : ℕ → Bool = from m t in
-    by-test (leb m n)
-    (λ le.
-    let h : m ≤ n = leb-true m n le in
-    let q : w n ≡ t n = rw le in
-    by-test (t n)
-    (λ e. rw (keep-hit t n e, keep-hit w n (q ∙ e), under-most m (keep t n) n h)
-    (drop-append-le (under m (keep t n)) (keep t n) (n ∷ []) (under-le m (keep t n)) ∙ rw (under-from t m n)))
-    (λ e. rw (keep-miss t n e, keep-miss w n (q ∙ e)) (under-from t m n)))
-    (λ gt.
-    let h : n < m = leb-false m n gt in
-    let none : keep w (suc n) ≡ [] = keep-skip w 0 (suc n) zero-le (λ p x y z. omega (arith, leb-true m p (both (leb m p) (t p) z .0))) in
-    rw (none, under-below t m (suc n) h) (drop-length (keep t (suc n))))
 
 module _ (ix : List ℕ) (d m : ℕ) (answer : List ℕ) (q : AddAsks ix d m answer) (st : ℕ) (e : st ≡ start (firsts ix) (lasts ix) d d) where
   abbrev fs : List ℕ
@@ -136,33 +79,38 @@ module _ (ix : List ℕ) (d m : ℕ) (answer : List ℕ) (q : AddAsks ix d m ans
   finds = keep (fits fs ls d d) (length fs)
 
   -- after the walk, and with the place that is reached by skipping
-  module _ (xs : List ℕ) (s : ℕ) (g : Now xs s (walkOf ix d st)) (at : ℕ) (z : at ≡ s % 65536 + under m (drop (s % 65536) xs)) where
+  module _ (xs : List ℕ) (s : ℕ) (g : Now ix xs s (walkOf ix d st)) (at : ℕ) (z : Skips ix xs (s / 65536) m at) where
     list-is : walkOf ix d st .list ≡ finds
     list-is = rw e (listing fs ls (held .sorted) d d)
 
-    found-is : drop (s % 65536) xs ≡ finds
-    found-is = rw (now-place xs s (walkOf ix d st) g) (g .list ∙ list-is)
+    found-is : drop (s / 65536) xs ≡ numbered ix finds
+    found-is = rw (now-place ix xs s (walkOf ix d st) g) (g .list ∙ ap (numbered ix) list-is)
 
-    at-is : at ≡ s % 65536 + under m finds
-    at-is = rw (← found-is) z
+    at-is : at + past m finds ≡ 1024
+    at-is = z .skips finds (keep-within (fits fs ls d d) (length fs)) found-is
 
-    place-is : s % 65536 + length finds ≡ 1024
-    place-is = omega (arith, now-place xs s (walkOf ix d st) g, g .fits, ap length list-is)
+    place-is : s / 65536 + length finds ≡ 1024
+    place-is = omega (arith, now-place ix xs s (walkOf ix d st) g, g .fits, ap length list-is)
 
     pub at-in : at ≤ 1024
-    at-in = omega (arith, at-is, place-is, under-le m finds)
+    at-in = omega (arith, at-is)
 
-    pub rest-is : drop at xs ≡ dayFrom ix m d
-    rest-is = rw at-is (sym (drop-drop (under m finds) (s % 65536) xs) ∙ rw found-is (under-from (fits fs ls d d) m (length fs)))
+    rest-is : drop at xs ≡ dayFrom ix m d
+    rest-is =
+        let n : at ≡ s / 65536 + (length finds - past m finds) = omega (arith, at-is, place-is, past-le m finds) in
+        rw n (sym (drop-drop (length finds - past m finds) (s / 65536) xs)
+        ∙ rw found-is (drop-map (λ (p : ℕ). getD ix p 0) (length finds - past m finds) finds ∙ ap (numbered ix) (rest-from (fits fs ls d d) m (length fs))))
 
-    pub count-is : 1024 - at ≡ length (dayFrom ix m d)
+    count-is : 1024 - at ≡ length (dayFrom ix m d)
     count-is = sym (ap length (sym rest-is) ∙ length-drop at xs ∙ ap (λ (n : ℕ). n - at) (g .size))
 
     pub fits-in : 1024 - at ≤ length answer
-    fits-in = omega (arith, count-is, keep-from (fits fs ls d d) m (length fs) (q .within), q .room)
+    fits-in = omega (arith, count-is, length-map (keep (from m (fits fs ls d d)) (length fs)) (λ (p : ℕ). getD ix p 0), keep-from (fits fs ls d d) m (length fs) (q .within), q .room)
 
-    pub adds : (after : List ℕ) → after ≡ drop at xs ++ drop (1024 - at) answer → Added (dayFrom ix m d) answer after (1024 - at)
-    adds after y = record { count = count-is; places = y ∙ rw rest-is }
+    pub adds : (after : List ℕ) → after ≡ take (1024 - at) (drop at xs) ++ drop (1024 - at) answer → Added (dayFrom ix m d) answer after (1024 - at)
+    adds after y =
+        let t : take (1024 - at) (dayFrom ix m d) ≡ dayFrom ix m d = take-all (1024 - at) (dayFrom ix m d) (omega (arith, count-is)) in
+        record { count = count-is; places = y ∙ rw (rest-is, t) }
 
 -- ---- What several days add
 
@@ -184,24 +132,22 @@ module _ (ix ds : List ℕ) (m : ℕ) (answer : List ℕ) (q : GatherAsks ix ds 
   holds : Holds ix (numbers ix) gs ks
   holds = built-holds ix (q .built)
 
-  pub none-left : length ds ≡ 0 → Added (daysFrom ix m ds) answer answer 0
+  -- no day is left
+  pub none-left : length ds ≡ 0 → daysFrom ix m ds ≡ []
   none-left h =
       let e : ds ≡ [] = drop-of-length-le ds {i = 0} (omega arith) in
-      let z : daysFrom ix m ds ≡ [] = rw e (added-none gs ks (holds .sorted) m) in
-      record { count = rw z; places = rw z }
+      rw e (ap (numbered ix) (added-none gs ks (holds .sorted) m))
 
   m-in : m ≤ length gs
   m-in = rw (q .begun) (latest-is gs ks (holds .sorted) (q .b) .within)
 
-  module _ (some : length ds ≢ 0) where
+  -- the first day x, by which M rows begin
+  module _ (some : 0 < length ds) where
     abbrev x : ℕ
     x = getD ds 0 0
 
-    pub begun : 0 < length ds
-    begun = omega arith
-
     cons-is : ds ≡ x ∷ drop 1 ds
-    cons-is = drop-cons ds 0 0 begun
+    cons-is = drop-cons ds 0 0 some
 
     dates : (calendar x ≡ true) × (calendars (drop 1 ds) ≡ true)
     unfolding calendars
@@ -219,58 +165,138 @@ module _ (ix ds : List ℕ) (m : ℕ) (answer : List ℕ) (q : GatherAsks ix ds 
         let y = both (leb 1 x) (leb x 4000) (dates .0) in
         record { built = q .built; dated = leb-true 1 x (y .0); late = leb-true x 4000 (y .1); room = q .room; within = m-in }
 
-    -- after the first day's part is written
-    module _ (after : List ℕ) (k : ℕ) (a : Added (dayFrom ix m x) answer after k) where
-      k-room : k + m ≤ latest gs ks x
-      k-room = rw (a .count, q .begun) (added-room gs ks (holds .sorted) (q .b) x after-b)
+    module _ (M : ℕ) (e : M ≡ latest gs ks x) where
+      M-in : M ≤ length gs
+      M-in = rw e (latest-is gs ks (holds .sorted) x .within)
 
-      pub k-small : k ≤ 1024
-      k-small = omega (arith, k-room, latest-is gs ks (holds .sorted) x .within, holds .few)
+      pub M-small : M ≤ 1024
+      M-small = omega (arith, M-in, holds .few)
 
-      pub k-in : k ≤ length answer
-      k-in = omega (arith, k-room, latest-is gs ks (holds .sorted) x .within, q .room)
+      -- what it adds, and what the rest does
+      pub both-are : daysFrom ix m ds ≡ dayFrom ix m x ++ daysFrom ix M (drop 1 ds)
+      both-are =
+          let f : ℕ → ℕ = λ p. getD ix p 0 in
+          let es : keep (from m (containsAny gs ks (x ∷ drop 1 ds))) (length gs) ≡ keep (from m (fits gs ks x x)) (length gs) ++ keep (from M (containsAny gs ks (drop 1 ds))) (length gs)
+          = rw (q .begun, e) (added gs ks (holds .sorted) (q .b) x after-b (drop 1 ds) (rises .1)) in
+          ap (daysFrom ix m) cons-is ∙ ap (numbered ix) es ∙ map-append f (keep (from m (fits gs ks x x)) (length gs)) (keep (from M (containsAny gs ks (drop 1 ds))) (length gs))
 
-      same : length after ≡ length answer
-      same = ap length (a .places) ∙ omega (arith, length-append (dayFrom ix m x) (drop k answer), length-drop k answer, a .count, k-in)
+      module _ (after : List ℕ) (k : ℕ) (a : Added (dayFrom ix m x) answer after k) where
+        pub k-room : k + m ≤ M
+        k-room =
+            let n : k ≡ length (keep (from m (fits gs ks x x)) (length gs)) = a .count ∙ length-map (keep (from m (fits gs ks x x)) (length gs)) (λ (p : ℕ). getD ix p 0) in
+            rw (n, q .begun, e) (added-room gs ks (holds .sorted) (q .b) x after-b)
 
-      pub k-in-after : k ≤ length after
-      k-in-after = omega (arith, same, k-in)
+        pub k-in : k ≤ length answer
+        k-in = omega (arith, k-room, M-in, q .room)
 
-      module _ (M : ℕ) (e : M ≡ latest gs ks x) where
-        pub asks-rest : GatherAsks ix (take (length ds - 1) (drop 1 ds)) M (take (length after - k) (drop k after))
-        asks-rest = rw (lent ds 1, lent after k) (record {
+        pub asks-rest : GatherAsks ix (drop 1 ds) M (drop k answer)
+        asks-rest = record {
           built = q .built;
           dated = dates .1;
           b = x;
           rising = rises .1;
           begun = e;
-          room = omega (arith, length-drop k after, same, k-room, k-in, q .room);
-        })
+          room = omega (arith, length-drop k answer, k-room, k-in, q .room);
+        }
 
-        pub fewer : length (take (length ds - 1) (drop 1 ds)) < length ds
-        fewer = rw (lent ds 1) (omega (arith, length-drop 1 ds, begun))
+-- Day by day: the first `at` places hold what the first i days give, and no more of it than the m rows that begin by the last of these; the
+-- later places are as they were.
+module _ (ix ds answer₀ : List ℕ) where
+  pub record Going (answer : List ℕ) (m at i : ℕ) : Type 0 where
+    pub same : length answer ≡ length answer₀
+    pub within : at ≤ length answer
+    pub few : at ≤ m
+    pub asks : GatherAsks ix (drop i ds) m (drop at answer)
+    pub part : daysFrom ix 0 ds ≡ take at answer ++ daysFrom ix m (drop i ds)
+    pub kept : drop at answer ≡ drop at answer₀
 
-        module _ (ys : List ℕ) (r : ℕ) (c : Added (daysFrom ix M (take (length ds - 1) (drop 1 ds))) (take (length after - k) (drop k after)) ys r) where
-          c′ : Added (daysFrom ix M (drop 1 ds)) (drop k after) ys r
-          c′ = rw (lent ds 1, lent after k) at c
+  pub starts : GatherAsks ix ds 0 answer₀ → Going answer₀ 0 0 0
+  starts q = record { same = refl; within = zero-le; few = zero-le; asks = q; part = refl; kept = refl }
 
-          pub sum-small : k + r ≤ 1024
-          sum-small = omega (arith, a .count, c′ .count, k-room, holds .few, keep-from (containsAny gs ks (drop 1 ds)) M (length gs) (rw e (latest-is gs ks (holds .sorted) x .within)))
+  module _ (answer : List ℕ) (m at i : ℕ) (g : Going answer m at i) where
+    pub ends : length ds ≤ i → Added (daysFrom ix 0 ds) answer₀ answer at
+    ends h =
+        let z : daysFrom ix 0 ds ≡ take at answer = g .part ∙ rw (none-left ix (drop i ds) m (drop at answer) (g .asks) (omega (arith, length-drop i ds)), append-nil) in
+        record {
+          count = sym (ap length z ∙ length-take-le at answer (g .within));
+          places = sym (take-append-drop at answer) ∙ rw (z, g .kept);
+        }
 
-          both-are : daysFrom ix m ds ≡ dayFrom ix m x ++ daysFrom ix M (drop 1 ds)
-          both-are = ap (daysFrom ix m) cons-is ∙ rw (q .begun, e) (added gs ks (holds .sorted) (q .b) x after-b (drop 1 ds) (rises .1))
+    module _ (h : i < length ds) where
+      -- the days still to come, and the places not yet written, as they are lent
+      abbrev rest : List ℕ
+      rest = take (length ds - i) (drop i ds)
 
-          pub gathered : Added (daysFrom ix m ds) answer (putMid k (length after - k) after ys) (k + r)
-          gathered =
-              let n : length (dayFrom ix m x) ≡ k = sym (a .count) in
-              let t : take k after ≡ dayFrom ix m x = rw (a .places) (take-at (dayFrom ix m x) (drop k answer) k n) in
-              let u : drop k after ≡ drop k answer = rw (a .places) (drop-at (dayFrom ix m x) (drop k answer) k n) in
-              let p : postOf k (length after - k) after ≡ [] = drop-of-length-le (drop k after) {i = length after - k} (omega (arith, length-drop k after)) in
-              let v : ys ≡ daysFrom ix M (drop 1 ds) ++ drop (k + r) answer = c′ .places ∙ rw (u, drop-drop) in
-              record {
-                count = rw both-are (omega (arith, length-append (dayFrom ix m x) (daysFrom ix M (drop 1 ds)), a .count, c′ .count));
-                places = rw (t, p, append-nil, v, both-are) (sym (append-assoc (dayFrom ix m x) (daysFrom ix M (drop 1 ds)) (drop (k + r) answer)));
-              }
+      abbrev free : List ℕ
+      free = take (length answer - at) (drop at answer)
+
+      abbrev today : ℕ
+      today = getD rest 0 0
+
+      pub some-left : 0 < length rest
+      some-left = rw (lent ds i) (omega (arith, length-drop i ds))
+
+      q : GatherAsks ix rest m free
+      q = rw (lent ds i, lent answer at) (g .asks)
+
+      pub asks-day : AddAsks ix today m free
+      asks-day = asks-add ix rest m free q some-left
+
+      today-is : today ≡ getD ds i 0
+      today-is = let z : i + 0 ≡ i = omega arith in rw (lent ds i) (getD-drop i ds 0 0 ∙ ap (λ (n : ℕ). getD ds n 0) z)
+
+      pub late : getD ds i 0 ≤ 4000
+      late = rw (← today-is) (asks-day .late)
+
+      module _ (M : ℕ) (e : M ≡ latest (firsts ix) (lasts ix) (getD ds i 0)) (ys : List ℕ) (k : ℕ) (a : Added (dayFrom ix m today) free ys k) where
+        e′ : M ≡ latest (firsts ix) (lasts ix) today
+        e′ = e ∙ ap (latest (firsts ix) (lasts ix)) (sym today-is)
+
+        room : k + m ≤ M
+        room = k-room ix rest m free q some-left M e′ ys k a
+
+        k-fits : k ≤ length (drop at answer)
+        k-fits = rw (lent answer at) at (k-in ix rest m free q some-left M e′ ys k a)
+
+        pub small : at + k ≤ 1024
+        small = omega (arith, room, g .few, M-small ix rest m free q some-left M e′)
+
+        -- what stands then in the answer
+        abbrev after : List ℕ
+        after = putMid at (length answer - at) answer ys
+
+        abbrev so-far : List ℕ
+        so-far = take at answer ++ dayFrom ix m today
+
+        after-is : after ≡ so-far ++ drop (at + k) answer
+        after-is =
+            let p : postOf at (length answer - at) answer ≡ [] = drop-of-length-le (drop at answer) {i = length answer - at} (omega (arith, length-drop at answer)) in
+            rw (p, append-nil, a .places, lent answer at, drop-drop) (sym (append-assoc (take at answer) (dayFrom ix m today) (drop (at + k) answer)))
+
+        long : length so-far ≡ at + k
+        long = length-append (take at answer) (dayFrom ix m today) ∙ omega (arith, length-take-le at answer (g .within), a .count)
+
+        taken : take (at + k) after ≡ so-far
+        taken = rw after-is (take-at so-far (drop (at + k) answer) (at + k) long)
+
+        left : drop (at + k) after ≡ drop (at + k) answer
+        left = rw after-is (drop-at so-far (drop (at + k) answer) (at + k) long)
+
+        pub goes-on : Going after M (at + k) (i + 1)
+        goes-on =
+            let n : length after ≡ length answer
+            = ap length after-is ∙ length-append so-far (drop (at + k) answer) ∙ omega (arith, long, length-drop (at + k) answer, length-drop at answer, k-fits, g .within) in
+            let d : drop 1 rest ≡ drop (i + 1) ds = rw (lent ds i) (drop-drop 1 i ds) in
+            let f : drop k free ≡ drop (at + k) answer = rw (lent answer at) (drop-drop k at answer) in
+            let w : daysFrom ix m (drop i ds) ≡ daysFrom ix m rest = rw (lent ds i) in
+            record {
+              same = n ∙ g .same;
+              within = omega (arith, n, length-drop at answer, k-fits, g .within);
+              few = omega (arith, room, g .few);
+              asks = rw (left, ← d, ← f) (asks-rest ix rest m free q some-left M e′ ys k a);
+              part = g .part ∙ rw (w, both-are ix rest m free q some-left M e′, taken, d) (sym (append-assoc (take at answer) (dayFrom ix m today) (daysFrom ix M (drop (i + 1) ds))));
+              kept = left ∙ sym (drop-drop k at answer) ∙ ap (drop k) (g .kept) ∙ drop-drop k at answer₀;
+            }
 
 -- ---- The answer
 
@@ -314,19 +340,17 @@ module _ (ix ds : List ℕ) (b : Built ix) (d : calendars ds ≡ true) (r : risi
   names = map (λ p. getD (numbers ix) p 0) all
 
   module _ (answer after : List ℕ) (k : ℕ) (a : Added (daysFrom ix 0 ds) answer after k) where
-    all-is : daysFrom ix 0 ds ≡ all
-    all-is = added-all js es (holding .sorted) ds
+    all-is : daysFrom ix 0 ds ≡ names
+    all-is = ap (numbered ix) (added-all js es (holding .sorted) ds) ∙ keep-map (λ p. getD ix p 0) (λ p. getD (numbers ix) p 0) (containsAny js es ds) (length js) (holding .numbers)
 
     pub few-in : 0 + k ≤ 1024
-    few-in = omega (arith, a .count, keep-from (containsAny js es ds) 0 (length js) zero-le, holding .few)
+    few-in = omega (arith, a .count, length-map (keep (from 0 (containsAny js es ds)) (length js)) (λ (p : ℕ). getD ix p 0), keep-from (containsAny js es ds) 0 (length js) zero-le, holding .few)
 
     counted : k ≡ length names
-    counted = a .count ∙ ap length all-is ∙ sym (length-map all (λ (p : ℕ). getD (numbers ix) p 0))
+    counted = a .count ∙ ap length all-is
 
-    named-so : numbered ix (take k (drop 0 after)) ≡ names
-    named-so =
-        let t : take k after ≡ all = rw (a .places) (take-at (daysFrom ix 0 ds) (drop k answer) k (sym (a .count)) ∙ all-is) in
-        ap (numbered ix) t ∙ keep-map (λ p. getD ix p 0) (λ p. getD (numbers ix) p 0) (containsAny js es ds) (length js) (holding .numbers)
+    written : take k (drop 0 after) ≡ names
+    written = rw (a .places) (take-at (daysFrom ix 0 ds) (drop k answer) k (sym (a .count)) ∙ all-is)
 
     module _ (out : List ℕ) where
       is : daysOf (numbers ix) js es ds out ≡ give names 0 out
@@ -335,9 +359,9 @@ module _ (ix ds : List ℕ) (b : Built ix) (d : calendars ds ≡ true) (r : risi
       pub too-many : length out < k → (l : Listed) → l ≡ record { refusal = 11; count = 0; comparisons = 0 } → Gave l out (daysOf (numbers ix) js es ds out)
       too-many h = refusal 11 out (daysOf (numbers ix) js es ds out) (is ∙ give-none names 0 out (rw counted at h))
 
-      pub all-written : k ≤ length out → (end : List ℕ) → end ≡ numbered ix (take k (drop 0 after)) ++ drop k out
+      pub all-written : k ≤ length out → (end : List ℕ) → end ≡ take k (drop 0 after) ++ drop k out
           → Gave (record { refusal = 0; count = k; comparisons = 0 }) end (daysOf (numbers ix) js es ds out)
       all-written h end e = rw (is ∙ give-all names 0 out (rw counted at h)) (record {
         result = ap (λ (n : ℕ). record { refusal = 0; count = n; comparisons = 0 }) counted;
-        out = e ∙ ap (λ (xs : List ℕ). xs ++ drop k out) named-so ∙ ap (λ (n : ℕ). names ++ drop n out) counted;
+        out = e ∙ ap (λ (xs : List ℕ). xs ++ drop k out) written ∙ ap (λ (n : ℕ). names ++ drop n out) counted;
       })

@@ -1,13 +1,13 @@
 // The four questions over the published index: day, span, cover, days. Each walks the sibling tree by the stored links, from
-// its start, and lists positions in a list of its own; the numbers go to the caller's list once their count is known.
+// its start, and lists numbers in a list of its own; they go to the caller's list once their count is known.
 ghost use mathlib.Core.Path.{_≡_};
 ghost use Prim.Native.Nat.{suc, _+_, _*_, _≤_, _<_, _-_};
 ghost use mathlib.Core.List.{_++_};
-ghost use lib.ListN.{length, take, drop};
+ghost use lib.ListN.{length, getD, take, drop};
 ghost use Rattle.stabbing.specs.Tree.{one, some};
 ghost use Rattle.stabbing.specs.Index.{Built};
 ghost use Rattle.stabbing.specs.Answer.{Gave, dayIn, spanIn, coverIn, daysIn, calendar, calendars, risingFrom};
-ghost use Rattle.stabbing_query.specs.Code.{Does, ChainAsks, RiseAsks, ClimbAsks, Now, chainOf, riseOf, climbOf, WalkAsks, SpanAsks, walkOf, startOf, toldOf, listedOf, numbered, under, dayFrom, daysFrom, AddAsks, GatherAsks, Added};
+ghost use Rattle.stabbing_query.specs.Code.{Does, ChainAsks, RiseAsks, ClimbAsks, Now, chainOf, riseOf, lowerOf, climbOf, WalkAsks, SpanAsks, walkOf, startOf, toldOf, listedOf, Skips, dayFrom, daysFrom, AddAsks, GatherAsks, Added};
 use refusal::OFF_CALENDAR;
 use refusal::REVERSED;
 use refusal::SHORT_BUFFER;
@@ -29,9 +29,8 @@ use stabbing::PARENT;
 use stabbing::START;
 
 // ---- The walk
-// Its state is one number: the comparisons made, 65536 each, and the place reached in `found`, which is written from its end
-// downward. Positions are listed, not numbers: they are in the order, so that the days question can tell by them which rows
-// begin after a day, and no two rows need different numbers for that.
+// Its state is one number: the place reached in `found`, which is written from its end downward, 65536 each, and the comparisons
+// made.
 
 fn wide(x: u16) -> usize
     ensures { λ r. ⌜ r ≡ x ⌝ }
@@ -43,19 +42,19 @@ fn wide(x: u16) -> usize
 // A comparison with a neighbour's last day (document 01's look), as it counts in the state. The stored day is 0 where there is
 // no neighbour, and then none is made.
 fn comparison(last: u16) -> usize
-    ensures { λ r. ⌜ r ≡ 65536 * one (some last) ⌝ }
+    ensures { λ r. ⌜ r ≡ one (some last) ⌝ }
 {
-    if last == 0 { 0 } else { 65536 }
+    if last == 0 { 0 } else { 1 }
 }
 
 // Lists p, and its chain while it lasts to l.
 fn chain(index: &[u16; INDEX], l: u16, p: usize, found: &mut [u16; 1024], s: usize) -> usize
     requires { ⌜ ChainAsks (now index) l p (now found) s ⌝ }
-    ensures { λ r. ⌜ Does (now (found .entry)) s (now (found .exit)) r (chainOf (now (index .entry)) l p) ⌝ }
+    ensures { λ r. ⌜ Does (now (index .entry)) (now (found .entry)) s (now (found .exit)) r (chainOf (now (index .entry)) l p) ⌝ }
 {
-    let t = s - 1;
-    let at = t % 65536;
-    found[at] = p as u16;
+    let t = s - 65536;
+    let at = t / 65536;
+    found[at] = index[p];
     let last = index[p + NEXT_LAST];
     let a = t + comparison(last);
     if last < l {
@@ -64,17 +63,39 @@ fn chain(index: &[u16; INDEX], l: u16, p: usize, found: &mut [u16; 1024], s: usi
     chain(index, l, wide(index[p + NEXT]) - 1, found, a)
 }
 
+// What is below the head w, which lasts to l: its last child c, if that lasts to l too, with what is below c, c's chain and what is
+// left of c. So a call of `rise` goes two heads deep, and fewer calls are made.
+fn lower(index: &[u16; INDEX], l: u16, w: usize, found: &mut [u16; 1024], s: usize) -> usize
+    requires { ⌜ RiseAsks (now index) l w (now found) s ⌝ }
+    ensures { λ r. ⌜ Does (now (index .entry)) (now (found .entry)) s (now (found .exit)) r (lowerOf (now (index .entry)) l w) ⌝ }
+{
+    let below = index[w + CHILD_LAST];
+    let a = s + comparison(below);
+    if below < l {
+        return a;
+    }
+    let c = wide(index[w + CHILD]) - 1;
+    let deep = index[c + CHILD_LAST];
+    let mut b = a + comparison(deep);
+    if l <= deep {
+        b = rise(index, l, wide(index[c + CHILD]) - 1, found, b);
+    }
+    let d = chain(index, l, c, found, b);
+    let near = index[c + LEFT_LAST];
+    let e = d + comparison(near);
+    if near < l {
+        return e;
+    }
+    rise(index, l, wide(index[c + LEFT]) - 1, found, e)
+}
+
 // The head w, which lasts to l: the last children below it that do, from the lowest up, and then w, each with its chain and
 // what is left of it.
 fn rise(index: &[u16; INDEX], l: u16, w: usize, found: &mut [u16; 1024], s: usize) -> usize
     requires { ⌜ RiseAsks (now index) l w (now found) s ⌝ }
-    ensures { λ r. ⌜ Does (now (found .entry)) s (now (found .exit)) r (riseOf (now (index .entry)) l w) ⌝ }
+    ensures { λ r. ⌜ Does (now (index .entry)) (now (found .entry)) s (now (found .exit)) r (riseOf (now (index .entry)) l w) ⌝ }
 {
-    let below = index[w + CHILD_LAST];
-    let mut a = s + comparison(below);
-    if l <= below {
-        a = rise(index, l, wide(index[w + CHILD]) - 1, found, a);
-    }
+    let a = lower(index, l, w, found, s);
     let b = chain(index, l, w, found, a);
     let beside = index[w + LEFT_LAST];
     let c = b + comparison(beside);
@@ -87,7 +108,7 @@ fn rise(index: &[u16; INDEX], l: u16, w: usize, found: &mut [u16; 1024], s: usiz
 // The path upward from the mark m.
 fn climb(index: &[u16; INDEX], l: u16, m: usize, found: &mut [u16; 1024], s: usize) -> usize
     requires { ⌜ ClimbAsks (now index) l m (now found) s ⌝ }
-    ensures { λ r. ⌜ Does (now (found .entry)) s (now (found .exit)) r (climbOf (now (index .entry)) l m) ⌝ }
+    ensures { λ r. ⌜ Does (now (index .entry)) (now (found .entry)) s (now (found .exit)) r (climbOf (now (index .entry)) l m) ⌝ }
 {
     if m == 0 {
         return s;
@@ -102,27 +123,27 @@ fn climb(index: &[u16; INDEX], l: u16, m: usize, found: &mut [u16; 1024], s: usi
     climb(index, l, wide(index[v + PARENT]), found, b)
 }
 
-// The walk from the start with the mark m.
+// The walk from the start with the mark m. It begins at the end of the list, at the place 1024 (1024 times 65536 is 67108864).
 fn walk(index: &[u16; INDEX], l: u16, m: usize, found: &mut [u16; 1024]) -> usize
     requires { ⌜ WalkAsks (now index) l m ⌝ }
     requires { ⌜ length (now found) ≡ 1024 ⌝ }
-    ensures { λ r. ⌜ Now (now (found .exit)) r (walkOf (now (index .entry)) l m) ⌝ }
+    ensures { λ r. ⌜ Now (now (index .entry)) (now (found .exit)) r (walkOf (now (index .entry)) l m) ⌝ }
 {
-    climb(index, l, m, found, 1024)
+    climb(index, l, m, found, 67108864)
 }
 
 // ---- The answer
 
-// Writes the numbers of the k rows whose positions stand in `found` from `at` on.
-fn write(index: &[u16; INDEX], found: &[u16; 1024], at: usize, k: usize, out: &mut [u16])
+// Copies the k places of `found` from `at` on.
+fn copy(found: &[u16; 1024], at: usize, k: usize, to: &mut [u16])
     requires { ⌜ length (now found) ≡ 1024 ⌝ }
     requires { ⌜ at + k ≤ 1024 ⌝ }
-    requires { ⌜ k ≤ length (now out) ⌝ }
-    ensures { λ _. ⌜ now (out .exit) ≡ numbered (now (index .entry)) (take k (drop at (now (found .entry)))) ++ drop k (now (out .entry)) ⌝ }
+    requires { ⌜ k ≤ length (now to) ⌝ }
+    ensures { λ _. ⌜ now (to .exit) ≡ take k (drop at (now (found .entry))) ++ drop k (now (to .entry)) ⌝ }
 {
     let mut i = 0;
     while i < k {
-        out[i] = index[wide(found[at + i])];
+        to[i] = found[at + i];
         i += 1;
     }
 }
@@ -139,20 +160,20 @@ fn refuse(number: u16) -> Listed
 
 // An answer is handed on in one number, which stays in a register: the state that the walk ends in, or this one, whose place is
 // past the list's end, where the buffer is short.
-const SHORT: usize = 1025;
+const SHORT: usize = 67174400;
 
 // What that number says.
 fn told(s: usize) -> Listed
     ensures { λ r. ⌜ r ≡ toldOf s ⌝ }
 {
-    let at = s % 65536;
+    let at = s / 65536;
     if 1024 < at {
         return refuse(SHORT_BUFFER);
     }
     Listed {
         refusal: 0,
         count: 1024 - at,
-        comparisons: s / 65536,
+        comparisons: s % 65536,
     }
 }
 
@@ -163,12 +184,12 @@ fn answer(index: &[u16; INDEX], l: u16, m: usize, out: &mut [u16]) -> usize
 {
     let mut found = [0u16; 1024];
     let s = walk(index, l, m, &mut found);
-    let at = s % 65536;
+    let at = s / 65536;
     let k = 1024 - at;
     if out.len() < k {
         return SHORT;
     }
-    write(index, &found, at, k, out);
+    copy(&found, at, k, out);
     s
 }
 
@@ -275,71 +296,65 @@ fn in_order(days: &[u16]) -> bool
     true
 }
 
-// The first place from `at` on whose position is not below m.
-fn skip(found: &[u16; 1024], at: usize, m: usize) -> usize
+// The first place from which on all rows lie past the first m, sought from the end back to `at`: so only rows that are new to the
+// answer are passed, and one more.
+fn skip(index: &[u16; INDEX], found: &[u16; 1024], at: usize, m: usize) -> usize
+    requires { ⌜ Built (now index) ⌝ }
     requires { ⌜ length (now found) ≡ 1024 ⌝ }
     requires { ⌜ at ≤ 1024 ⌝ }
-    ensures { λ r. ⌜ r ≡ at + under m (drop at (now (found .entry))) ⌝ }
+    ensures { λ r. ⌜ Skips (now (index .entry)) (now (found .entry)) at m r ⌝ }
 {
-    let mut i = at;
-    while i < 1024 {
-        if m <= wide(found[i]) {
+    let mut i = 1024;
+    while at < i {
+        let j = i - 1;
+        if wide(index[wide(found[j]) + BY_NUMBER]) <= m {
             return i;
         }
-        i += 1;
+        i = j;
     }
     i
 }
 
-// Copies what stands in `found` from `at` on.
-fn copy(found: &[u16; 1024], at: usize, to: &mut [u16])
-    requires { ⌜ length (now found) ≡ 1024 ⌝ }
-    requires { ⌜ at ≤ 1024 ⌝ }
-    requires { ⌜ 1024 - at ≤ length (now to) ⌝ }
-    ensures { λ _. ⌜ now (to .exit) ≡ drop at (now (found .entry)) ++ drop (1024 - at) (now (to .entry)) ⌝ }
-{
-    let k = 1024 - at;
-    let mut i = 0;
-    while i < k {
-        to[i] = found[at + i];
-        i += 1;
-    }
-}
-
-// What day d adds to the days before it, by the last of which m rows begin: of these m, the ones that contain d contain that
-// day too. The walk lists them in the order, so that they come first and are skipped.
-fn add(index: &[u16; INDEX], d: u16, m: usize, found: &mut [u16; 1024], answer: &mut [u16]) -> usize
-    requires { ⌜ AddAsks (now index) d m (now answer) ⌝ }
-    requires { ⌜ length (now found) ≡ 1024 ⌝ }
-    ensures { λ r. ⌜ Added (dayFrom (now (index .entry)) m d) (now (answer .entry)) (now (answer .exit)) r ⌝ }
-    ensures { λ _. ⌜ length (now (found .exit)) ≡ 1024 ⌝ }
-{
-    let s = walk(index, d, wide(index[wide(d) + START]), found);
-    let at = skip(found, s % 65536, m);
-    copy(found, at, answer);
-    1024 - at
-}
-
-// What the days add to a day before them, by which m rows begin: what the first of them adds, and in the places after that
-// what the rest of the list adds.
-fn gather(
+// What the first of the days still to come adds to the days before it, by the last of which m rows begin: of these m, the ones that
+// contain it contain that day too. The walk lists them in the order, so that they come first and are skipped. The table by number tells
+// a row's place in the order, since no two rows have one number.
+fn add(
     index: &[u16; INDEX],
     days: &[u16],
     m: usize,
     found: &mut [u16; 1024],
     answer: &mut [u16],
 ) -> usize
-    requires { ⌜ GatherAsks (now index) (now days) m (now answer) ⌝ }
+    requires { ⌜ 0 < length (now days) ⌝ }
+    requires { ⌜ AddAsks (now index) (getD (now days) 0 0) m (now answer) ⌝ }
     requires { ⌜ length (now found) ≡ 1024 ⌝ }
-    ensures { λ r. ⌜ Added (daysFrom (now (index .entry)) m (now (days .entry))) (now (answer .entry)) (now (answer .exit)) r ⌝ }
+    ensures { λ r. ⌜ Added (dayFrom (now (index .entry)) m (getD (now (days .entry)) 0 0)) (now (answer .entry)) (now (answer .exit)) r ⌝ }
+    ensures { λ _. ⌜ length (now (found .exit)) ≡ 1024 ⌝ }
 {
-    if days.len() == 0 {
-        return 0;
-    }
     let d = days[0];
-    let k = add(index, d, m, found, answer);
-    let begun = wide(index[wide(d) + BEGUN]);
-    k + gather(index, &days[1..], begun, found, &mut answer[k..])
+    let s = walk(index, d, wide(index[wide(d) + START]), found);
+    let at = skip(index, found, s / 65536, m);
+    let k = 1024 - at;
+    copy(found, at, k, answer);
+    k
+}
+
+// What the days give, one after the other: each time the days still to come are handed on as the rest of their list, and what the first
+// of them adds goes into the part of the answer not yet written.
+fn gather(index: &[u16; INDEX], days: &[u16], found: &mut [u16; 1024], answer: &mut [u16]) -> usize
+    requires { ⌜ GatherAsks (now index) (now days) 0 (now answer) ⌝ }
+    requires { ⌜ length (now found) ≡ 1024 ⌝ }
+    ensures { λ r. ⌜ Added (daysFrom (now (index .entry)) 0 (now (days .entry))) (now (answer .entry)) (now (answer .exit)) r ⌝ }
+{
+    let mut begun = 0;
+    let mut at = 0;
+    let mut i = 0;
+    while i < days.len() {
+        at += add(index, &days[i..], begun, found, &mut answer[at..]);
+        begun = wide(index[wide(days[i]) + BEGUN]);
+        i += 1;
+    }
+    at
 }
 
 // The days, strictly rising: the spells that contain at least one of them. No comparisons are reported.
@@ -355,11 +370,11 @@ pub fn days(index: &[u16; INDEX], days: &[u16], out: &mut [u16]) -> Listed
     }
     let mut found = [0u16; 1024];
     let mut answer = [0u16; 1024];
-    let n = gather(index, days, 0, &mut found, &mut answer);
+    let n = gather(index, days, &mut found, &mut answer);
     if out.len() < n {
         return refuse(SHORT_BUFFER);
     }
-    write(index, &answer, 0, n, out);
+    copy(&answer, 0, n, out);
     Listed {
         refusal: 0,
         count: n,

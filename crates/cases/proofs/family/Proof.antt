@@ -1,4 +1,4 @@
--- `cases::family` is safe and ends: where the builder answers true, its block may be asked. Assumes nothing.
+-- `cases::family` is safe and ends: where the builder answers true and each number is its row's own, the block may be asked. Assumes nothing.
 use borrow.Author.Needs.{needs}
 use borrow.Author.Tests.{not-false}
 use Rattle.cases.proofs.Building.{built}
@@ -29,11 +29,26 @@ print-requires c κs = search needs
 returns : tie.Need-returns
 returns c = search needs
 
-ask-all-requires : tie.Need-ask-all-requires
-ask-all-requires c κs = built _ _ _ _ _ _ _ (c .before .before .build .ensures) (not-false _ (c .before .if1 .left)) (search needs) (search needs)
+own-numbers-requires : tie.Need-own-numbers-requires
+own-numbers-requires c κs = search needs
+
+slice-aggregate-print-2 : tie.Need-slice-aggregate-print-2
+slice-aggregate-print-2 c = search needs
+
+print-requires-2 : tie.Need-print-requires-2
+print-requires-2 c κs = search needs
 
 returns-2 : tie.Need-returns-2
 returns-2 c = search needs
+
+ask-all-requires : tie.Need-ask-all-requires
+ask-all-requires c κs =
+    let b = c .before .before .before .before in
+    built _ _ _ _ _ _ _ (b .before .build .ensures) (not-false _ (b .if1 .left)) (search needs) (search needs)
+    (c .before .before .own-numbers .ensures (not-false _ (c .before .if2 .left)))
+
+returns-3 : tie.Need-returns-3
+returns-3 c = search needs
 
 pub family-spec : {M : Type 1} → statement M
 family-spec =
@@ -47,5 +62,9 @@ family-spec =
     slice-aggregate-print
     print-requires
     returns
+    own-numbers-requires
+    slice-aggregate-print-2
+    print-requires-2
+    returns-2
     ask-all-requires
-    returns-2)
+    returns-3)

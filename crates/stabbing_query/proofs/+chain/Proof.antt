@@ -29,13 +29,18 @@ chain-below t = and 2 chain-kinds.ps (falls 2 chain-kinds.ps _<_ μ-chain t) cha
 chain-sub-t : (t : ℕ) → chain-lts.Need-sub-t (comparison-reads.Asked, comparison-reads.Learnt, wide-reads.Asked, wide-reads.Learnt, chain-below t, chain.Post) (chain-at t) chain.Post
 chain-sub-t t c = search needs
 
-chain-cast-found : (t : ℕ) → chain-lts.Need-cast-found (comparison-reads.Asked, comparison-reads.Learnt, wide-reads.Asked, wide-reads.Learnt, chain-below t, chain.Post) (chain-at t) chain.Post
-chain-cast-found t c =
-    let g = c .args in
-    record { fits = omega (arith, Steps.narrow (g .index .now) (numbers (g .index .now)) (firsts (g .index .now)) (lasts (g .index .now)) (g .l) (g .p) (g .found .now) (g .s) (c .pre .1)) }
-
 chain-mul-found : (t : ℕ) → chain-lts.Need-mul-found (comparison-reads.Asked, comparison-reads.Learnt, wide-reads.Asked, wide-reads.Learnt, chain-below t, chain.Post) (chain-at t) chain.Post
-chain-mul-found t c = search needs
+chain-mul-found t c =
+    let g = c .args in
+    record { fits = omega (arith, Steps.inside-rows (g .index .now) (numbers (g .index .now)) (firsts (g .index .now)) (lasts (g .index .now)) (g .l) (g .p) (g .found .now) (g .s) (c .pre .1)) }
+
+chain-element-copy-out-found : (t : ℕ) → chain-lts.Need-element-copy-out-found (comparison-reads.Asked, comparison-reads.Learnt, wide-reads.Asked, wide-reads.Learnt, chain-below t, chain.Post) (chain-at t) chain.Post
+chain-element-copy-out-found t c =
+    let g = c .args in
+    omega (arith, Steps.inside-rows (g .index .now) (numbers (g .index .now)) (firsts (g .index .now)) (lasts (g .index .now)) (g .l) (g .p) (g .found .now) (g .s) (c .pre .1))
+
+chain-mul-found-2 : (t : ℕ) → chain-lts.Need-mul-found-2 (comparison-reads.Asked, comparison-reads.Learnt, wide-reads.Asked, wide-reads.Learnt, chain-below t, chain.Post) (chain-at t) chain.Post
+chain-mul-found-2 t c = search needs
 
 chain-element-write-found : (t : ℕ) → chain-lts.Need-element-write-found (comparison-reads.Asked, comparison-reads.Learnt, wide-reads.Asked, wide-reads.Learnt, chain-below t, chain.Post) (chain-at t) chain.Post
 chain-element-write-found t c = search needs
@@ -54,14 +59,14 @@ chain-comparison-requires t c κs = search needs
 
 chain-add-a : (t : ℕ) → chain-lts.Need-add-a (comparison-reads.Asked, comparison-reads.Learnt, wide-reads.Asked, wide-reads.Learnt, chain-below t, chain.Post) (chain-at t) chain.Post
 chain-add-a t c =
-    let g = c .before .before .args in
-    let q = c .before .before .pre .1 in
+    let g = c .before .before .before .args in
+    let q = c .before .before .before .pre .1 in
     omega (arith, Steps.few (g .index .now) (numbers (g .index .now)) (firsts (g .index .now)) (lasts (g .index .now)) (g .l) (g .p) (g .found .now) (g .s) q, c .comparison .ensures, one-le (some (getD (g .index .now) (g .p + 9216) 0)))
 
 chain-returns : (t : ℕ) → chain-lts.Need-returns (comparison-reads.Asked, comparison-reads.Learnt, wide-reads.Asked, wide-reads.Learnt, chain-below t, chain.Post) (chain-at t) chain.Post
 chain-returns t c =
-    let g = c .before .before .before .args in
-    let q = c .before .before .before .pre .1 in
+    let g = c .before .before .before .before .args in
+    let q = c .before .before .before .before .pre .1 in
     Steps.ends (g .index .now) (numbers (g .index .now)) (firsts (g .index .now)) (lasts (g .index .now)) (g .l) (g .p) (g .found .now) (g .s) q _ (c .before .comparison .ensures) (c .if1 .taken)
 
 chain-add-wide : (t : ℕ) → chain-lts.Need-add-wide (comparison-reads.Asked, comparison-reads.Learnt, wide-reads.Asked, wide-reads.Learnt, chain-below t, chain.Post) (chain-at t) chain.Post
@@ -78,20 +83,20 @@ chain-wide-requires t c κs = search needs
 
 chain-sub-chain : (t : ℕ) → chain-lts.Need-sub-chain (comparison-reads.Asked, comparison-reads.Learnt, wide-reads.Asked, wide-reads.Learnt, chain-below t, chain.Post) (chain-at t) chain.Post
 chain-sub-chain t c =
-    let g = c .before .before .before .before .before .args in
-    let q = c .before .before .before .before .before .pre .1 in
+    let g = c .before .before .before .before .before .before .args in
+    let q = c .before .before .before .before .before .before .pre .1 in
     Steps.linked (g .index .now) (numbers (g .index .now)) (firsts (g .index .now)) (lasts (g .index .now)) (g .l) (g .p) (g .found .now) (g .s) q _ (c .before .before .before .comparison .ensures) (c .before .before .if1 .left) _ (c .wide .ensures .0)
 
 chain-chain-requires : (t : ℕ) → chain-lts.Need-chain-requires (comparison-reads.Asked, comparison-reads.Learnt, wide-reads.Asked, wide-reads.Learnt, chain-below t, chain.Post) (chain-at t) chain.Post
 chain-chain-requires t c κs =
-    let g = c .before .before .before .before .before .before .args in
-    let q = c .before .before .before .before .before .before .pre .1 in
-    (omega (arith, c .before .before .before .before .before .before .pre .0, Steps.falls (g .index .now) (numbers (g .index .now)) (firsts (g .index .now)) (lasts (g .index .now)) (g .l) (g .p) (g .found .now) (g .s) q _ (c .before .before .before .before .comparison .ensures) (c .before .before .before .if1 .left) _ (c .before .wide .ensures .0)), Steps.asks (g .index .now) (numbers (g .index .now)) (firsts (g .index .now)) (lasts (g .index .now)) (g .l) (g .p) (g .found .now) (g .s) q _ (c .before .before .before .before .comparison .ensures) (c .before .before .before .if1 .left) _ (c .before .wide .ensures .0))
+    let g = c .before .before .before .before .before .before .before .args in
+    let q = c .before .before .before .before .before .before .before .pre .1 in
+    (omega (arith, c .before .before .before .before .before .before .before .pre .0, Steps.falls (g .index .now) (numbers (g .index .now)) (firsts (g .index .now)) (lasts (g .index .now)) (g .l) (g .p) (g .found .now) (g .s) q _ (c .before .before .before .before .comparison .ensures) (c .before .before .before .if1 .left) _ (c .before .wide .ensures .0)), Steps.asks (g .index .now) (numbers (g .index .now)) (firsts (g .index .now)) (lasts (g .index .now)) (g .l) (g .p) (g .found .now) (g .s) q _ (c .before .before .before .before .comparison .ensures) (c .before .before .before .if1 .left) _ (c .before .wide .ensures .0))
 
 chain-returns-2 : (t : ℕ) → chain-lts.Need-returns-2 (comparison-reads.Asked, comparison-reads.Learnt, wide-reads.Asked, wide-reads.Learnt, chain-below t, chain.Post) (chain-at t) chain.Post
 chain-returns-2 t c =
-    let g = c .before .before .before .before .before .before .before .args in
-    let q = c .before .before .before .before .before .before .before .pre .1 in
+    let g = c .before .before .before .before .before .before .before .before .args in
+    let q = c .before .before .before .before .before .before .before .before .pre .1 in
     Steps.goes-on (g .index .now) (numbers (g .index .now)) (firsts (g .index .now)) (lasts (g .index .now)) (g .l) (g .p) (g .found .now) (g .s) q _ (c .before .before .before .before .before .comparison .ensures) (c .before .before .before .before .if1 .left) _ (c .before .before .wide .ensures .0) _ _ (c .chain .ensures)
 
 pub +chain-spec : {M : Type 1} → statement M
@@ -99,8 +104,9 @@ pub +chain-spec : {M : Type 1} → statement M
     (chain-at t)
     chain.Post
     (chain-sub-t t)
-    (chain-cast-found t)
     (chain-mul-found t)
+    (chain-element-copy-out-found t)
+    (chain-mul-found-2 t)
     (chain-element-write-found t)
     (chain-add-last t)
     (chain-mul-last t)

@@ -121,7 +121,7 @@ beside : (t : ℕ) (c : climb-lts.Joined2 (chain-reads.Asked, chain-reads.Learnt
     let g = c .before .before .before .before .before .before .args in
     let fs = firsts (g .index .now) in
     let ls = lasts (g .index .now) in
-    Does (g .found .now) (g .s) (c .if2 .found) (c .if2 .b) (λ f. compare fs ls (g .l) (leftSibling fs ls (g .m - 1)) (rise fs ls (g .l) (length fs)) (chain fs ls (g .l) (g .m - 1) f))
+    Does (g .index .now) (g .found .now) (g .s) (c .if2 .found) (c .if2 .b) (λ f. compare fs ls (g .l) (leftSibling fs ls (g .m - 1)) (rise fs ls (g .l) (length fs)) (chain fs ls (g .l) (g .m - 1) f))
 beside t c =
     let g = c .before .before .before .before .before .before .args in
     let q = c .before .before .before .before .before .before .pre .1 in

@@ -5,7 +5,7 @@ use Rattle.stabbing_query.proofs.answer.Statement.{statement}
 use Rattle.stabbing_query.proofs.answer.Tie as tie
 use Rattle.stabbing_query.proofs.answer.Reads as reads
 use Rattle.stabbing_query.proofs.answer.Lts as lts
-use Rattle.stabbing_query.proofs.write.Reads as write-reads
+use Rattle.stabbing_query.proofs.copy.Reads as copy-reads
 use Rattle.stabbing_query.proofs.walk.Reads as walk-reads
 
 walk-requires : tie.Need-walk-requires
@@ -19,8 +19,8 @@ returns c =
     let g = c .before .before .before .before .args in
     Steps.too-short (g .index .now) _ _ _ (c .before .walk .ensures) (g .out .now) (c .if1 .taken)
 
-write-requires : tie.Need-write-requires
-write-requires c κs = search needs
+copy-requires : tie.Need-copy-requires
+copy-requires c κs = search needs
 
 same-length : tie.Need-same-length
 same-length c = search needs
@@ -29,9 +29,9 @@ returns-2 : tie.Need-returns-2
 returns-2 c =
     let a = c .before .before .before .before .before in
     let g = a .before .before .before .before .args in
-    Steps.all-given (g .index .now) _ _ _ (a .before .walk .ensures) (g .out .now) (a .if1 .left) _ (c .before .before .write .ensures)
+    Steps.all-given (g .index .now) _ _ _ (a .before .walk .ensures) (g .out .now) (a .if1 .left) _ (c .before .before .copy .ensures)
 
 pub answer-spec : {M : Type 1} → statement M
 answer-spec =
     tie.close
-    (tie.spec walk-requires sub-k returns write-requires same-length returns-2)
+    (tie.spec walk-requires sub-k returns copy-requires same-length returns-2)

@@ -5,19 +5,16 @@ use mathlib.Core.List.{List, _++_}
 use mathlib.Core.Path.{_≡_, refl, sym, ap, _∙_}
 use borrow.Author.Needs.{needs}
 use lib.ListN.{length, getD, take, drop, set, length-set, length-drop}
-use lib.Seq.{getD-drop, take-all}
+use lib.Seq.{getD-drop}
 use Rattle.stabbing_query.proofs.Filling.{filled}
 use Rattle.stabbing_query.proofs.copy.Statement.{statement}
 use Rattle.stabbing_query.proofs.copy.Tie as tie
 
 abbrev Inv-loop : tie.InvT-loop
-Inv-loop found at to₀ k i₀ to i = (length to ≡ length to₀) × (i ≤ 1024 - at) × (to ≡ take i (drop at found) ++ drop i to₀)
+Inv-loop found at k to₀ i₀ to i = (length to ≡ length to₀) × (i ≤ k) × (to ≡ take i (drop at found) ++ drop i to₀)
 
 abbrev μ-loop : tie.MeasureT-loop
-μ-loop found at to₀ k i₀ to i = 1024 - at - i
-
-sub-k : tie.Need-sub-k Inv-loop μ-loop
-sub-k c = search needs
+μ-loop found at k to₀ i₀ to i = k - i
 
 loop-holds : tie.Need-loop-holds Inv-loop μ-loop
 loop-holds c = (refl, zero-le, refl)
@@ -62,10 +59,8 @@ returns : tie.Need-returns Inv-loop μ-loop
 returns c =
     let a = c .before .loop in
     let s = c .before .before in
-    let n : length (drop (s .args .at) (s .args .found .now)) ≡ 1024 - s .args .at = length-drop (s .args .at) (s .args .found .now) ∙ ap (λ (x : ℕ). x - s .args .at) (s .pre .0) in
-    let z : a .i ≡ 1024 - s .args .at = omega arith in
-    a .inv .2 ∙ ap (λ (x : List ℕ). x ++ drop (a .i) (s .args .to .now)) (take-all (a .i) (drop (s .args .at) (s .args .found .now)) (omega arith))
-    ∙ ap (λ (k : ℕ). drop (s .args .at) (s .args .found .now) ++ drop k (s .args .to .now)) z
+    let z : a .i ≡ s .args .k = omega arith in
+    a .inv .2 ∙ rw z
 
 pub copy-spec : {M : Type 1} → statement M
 copy-spec =
@@ -73,7 +68,6 @@ copy-spec =
     (tie.spec
     Inv-loop
     μ-loop
-    sub-k
     loop-holds
     add-to
     mul-to

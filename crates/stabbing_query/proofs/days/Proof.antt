@@ -14,7 +14,7 @@ use Rattle.stabbing_query.proofs.gather.Reads as gather-reads
 use Rattle.stabbing_query.proofs.in_order.Reads as in-order-reads
 use Rattle.stabbing_query.proofs.on_calendar.Reads as on-calendar-reads
 use Rattle.stabbing_query.proofs.refuse.Reads as refuse-reads
-use Rattle.stabbing_query.proofs.write.Reads as write-reads
+use Rattle.stabbing_query.proofs.copy.Reads as copy-reads
 
 on-calendar-requires : tie.Need-on-calendar-requires
 on-calendar-requires c κs = search needs
@@ -60,8 +60,8 @@ returns-3 c =
     let r = sym (c .before .before .before .before .before .before .before .in-order .ensures) ∙ not-false _ (c .before .before .before .before .before .before .if2 .left) in
     Steps.too-many (g .index .now) (g .days .now) (s .pre) d r _ _ _ (c .before .before .before .gather .ensures) (g .out .now) (c .before .if3 .taken) _ (c .refuse3 .ensures)
 
-write-requires : tie.Need-write-requires
-write-requires c κs =
+copy-requires : tie.Need-copy-requires
+copy-requires c κs =
     let s = c .before .before .before .before .before .before .before .before .before .before .before .before .before in
     let g = s .args in
     let d = sym (c .before .before .before .before .before .before .before .before .before .before .on-calendar .ensures) ∙ not-false _ (c .before .before .before .before .before .before .before .before .before .if1 .left) in
@@ -77,7 +77,7 @@ returns-4 c =
     let g = s .args in
     let d = sym (c .before .before .before .before .before .before .before .before .before .before .before .before .before .on-calendar .ensures) ∙ not-false _ (c .before .before .before .before .before .before .before .before .before .before .before .before .if1 .left) in
     let r = sym (c .before .before .before .before .before .before .before .before .before .before .before .in-order .ensures) ∙ not-false _ (c .before .before .before .before .before .before .before .before .before .before .if2 .left) in
-    Steps.all-written (g .index .now) (g .days .now) (s .pre) d r _ _ _ (c .before .before .before .before .before .before .before .gather .ensures) (g .out .now) (c .before .before .before .before .before .if3 .left) _ (c .before .before .write .ensures)
+    Steps.all-written (g .index .now) (g .days .now) (s .pre) d r _ _ _ (c .before .before .before .before .before .before .before .gather .ensures) (g .out .now) (c .before .before .before .before .before .if3 .left) _ (c .before .before .copy .ensures)
 
 pub days-spec : {M : Type 1} → statement M
 days-spec =
@@ -93,6 +93,6 @@ days-spec =
     gather-requires
     refuse-requires-3
     returns-3
-    write-requires
+    copy-requires
     same-length
     returns-4)

@@ -1,22 +1,23 @@
--- `stabbing_query::skip` meets its contract: the places passed and those still to pass are those asked for. Assumes nothing.
+-- `stabbing_query::skip` meets its contract: each need is a step of `proofs/Skipping.antt`. Assumes nothing.
 use Prim.Native.Nat.{_+_, _≤_, _-_}
 use native.Mathlib.Omega.{arith}
-use mathlib.Core.Path.{_≡_, refl, sym, _∙_}
 use borrow.Author.Needs.{needs}
-use lib.ListN.{length, drop}
-use Rattle.stabbing_query.specs.Code.{under}
-use Rattle.stabbing_query.proofs.Several as Steps
+use Rattle.stabbing_query.proofs.Skipping as Steps
+use Rattle.stabbing_query.proofs.Skipping.{Passed}
 use Rattle.stabbing_query.proofs.skip.Statement.{statement}
 use Rattle.stabbing_query.proofs.skip.Tie as tie
 
 abbrev Inv-loop : tie.InvT-loop
-Inv-loop found at m i₀ i = (i ≤ 1024) × (i + under m (drop i found) ≡ at + under m (drop at found))
+Inv-loop index found at m i₀ i = (at ≤ i) × (i ≤ 1024) × Passed index found at m i
 
 abbrev μ-loop : tie.MeasureT-loop
-μ-loop found at m i₀ i = 1024 - i
+μ-loop index found at m i₀ i = i - at
 
 loop-holds : tie.Need-loop-holds Inv-loop μ-loop
-loop-holds c = (search needs, refl)
+loop-holds c = let s = c in (s .pre .1 .1, search needs, Steps.begins (s .args .index .now) (s .args .found .now) (s .args .at) (s .args .m) (s .pre .0) (s .pre .1 .0) (s .pre .1 .1))
+
+sub-j : tie.Need-sub-j Inv-loop μ-loop
+sub-j c = search needs
 
 mul-wide : tie.Need-mul-wide Inv-loop μ-loop
 mul-wide c = search needs
@@ -27,29 +28,44 @@ element-copy-out-wide c = search needs
 wide-requires : tie.Need-wide-requires Inv-loop μ-loop
 wide-requires c κs = search needs
 
+add-wide : tie.Need-add-wide Inv-loop μ-loop
+add-wide c = search needs
+
+mul-wide-2 : tie.Need-mul-wide-2 Inv-loop μ-loop
+mul-wide-2 c = search needs
+
+element-copy-out-wide-2 : tie.Need-element-copy-out-wide-2 Inv-loop μ-loop
+element-copy-out-wide-2 c = search needs
+
+wide-requires-2 : tie.Need-wide-requires-2 Inv-loop μ-loop
+wide-requires-2 c κs = search needs
+
 returns : tie.Need-returns Inv-loop μ-loop
 returns c =
-    let a = c .before .before .before .before in
-    let n = a .before .pre .0 in
-    omega (arith, a .loop .inv .1, Steps.stays (a .before .args .found .now) (a .loop .i) (omega arith) (a .before .args .m) (omega (arith, c .if1 .taken, c .before .wide .ensures .0)))
-
-add-i : tie.Need-add-i Inv-loop μ-loop
-add-i c = search needs
+    let a = c .before .before .before .before .before .before in
+    let s = a .before in
+    Steps.stops (s .args .index .now) (s .args .found .now) (s .args .at) (s .args .m) (s .pre .0) (s .pre .1 .0) (s .pre .1 .1) (a .loop .i) (c .before .before .before .before .before .loop-test .taken) (a .loop .inv .1) (a .loop .inv .2) _ _
+    (c .before .before .before .wide .ensures .0) (c .before .before .before .wide .ensures .1) (c .before .wide2 .ensures .0) (c .if1 .taken)
 
 loop-less : tie.Need-loop-less Inv-loop μ-loop
 loop-less c = search needs
 
 loop-again : tie.Need-loop-again Inv-loop μ-loop
 loop-again c =
-    let a = c .before .before .before .before in
-    let n = a .before .pre .0 in
-    (omega arith, omega (arith, a .loop .inv .1, Steps.passes (a .before .args .found .now) (a .loop .i) (omega arith) (a .before .args .m) (omega (arith, c .if1 .left, c .before .wide .ensures .0))))
+    let a = c .before .before .before .before .before .before in
+    let s = a .before in
+    let t = c .before .before .before .before .before .loop-test .taken in (
+      omega arith,
+      omega (arith, a .loop .inv .1),
+      Steps.passes (s .args .index .now) (s .args .found .now) (s .args .at) (s .args .m) (s .pre .0) (s .pre .1 .0) (s .pre .1 .1) (a .loop .i) t (a .loop .inv .1) (a .loop .inv .2) _ _
+          (c .before .before .before .wide .ensures .0) (c .before .before .before .wide .ensures .1) (c .before .wide2 .ensures .0) (c .if1 .left),
+    )
 
 returns-2 : tie.Need-returns-2 Inv-loop μ-loop
 returns-2 c =
     let a = c .before in
-    let n = a .before .pre .0 in
-    omega (arith, a .loop .inv .1, Steps.all-passed (a .before .args .found .now) (a .loop .i) (omega (arith, n, c .loop-test .left)) (a .before .args .m))
+    let s = a .before in
+    Steps.ends (s .args .index .now) (s .args .found .now) (s .args .at) (s .args .m) (s .pre .0) (s .pre .1 .0) (s .pre .1 .1) (a .loop .i) (omega (arith, a .loop .inv .0, c .loop-test .left)) (a .loop .inv .2)
 
 pub skip-spec : {M : Type 1} → statement M
 skip-spec =
@@ -58,11 +74,15 @@ skip-spec =
     Inv-loop
     μ-loop
     loop-holds
+    sub-j
     mul-wide
     element-copy-out-wide
     wide-requires
+    add-wide
+    mul-wide-2
+    element-copy-out-wide-2
+    wide-requires-2
     returns
-    add-i
     loop-less
     loop-again
     returns-2)
