@@ -1,7 +1,5 @@
-pub mod Decimals
-pub mod Hex
+pub mod Bytes
 pub mod Widths
 pub mod Places
 pub mod Puts
-pub mod Rows
 pub mod Claims

@@ -2,10 +2,10 @@
 use mathlib.Core.Path.{_≡_, sym, ap, _∙_}
 use mathlib.Core.Bool.{true, false, false≢true}
 use mathlib.Core.List.{List, [], _∷_}
-use Prim.Native.Nat.{ℕ, suc, _+_, _-_, _*_, _≤_, _<_}
+use Prim.Native.Nat.{ℕ, _+_, _≤_, _<_}
 use native.Mathlib.Numerals.{add-one}
 use native.Mathlib.Omega.{arith}
-use borrow.Author.Tests.{eq-eqb, ne-eqb, lt-ltb, le-ltb}
+use borrow.Author.Tests.{lt-ltb, le-ltb}
 use native.Mathlib.Decide.{decLe}
 use lib.ListN.{length, drop, getD, drop-of-length-le, length-drop}
 use lib.Seq.{drop-cons}
@@ -15,10 +15,8 @@ use Rattle.fields.specs.declared.Length.{Length}
 use Rattle.fields.specs.declared.Length.the-variants.{Value as LengthValue}
 use Rattle.fields.specs.declared.Bits.{Bits}
 use Rattle.fields.specs.declared.Bits.the-variants.{Value as BitsValue}
-use Rattle.fields.specs.Fields.{Found, found, unreadable, passed, isAt, isDigit, readDigits, readDecimal, hexValue, readHex}
+use Rattle.fields.specs.Fields.{Found, found, unreadable, passed, isAt}
 use Rattle.fields.specs.Answers.{placeOf, fieldAt, fieldOf, lengthAt, lengthOf, bitsAt, bitsOf, Reads}
-use Rattle.fields.proofs.Decimals.{digits-on, digits-above, digits-end}
-use Rattle.fields.proofs.Hex.{hex-on, hex-bad, hex-short}
 
 module _ (s : List ℕ) (i : ℕ) where
   pub here : i < length s → drop i s ≡ getD s i 0 ∷ drop (i + 1) s
@@ -26,39 +24,6 @@ module _ (s : List ℕ) (i : ℕ) where
 
   pub past-end : length s ≤ i → drop i s ≡ []
   past-end h = drop-of-length-le s h
-
-  module _ (top : ℕ) where
-    -- ---- digits
-    pub digits-on-at : (v : ℕ) → i < length s → isDigit (getD s i 0) ≡ true → 10 * v + (getD s i 0 - 48) ≤ top
-        → readDigits top v (drop i s) ≡ readDigits top (10 * v + (getD s i 0 - 48)) (drop (i + 1) s)
-    digits-on-at v h d k = rw (here h) (digits-on top v (getD s i 0) (drop (i + 1) s) d k)
-
-    pub digits-above-at : (v : ℕ) → i < length s → isDigit (getD s i 0) ≡ true → top < 10 * v + (getD s i 0 - 48) → readDigits top v (drop i s) ≡ unreadable
-    digits-above-at v h d k = rw (here h) (digits-above top v (getD s i 0) (drop (i + 1) s) d k)
-
-    pub digits-end-at : (v : ℕ) → i < length s → isDigit (getD s i 0) ≡ false → readDigits top v (drop i s) ≡ found v (drop i s)
-    digits-end-at v h d = rw (here h) (digits-end top v (getD s i 0) (drop (i + 1) s) d)
-
-    pub digits-past : (v : ℕ) → length s ≤ i → readDigits top v (drop i s) ≡ found v (drop i s)
-    unfolding readDigits
-    digits-past v h = rw (past-end h)
-
-    -- ---- a decimal
-    pub decimal-past : length s ≤ i → readDecimal top (drop i s) ≡ unreadable
-    unfolding readDecimal
-    decimal-past h = rw (past-end h)
-
-    pub decimal-zero : i < length s → getD s i 0 ≡ 48 → readDecimal top (drop i s) ≡ found 0 (drop (i + 1) s)
-    unfolding readDecimal
-    decimal-zero h z = rw (here h, eq-eqb (getD s i 0) 48 z)
-
-    pub decimal-other : i < length s → (getD s i 0 ≡ 48 → ⊥) → isDigit (getD s i 0) ≡ false → readDecimal top (drop i s) ≡ unreadable
-    unfolding readDecimal
-    decimal-other h z d = rw (here h, ne-eqb (getD s i 0) 48 z, d)
-
-    pub decimal-digits : i < length s → (getD s i 0 ≡ 48 → ⊥) → isDigit (getD s i 0) ≡ true → readDecimal top (drop i s) ≡ readDigits top 0 (drop i s)
-    unfolding readDecimal
-    decimal-digits h z d = rw (here h, ne-eqb (getD s i 0) 48 z, d)
 
   -- ---- the byte that ends a field
   pub at-inside : (e : ℕ) → isAt s i e ≡ true → i < length s
@@ -82,16 +47,6 @@ module _ (s : List ℕ) (i : ℕ) where
     passed-at h =
         let l = at-inside e h in
         rw (here l, rw (lt-ltb i (length s) l) at h)
-
-  -- ---- hex digits
-  pub hex-past-at : (k v : ℕ) → length s ≤ i → readHex (suc k) v (drop i s) ≡ unreadable
-  hex-past-at k v h = rw (past-end h) (hex-short k v)
-
-  pub hex-bad-at : (k v : ℕ) → i < length s → 16 ≤ hexValue (getD s i 0) → readHex (suc k) v (drop i s) ≡ unreadable
-  hex-bad-at k v h b = rw (here h) (hex-bad k v (getD s i 0) (drop (i + 1) s) b)
-
-  pub hex-on-at : (k v : ℕ) → i < length s → hexValue (getD s i 0) < 16 → readHex (suc k) v (drop i s) ≡ readHex k (16 * v + hexValue (getD s i 0)) (drop (i + 1) s)
-  hex-on-at k v h b = rw (here h) (hex-on k v (getD s i 0) (drop (i + 1) s) b)
 
 -- an answer whose next place is inside the text is that of the rest from there on
 pub place-back : (text : List ℕ) (next : ℕ) → next ≤ length text → next ≡ placeOf text (drop next text)

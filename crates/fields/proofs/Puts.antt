@@ -1,15 +1,14 @@
 -- A text that is put into a list before a place, byte by byte from its end to its front. Assumes nothing.
 use mathlib.Core.Path.{_≡_, refl, sym, ap, _∙_}
 use mathlib.Core.List.{List, _∷_, _++_}
-use Prim.Native.Nat.{ℕ, suc, _+_, _-_, _/_, _%_, _≤_, _<_}
+use Prim.Native.Nat.{ℕ, suc, _+_, _-_, _≤_, _<_}
 use native.Mathlib.Omega.{arith}
 use borrow.Author.Tests.{le-leb, lt-leb}
 use lib.ListN.{length, take, drop, set, length-set, length-drop, length-append, take-append-drop}
 use lib.Seq.{set-split, drop-at, take-at, take-set-le, take-take, length-take-le}
-use Rattle.fields.specs.Fields.{byteText, numberText, bitsText, decimalOf, hexDigit, hexOf}
+use Rattle.fields.specs.Fields.{byteText, numberText, bitsText}
 use Rattle.fields.specs.Answers.{Puts}
-use Rattle.fields.proofs.Decimals.{decimal-one, decimal-more}
-use Rattle.fields.proofs.Widths.{decimal-width, decimal-wide, hex-width}
+use Rattle.fields.proofs.Widths.{decimal-width, hex-width}
 
 -- a list with its places before r as they were and the text from r on
 pub record Put (entry exit : List ℕ) (r : ℕ) (text : List ℕ) : Type 0 where
@@ -101,67 +100,3 @@ module _ {entry exit : List ℕ} {at r : ℕ} (k : at ≤ length entry) where
       let w = hex-width 8 n (e ∷ drop at entry) in
       let q = room-puts 9 (bitsText n e) h k (omega arith) p in
       (q, omega (arith, put-place q, length-drop at entry))
-
--- ---- the digits of n before rest: those of v are still to be put before the place i
-pub record Digits (n : ℕ) (rest entry buf : List ℕ) (i v : ℕ) : Type 0 where
-  pub so-far : Put entry buf i (drop i buf)
-  pub small : v ≤ 65535
-  pub short : 5 + length rest ≤ length entry
-  pub ahead : decimalOf v (drop i buf) ≡ decimalOf n rest
-
-module _ {n : ℕ} {rest entry buf : List ℕ} {i v : ℕ} (d : Digits n rest entry buf i v) where
-  pub digits-room : 1 ≤ i
-  digits-room = omega (arith, put-place (d .so-far), d .short, decimal-wide v (drop i buf), ap length (d .ahead), decimal-width n rest)
-
-  pub digits-step : 10 ≤ v → Digits n rest entry (set buf (i - 1) (48 + v % 10)) (i - 1) (v / 10)
-  digits-step h =
-      let p = put-one (48 + v % 10) (d .so-far) digits-room in
-      record {
-        so-far = record { sized = p .sized; inside = p .inside; kept = p .kept; written = refl };
-        small = omega (arith, d .small);
-        short = d .short;
-        ahead = rw (p .written) (sym (decimal-more v (drop i buf) h (d .small)) ∙ d .ahead);
-      }
-
-  pub digits-last : v < 10 → Put entry (set buf (i - 1) (48 + v)) (i - 1) (decimalOf n rest)
-  digits-last h =
-      let p = put-one (48 + v) (d .so-far) digits-room in
-      record { sized = p .sized; inside = p .inside; kept = p .kept; written = p .written ∙ sym (decimal-one v (drop i buf) h) ∙ d .ahead }
-
--- ---- the eight hex digits of n before rest: k of them stand from the place i on
-pub record Hexes (n : ℕ) (rest entry buf : List ℕ) (i v k : ℕ) : Type 0 where
-  pub so-far : Put entry buf i (drop i buf)
-  pub few : k ≤ 8
-  pub here : i + k + length rest ≡ length entry
-  pub short : 8 + length rest ≤ length entry
-  pub ahead : hexOf (8 - k) v (drop i buf) ≡ hexOf 8 n rest
-
-hex-more : (k n : ℕ) (rest : List ℕ) → hexOf (suc k) n rest ≡ hexOf k (n / 16) (hexDigit (n % 16) ∷ rest)
-unfolding hexOf
-hex-more k n rest = refl
-
-hex-none : (n : ℕ) (rest : List ℕ) → hexOf 0 n rest ≡ rest
-unfolding hexOf
-hex-none n rest = refl
-
-module _ {n : ℕ} {rest entry buf : List ℕ} {i v k : ℕ} (d : Hexes n rest entry buf i v k) where
-  pub hexes-room : k < 8 → 1 ≤ i
-  hexes-room h = omega (arith, d .here, d .short)
-
-  pub hexes-step : k < 8 → Hexes n rest entry (set buf (i - 1) (hexDigit (v % 16))) (i - 1) (v / 16) (k + 1)
-  hexes-step h =
-      let left : 8 - k ≡ suc (8 - (k + 1)) = omega arith in
-      let p = put-one (hexDigit (v % 16)) (d .so-far) (hexes-room h) in
-      record {
-        so-far = record { sized = p .sized; inside = p .inside; kept = p .kept; written = refl };
-        few = omega arith;
-        here = omega (arith, d .here, d .short);
-        short = d .short;
-        ahead = rw (p .written) (sym (hex-more (8 - (k + 1)) v (drop i buf)) ∙ (rw left at (d .ahead)));
-      }
-
-  pub hexes-last : 8 ≤ k → Put entry buf i (hexOf 8 n rest)
-  hexes-last h =
-      let done : 8 - k ≡ 0 = omega arith in
-      let p = d .so-far in
-      record { sized = p .sized; inside = p .inside; kept = p .kept; written = sym (hex-none v (drop i buf)) ∙ (rw done at (d .ahead)) }

@@ -1,14 +1,31 @@
 -- How long a written field is. Assumes nothing.
-use mathlib.Core.Path.{_≡_}
+use mathlib.Core.Path.{_≡_, ap}
 use mathlib.Core.Bool.{Bool, true, false, cond}
 use mathlib.Core.List.{List, _∷_}
-use Prim.Native.Nat.{ℕ, zero, suc, _+_, _/_, _%_, _≤_, _<_}
+use Prim.Native.Nat.{ℕ, zero, suc, _+_, _*_, _/_, _%_, _≤_, _<_}
 use native.Mathlib.Omega.{arith}
+use borrow.Author.Tests.{lt-ltb}
 use lib.Dec.{ltb}
 use lib.ListN.{length}
 use Rattle.fields.specs.Fields.{digitsOf, decimalOf, hexDigit, hexOf}
-use Rattle.fields.proofs.Decimals.{decimal-short}
 
+-- ---- more places than the digits take
+-- below 10, 100, ..
+unfoldable pub limit : ℕ → ℕ
+limit zero = 10
+limit (suc k) = 10 * limit k
+
+-- one place more than needed changes nothing
+pub more : (k n : ℕ) (rest : List ℕ) → n < limit k → digitsOf (suc k) n rest ≡ digitsOf k n rest
+unfolding digitsOf limit
+more zero n rest h = rw (lt-ltb n 10 h)
+more (suc k) n rest h = ap (cond (ltb n 10) ((48 + n) ∷ rest)) (more k (n / 10) ((48 + n % 10) ∷ rest) (omega arith))
+
+decimal-short : (n : ℕ) (rest : List ℕ) → n < 10000 → decimalOf n rest ≡ digitsOf 3 n rest
+unfolding decimalOf limit
+decimal-short n rest h = more 3 n rest h
+
+-- ---- widths
 digits-width : (k n : ℕ) (rest : List ℕ) → length (digitsOf k n rest) ≤ suc k + length rest
 unfolding digitsOf
 digits-width zero n rest = omega arith

@@ -17,8 +17,9 @@ use Rattle.spell.proofs.Entered.{entered, both}
 use Rattle.spell.specs.Listing.{HeldUrgency, Sound}
 use Rattle.fields.specs.Fields.{Found, found, unreadable, onward, passed, readNumber, readBits, decimalOf}
 use Rattle.register.specs.Text.{readLetter, readValue, readUrgency, readLine, urgencyText, lineText}
-use Rattle.fields.proofs.Decimals.{which, never, read-number, write-number, write-passed}
-use Rattle.fields.proofs.Hex.{read-bits, write-bits}
+use Rattle.fields.proofs.Bytes.{which, never, write-passed}
+use Rattle.decimals.proofs.Decimals.{read-number, write-number}
+use Rattle.hex.proofs.Hex.{read-bits, write-bits}
 
 -- ---- what is written is read
 grade-small : (g : ℕ) → urgencyOk (Grade g) ≡ true → g ≤ 4

@@ -20,7 +20,7 @@ use Rattle.spell.proofs.Listing.{stands-more}
 use Rattle.fields.specs.Fields.{found, unreadable}
 use Rattle.register.specs.Text.{readLine, follows, lineRefusal, accepted, refused, readLines, readText}
 use Rattle.register.specs.Answers.{blank, readingOf}
-use Rattle.fields.proofs.Decimals.{which}
+use Rattle.fields.proofs.Bytes.{which}
 use Rattle.register.proofs.Ordered.{follows-more}
 use Rattle.register.proofs.Texts.{not-refused, lines-end, lines-malformed, lines-refused, lines-full, lines-on}
 

@@ -17,7 +17,7 @@ use Rattle.spell.specs.Listing.{stands, distinct, Each, Sound, Good}
 use Rattle.spell.proofs.Listing.{distinct-fresh, distinct-more}
 use Rattle.fields.specs.Fields.{Found, found, unreadable, readDecimal}
 use Rattle.register.specs.Text.{readLine, lineText, textOnto, writeAll, follows, lineRefusal, Register, accepted, refused, lineAnswer, nextLine, readLines, readText}
-use Rattle.fields.proofs.Decimals.{which}
+use Rattle.fields.proofs.Bytes.{which}
 use Rattle.register.proofs.Lines.{read-line, write-line}
 use Rattle.register.proofs.Ordered.{ordered-follows, ordered-more}
 use Rattle.register.proofs.Widths.{sound-width}

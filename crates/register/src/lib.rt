@@ -87,12 +87,12 @@ fn read_value(text: &[u8], at: usize, letter: u16) -> Kind
     ensures { λ r. ⌜ Reads kindAt kindOf (now (text .entry)) r (readValue letter (drop at (now (text .entry)))) ⌝ }
 {
     if letter == GRADE {
-        let Field::Value(g, next) = fields::read_number(text, at, LF) else {
+        let Field::Value(g, next) = decimals::read_number(text, at, LF) else {
             return Kind::Malformed;
         };
         return Kind::Value(Urgency::Grade(g), next);
     }
-    let Bits::Value(n, next) = fields::read_bits(text, at, LF) else {
+    let Bits::Value(n, next) = hex::read_bits(text, at, LF) else {
         return Kind::Malformed;
     };
     let x = spell::reading_of(n);
@@ -103,16 +103,16 @@ fn read_value(text: &[u8], at: usize, letter: u16) -> Kind
 pub fn read_line(text: &[u8], at: usize) -> Line
     ensures { λ r. ⌜ Reads lineAt lineOf (now (text .entry)) r (readLine (drop at (now (text .entry)))) ⌝ }
 {
-    let Field::Value(number, i) = fields::read_number(text, at, TAB) else {
+    let Field::Value(number, i) = decimals::read_number(text, at, TAB) else {
         return Line::Malformed;
     };
-    let Field::Value(candidate, j) = fields::read_number(text, i, TAB) else {
+    let Field::Value(candidate, j) = decimals::read_number(text, i, TAB) else {
         return Line::Malformed;
     };
-    let Field::Value(first, k) = fields::read_number(text, j, TAB) else {
+    let Field::Value(first, k) = decimals::read_number(text, j, TAB) else {
         return Line::Malformed;
     };
-    let Field::Value(last, m) = fields::read_number(text, k, TAB) else {
+    let Field::Value(last, m) = decimals::read_number(text, k, TAB) else {
         return Line::Malformed;
     };
     let Field::Value(letter, n) = read_letter(text, m) else {
@@ -212,13 +212,13 @@ fn put_urgency(buf: &mut [u8; 35840], at: usize, u: Urgency) -> usize
 {
     match u {
         Urgency::Grade(g) => {
-            let i = fields::put_number(buf, at, g, LF);
+            let i = decimals::put_number(buf, at, g, LF);
             let j = fields::put_byte(buf, i, TAB);
             fields::put_byte(buf, j, LETTER_G)
         }
         Urgency::Reading(x) => {
             let n = spell::bits_of(x);
-            let i = fields::put_bits(buf, at, n, LF);
+            let i = hex::put_bits(buf, at, n, LF);
             let j = fields::put_byte(buf, i, TAB);
             fields::put_byte(buf, j, LETTER_C)
         }
@@ -231,10 +231,10 @@ fn put_line(buf: &mut [u8; 35840], at: usize, s: Spell) -> usize
 {
     let u = s.urgency;
     let i = put_urgency(buf, at, u);
-    let j = fields::put_number(buf, i, s.last, TAB);
-    let k = fields::put_number(buf, j, s.first, TAB);
-    let m = fields::put_number(buf, k, s.candidate, TAB);
-    fields::put_number(buf, m, s.number, TAB)
+    let j = decimals::put_number(buf, i, s.last, TAB);
+    let k = decimals::put_number(buf, j, s.first, TAB);
+    let m = decimals::put_number(buf, k, s.candidate, TAB);
+    decimals::put_number(buf, m, s.number, TAB)
 }
 
 fn at_most(count: usize, limit: usize) -> usize

@@ -21,13 +21,13 @@ pub fn day_line(index: &[u16; INDEX], d: u16, buf: &mut [u8; LINE]) -> usize
     let o = service::day(index, d, &mut numbers);
     let k = o.count;
     let comparisons = o.comparisons;
-    let at_numbers = fields::put_numbers(buf, LINE, &numbers[..k]);
+    let at_numbers = decimals::put_numbers(buf, LINE, &numbers[..k]);
     if k == 0 {
         return at_numbers;
     }
-    let at_comparisons = fields::put_number(buf, at_numbers, comparisons as u16, TAB);
-    let at_count = fields::put_number(buf, at_comparisons, k as u16, TAB);
-    fields::put_number(buf, at_count, d, TAB)
+    let at_comparisons = decimals::put_number(buf, at_numbers, comparisons as u16, TAB);
+    let at_count = decimals::put_number(buf, at_comparisons, k as u16, TAB);
+    decimals::put_number(buf, at_count, d, TAB)
 }
 
 // The bytes of a word before the place `at`: the place where it begins.
@@ -50,6 +50,6 @@ pub fn refused_line(number: u16, line: u16, buf: &mut [u8; LINE]) -> usize
     ensures { λ r. ⌜ RefusedEnds number line (now (buf .entry)) r (now (buf .exit)) ⌝ }
 {
     let pair = [number, line];
-    let at_pair = fields::put_numbers(buf, LINE, &pair);
+    let at_pair = decimals::put_numbers(buf, LINE, &pair);
     put_word(buf, at_pair, b"refused\t")
 }

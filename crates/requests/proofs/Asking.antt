@@ -8,7 +8,7 @@ use lib.Dec.{leb}
 use lib.ListN.{length, take, drop}
 use lib.Seq.{take-at}
 use Rattle.fields.specs.Fields.{Found, found, unreadable, readNumber, readLength}
-use Rattle.fields.proofs.Decimals.{length-within}
+use Rattle.decimals.proofs.Decimals.{length-within}
 use Rattle.register.specs.Text.{readLine}
 use Rattle.model.specs.declared.Call.{Call}
 use Rattle.model.specs.declared.Call.the-variants.{Enter, Amend, Strike, TakeBack, Publish, Write, Day, Cover, Days}

@@ -8,8 +8,8 @@ use borrow.Author.Tests.{leb-true}
 use lib.Dec.{leb}
 use lib.ListN.{length, drop, length-drop}
 use Rattle.fields.specs.Fields.{Found, found, unreadable, readNumber}
-use Rattle.fields.proofs.Decimals.{write-number}
 use Rattle.fields.proofs.Widths.{decimal-wide}
+use Rattle.decimals.proofs.Decimals.{write-number}
 use Rattle.requests.specs.declared.Word.{Word}
 use Rattle.requests.specs.declared.Word.the-variants.{Enter as EnterWord, Amend as AmendWord, Strike as StrikeWord, TakeBack as TakeBackWord, Publish as PublishWord, Write as WriteWord, Day as DayWord, Span as SpanWord, Cover as CoverWord, Days as DaysWord, NoDays as NoDaysWord, Room as RoomWord, Read as ReadWord, Unknown}
 use Rattle.requests.specs.Requests.{malformed, ended, lastDay, nextDay, readDays, askDays, wordOf, askedBy, askedOf}

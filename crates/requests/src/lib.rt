@@ -125,7 +125,7 @@ fn word_of(line: &[u8]) -> Word
 fn last_number(line: &[u8], at: usize) -> Field
     ensures { λ r. ⌜ fieldOf (now (line .entry)) r ≡ ended (readNumber 10 (drop at (now (line .entry)))) ⌝ }
 {
-    let Field::Value(n, next) = fields::read_number(line, at, LF) else {
+    let Field::Value(n, next) = decimals::read_number(line, at, LF) else {
         return Field::Malformed;
     };
     if next < line.len() {
@@ -137,7 +137,7 @@ fn last_number(line: &[u8], at: usize) -> Field
 fn last_length(line: &[u8], at: usize, limit: u64) -> Length
     ensures { λ r. ⌜ lengthOf (now (line .entry)) r ≡ ended (readLength limit 10 (drop at (now (line .entry)))) ⌝ }
 {
-    let Length::Value(n, next) = fields::read_length(line, at, LF, limit) else {
+    let Length::Value(n, next) = decimals::read_length(line, at, LF, limit) else {
         return Length::Malformed;
     };
     if next < line.len() {
@@ -227,7 +227,7 @@ fn read_asked(l: Length) -> Request
 fn span_asked(line: &[u8]) -> Request
     ensures { λ r. ⌜ r ≡ requestOf (asking (readSpan (drop 5 (now (line .entry)))) asks) ⌝ }
 {
-    let Field::Value(a, next) = fields::read_number(line, 5, TAB) else {
+    let Field::Value(a, next) = decimals::read_number(line, 5, TAB) else {
         return Request::Malformed;
     };
     let Field::Value(b, _) = last_number(line, next) else {
@@ -265,7 +265,7 @@ fn read_days(line: &[u8], start: usize, days: &mut [u16]) -> Request
     let mut at = start;
     let mut k = 0;
     while k < days.len() {
-        let Field::Value(d, next) = fields::read_number(line, at, TAB) else {
+        let Field::Value(d, next) = decimals::read_number(line, at, TAB) else {
             return last_day(line, at, days, k);
         };
         days[k] = d;

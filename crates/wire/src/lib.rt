@@ -68,7 +68,7 @@ fn put_malformed(out: &mut [u8; OUT]) -> usize
 fn put_refused(out: &mut [u8; OUT], number: u16) -> usize
     ensures { λ r. ⌜ Sends (refusedText number) (now (out .entry)) r (now (out .exit)) ⌝ }
 {
-    let at = fields::put_number(out, OUT, number, LF);
+    let at = decimals::put_number(out, OUT, number, LF);
     put_bytes(out, at, b"refused\t")
 }
 
@@ -76,8 +76,8 @@ fn put_refused(out: &mut [u8; OUT], number: u16) -> usize
 fn put_stopped(out: &mut [u8; OUT], number: u16, line: u16) -> usize
     ensures { λ r. ⌜ Sends (stoppedText number line) (now (out .entry)) r (now (out .exit)) ⌝ }
 {
-    let i = fields::put_number(out, OUT, line, LF);
-    let j = fields::put_number(out, i, number, TAB);
+    let i = decimals::put_number(out, OUT, line, LF);
+    let j = decimals::put_number(out, i, number, TAB);
     put_bytes(out, j, b"refused\t")
 }
 
@@ -86,10 +86,10 @@ fn put_listed(out: &mut [u8; OUT], count: u16, comparisons: u16, numbers: &[u16]
     requires { ⌜ length (now numbers) ≤ 1024 ⌝ }
     ensures { λ r. ⌜ Sends (listedText count comparisons (now (numbers .entry))) (now (out .entry)) r (now (out .exit)) ⌝ }
 {
-    let end = fields::end_before(numbers.len());
-    let i = fields::put_numbers(out, OUT, numbers);
-    let j = fields::put_number(out, i, comparisons, end);
-    let k = fields::put_number(out, j, count, TAB);
+    let end = decimals::end_before(numbers.len());
+    let i = decimals::put_numbers(out, OUT, numbers);
+    let j = decimals::put_number(out, i, comparisons, end);
+    let k = decimals::put_number(out, j, count, TAB);
     put_bytes(out, k, b"listed\t")
 }
 
@@ -98,11 +98,11 @@ fn put_several(out: &mut [u8; OUT], count: u16, numbers: &[u16]) -> usize
     requires { ⌜ length (now numbers) ≤ 1024 ⌝ }
     ensures { λ r. ⌜ Sends (severalText count (now (numbers .entry))) (now (out .entry)) r (now (out .exit)) ⌝ }
 {
-    let end = fields::end_before(numbers.len());
-    let i = fields::put_numbers(out, OUT, numbers);
+    let end = decimals::end_before(numbers.len());
+    let i = decimals::put_numbers(out, OUT, numbers);
     let j = fields::put_byte(out, i, end);
     let k = fields::put_byte(out, j, DASH);
-    let m = fields::put_number(out, k, count, TAB);
+    let m = decimals::put_number(out, k, count, TAB);
     put_bytes(out, m, b"listed\t")
 }
 
@@ -112,7 +112,7 @@ fn put_written(out: &mut [u8; OUT], count: u16, text: &[u8]) -> usize
     ensures { λ r. ⌜ Sends (writtenText count (now (text .entry))) (now (out .entry)) r (now (out .exit)) ⌝ }
 {
     let i = put_bytes(out, OUT, text);
-    let j = fields::put_number(out, i, count, LF);
+    let j = decimals::put_number(out, i, count, LF);
     put_bytes(out, j, b"text\t")
 }
 

@@ -1,0 +1,5 @@
+pub mod Decimals
+pub mod Places
+pub mod Puts
+pub mod Rows
+pub mod Claims

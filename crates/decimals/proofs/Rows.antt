@@ -1,0 +1,44 @@
+-- Decimals parted by tabs, put into a list from the last to the first. Assumes nothing.
+use mathlib.Core.Path.{_≡_, refl, sym, ap, _∙_}
+use mathlib.Core.List.{List, [], _∷_}
+use Prim.Native.Nat.{ℕ, suc, _+_, _-_, _*_, _≤_, _<_}
+use native.Mathlib.Omega.{arith}
+use lib.ListN.{length, drop, getD, length-drop}
+use lib.Seq.{drop-cons, drop-length}
+use Rattle.fields.specs.Fields.{numberText, endBefore, numbersText}
+use Rattle.fields.specs.Answers.{Puts}
+use Rattle.fields.proofs.Puts.{Put, put-none, put-on, put-place, number-put, puts-room}
+use Rattle.fields.proofs.Widths.{decimal-wide}
+
+-- the decimals from i on stand in front of what stood from `at` on, in at most six places each
+pub record Rest (ns entry : List ℕ) (at : ℕ) (buf : List ℕ) (place i : ℕ) : Type 0 where
+  pub upto : i ≤ length ns
+  pub put : Put entry buf place (numbersText (drop i ns) (drop at entry))
+  pub roomy : 6 * i ≤ place
+
+module _ (ns entry : List ℕ) (at : ℕ) (h : 6 * length ns ≤ at) (k : at ≤ length entry) where
+  pub rest-none : Rest ns entry at entry at (length ns)
+  unfolding numbersText
+  rest-none = record { upto = omega arith; put = rw (drop-length ns) (put-none entry at k); roomy = h }
+
+  one-text : (i : ℕ) → i < length ns → numbersText (drop i ns) (drop at entry)
+      ≡ numberText (getD ns i 0) (endBefore (length ns - suc i)) (numbersText (drop (suc i) ns) (drop at entry))
+  unfolding numbersText
+  one-text i l = rw (drop-cons ns i 0 l, length-drop (suc i) ns)
+
+  pub rest-one : (buf exit : List ℕ) (place i r : ℕ) → Rest ns entry at buf place i → 1 ≤ i
+      → Puts 6 (numberText (getD ns (i - 1) 0) (endBefore (length ns - i))) buf place r exit → Rest ns entry at exit r (i - 1)
+  rest-one buf exit place i r g l p =
+      let up : suc (i - 1) ≡ i = omega arith in
+      let in-buf : place ≤ length buf = omega (arith, g .put .sized, g .put .inside) in
+      let q = number-put in-buf (getD ns (i - 1) 0) (endBefore (length ns - i)) (omega (arith, g .roomy)) p in
+      let text : numbersText (drop (i - 1) ns) (drop at entry) ≡ numberText (getD ns (i - 1) 0) (endBefore (length ns - i)) (drop place buf)
+      = one-text (i - 1) (omega (arith, g .upto)) ∙ rw (up, g .put .written) in
+      record {
+        upto = omega (arith, g .upto);
+        put = rw text (put-on (g .put) (q .0) (omega (arith, put-place (q .0), decimal-wide (getD ns (i - 1) 0) (endBefore (length ns - i) ∷ drop place buf), length-drop place buf)));
+        roomy = omega (arith, g .roomy, q .1);
+      }
+
+  pub rest-all : (exit : List ℕ) (r : ℕ) → Rest ns entry at exit r 0 → Puts (6 * length ns) (numbersText ns) entry at r exit
+  rest-all exit r g = puts-room (6 * length ns) (numbersText ns) h k (g .put)

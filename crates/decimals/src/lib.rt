@@ -1,0 +1,136 @@
+// The decimals of a text, each ended by a byte: reading them at a place of a text, and writing them before a place of a list.
+ghost use mathlib.Core.Path.{_≡_};
+ghost use Prim.Native.Nat.{_*_};
+ghost use lib.ListN.{length, drop};
+ghost use Rattle.fields.specs.Fields.{readDigits, readDecimal, readLength, readNumber, numberText, endBefore, numbersText};
+ghost use Rattle.fields.specs.Answers.{fieldAt, fieldOf, lengthAt, lengthOf, Reads, Puts};
+use fields::Field;
+use fields::Length;
+
+const TAB: u8 = 9;
+
+const LF: u8 = 10;
+
+// The digit 0.
+const ZERO: u8 = 48;
+
+// The digits from `start` on. No product and no sum wraps, whatever the limit: the tests come first.
+fn read_digits(text: &[u8], start: usize, limit: u64) -> Length
+    ensures { λ r. ⌜ lengthOf (now (text .entry)) r ≡ readDigits limit 0 (drop start (now (text .entry))) ⌝ }
+{
+    let tenth = limit / 10;
+    let mut v: u64 = 0;
+    let mut i = start;
+    while i < text.len() {
+        let b = text[i];
+        if !fields::is_digit(b) {
+            return Length::Value(v, i);
+        }
+        if v > tenth {
+            return Length::Malformed;
+        }
+        let d = (b - ZERO) as u64;
+        if d > limit - 10 * v {
+            return Length::Malformed;
+        }
+        v = 10 * v + d;
+        i += 1;
+    }
+    Length::Value(v, i)
+}
+
+// A decimal at `at`.
+fn read_decimal(text: &[u8], at: usize, limit: u64) -> Length
+    ensures { λ r. ⌜ lengthOf (now (text .entry)) r ≡ readDecimal limit (drop at (now (text .entry))) ⌝ }
+{
+    if text.len() <= at {
+        return Length::Malformed;
+    }
+    let b = text[at];
+    if b == ZERO {
+        return Length::Value(0, at + 1);
+    }
+    if !fields::is_digit(b) {
+        return Length::Malformed;
+    }
+    read_digits(text, at, limit)
+}
+
+// A decimal up to a limit at `at` and the byte that ends it.
+pub fn read_length(text: &[u8], at: usize, end: u8, limit: u64) -> Length
+    ensures { λ r. ⌜ Reads lengthAt lengthOf (now (text .entry)) r (readLength limit end (drop at (now (text .entry)))) ⌝ }
+{
+    let Length::Value(v, i) = read_decimal(text, at, limit) else {
+        return Length::Malformed;
+    };
+    if !fields::is_at(text, i, end) {
+        return Length::Malformed;
+    }
+    Length::Value(v, i + 1)
+}
+
+// A number at `at` and the byte that ends it.
+pub fn read_number(text: &[u8], at: usize, end: u8) -> Field
+    ensures { λ r. ⌜ Reads fieldAt fieldOf (now (text .entry)) r (readNumber end (drop at (now (text .entry)))) ⌝ }
+{
+    let Length::Value(v, i) = read_length(text, at, end, 65535) else {
+        return Field::Malformed;
+    };
+    Field::Value(v as u16, i)
+}
+
+// The decimal of n and the byte that ends it, before the place `at`: the place where it begins. Six places before `at`
+// are asked for, and nothing is written where they are not there.
+pub fn put_number(buf: &mut [u8], at: usize, n: u16, end: u8) -> usize
+    ensures { λ r. ⌜ Puts 6 (numberText n end) (now (buf .entry)) at r (now (buf .exit)) ⌝ }
+{
+    if at < 6 {
+        return at;
+    }
+    if buf.len() < at {
+        return at;
+    }
+    let mut i = at - 1;
+    buf[i] = end;
+    let mut v = n;
+    while v >= 10 {
+        i -= 1;
+        buf[i] = ZERO + (v % 10) as u8;
+        v /= 10;
+    }
+    i -= 1;
+    buf[i] = ZERO + v as u8;
+    i
+}
+
+// The byte after a decimal that so many others follow: a tab, or LF after the last.
+pub fn end_before(others: usize) -> u8
+    ensures { λ r. ⌜ r ≡ endBefore others ⌝ }
+{
+    if others == 0 {
+        return LF;
+    }
+    TAB
+}
+
+// The decimals of the numbers, parted by tabs and ended by LF, before the place `at`: the place where they begin. Six places
+// before `at` are asked for each number, and nothing is written where they are not there.
+pub fn put_numbers(buf: &mut [u8], at: usize, numbers: &[u16]) -> usize
+    ensures { λ r. ⌜ Puts (6 * length (now (numbers .entry))) (numbersText (now (numbers .entry))) (now (buf .entry)) at r (now (buf .exit)) ⌝ }
+{
+    if at / 6 < numbers.len() {
+        return at;
+    }
+    if buf.len() < at {
+        return at;
+    }
+    let n = numbers.len();
+    let mut place = at;
+    let mut i = n;
+    while 0 < i {
+        let end = end_before(n - i);
+        i -= 1;
+        place = put_number(buf, place, numbers[i], end);
+    }
+    place
+}

@@ -1,0 +1,48 @@
+-- Single bytes: those that are digits, and the byte that ends a field. Assumes nothing.
+use mathlib.Core.Path.{_≡_, refl}
+use mathlib.Core.Bool.{Bool, true, false, _&&_, false≢true}
+use mathlib.Core.Logic.{_⊎_, inl, inr}
+use mathlib.Core.List.{List, [], _∷_}
+use Prim.Native.Nat.{ℕ, _≤_, _<_}
+use native.Mathlib.Omega.{arith}
+use borrow.Author.Tests.{le-leb, lt-leb, leb-true, eqb-true}
+use lib.Dec.{leb, eqb}
+use Rattle.fields.specs.Fields.{found, unreadable, passed, isDigit}
+
+pub which : (t : Bool) → (t ≡ true) ⊎ (t ≡ false)
+which true = inl refl
+which false = inr refl
+
+pub never : {A : Type 0} {a : A} {rest : List ℕ} → unreadable ≡ found a rest → ⊥
+never h = let z : _≡_ {A = ℕ} 0 1 = cc in omega arith
+
+-- ---- bytes that are digits
+pub digit-is : (b : ℕ) → 48 ≤ b → b ≤ 57 → isDigit b ≡ true
+digit-is b h k = rw (le-leb 48 b h) (le-leb b 57 k)
+
+pub low-not : (b : ℕ) → b < 48 → isDigit b ≡ false
+low-not b h = rw (lt-leb 48 b h)
+
+pub digit-low : (b : ℕ) → isDigit b ≡ true → 48 ≤ b
+digit-low b h = go (leb 48 b) refl h
+  where
+    go : (t : Bool) → leb 48 b ≡ t → t && leb b 57 ≡ true → 48 ≤ b
+    go true e k = leb-true 48 b e
+    go false e k = absurd (false≢true k)
+
+pub digit-high : (b : ℕ) → isDigit b ≡ true → b ≤ 57
+digit-high b h = go (leb 48 b) refl h
+  where
+    go : (t : Bool) → leb 48 b ≡ t → t && leb b 57 ≡ true → b ≤ 57
+    go true e k = leb-true b 57 k
+    go false e k = absurd (false≢true k)
+
+-- ---- the byte that ends a field
+-- the byte that was passed stands before what follows
+pub write-passed : {A : Type 0} (e : ℕ) (a : A) (s : List ℕ) (x : A) (rest : List ℕ) → passed e a s ≡ found x rest → (a ≡ x) × (s ≡ e ∷ rest)
+unfolding passed
+write-passed e a [] x rest h = absurd (never h)
+write-passed e a (b ∷ s) x rest h = elim (which (eqb b e)) [
+  | inl t ↦ let here = rw t at h in let same = eqb-true b e t in (cc, cc)
+  | inr t ↦ absurd (never (rw t at h))
+]

@@ -1,0 +1,4 @@
+pub mod Hex
+pub mod Places
+pub mod Puts
+pub mod Claims
