@@ -1,14 +1,14 @@
 -- The plain account of document 01: its state, and for each call its checks in their order, its whole answer, and the state
 -- after it. Nothing of the program occurs here. Assumes nothing.
 use Prim.Native.Nat.{ℕ}
-use mathlib.Core.Bool.{Bool, _&&_, cond}
+use mathlib.Core.Bool.{_&&_, cond}
 use mathlib.Core.List.{List, [], _∷_, _++_}
 use lib.Dec.{leb, eqb}
 use lib.ListN.{length, drop}
 use Rattle.refusal.specs.Table.{accepted, offCalendar, reversed, unknownNumber, noHistory, unsortedDays, shortBuffer}
 use Rattle.spell.specs.declared.Spell.{Spell}
 use Rattle.spell.specs.Entry.{dayOk}
-use Rattle.register.specs.Text.{Register, writeAll, readText}
+use Rattle.register.specs.Text.{Register, writeAll}
 use Rattle.register.specs.Text.Register.{accepted as good, refused as bad}
 use Rattle.model.specs.declared.Call.{Call}
 use Rattle.model.specs.declared.Call.the-variants.{Enter, Amend, Strike, TakeBack, Publish, Write, Day, Span, Cover, Days}

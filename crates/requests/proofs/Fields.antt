@@ -1,6 +1,6 @@
 -- The last field of a line: what follows its LF. Assumes nothing.
 use mathlib.Core.Path.{_≡_}
-use mathlib.Core.List.{List, []}
+use mathlib.Core.List.{List}
 use Prim.Native.Nat.{ℕ, _≤_, _<_}
 use lib.ListN.{length, drop}
 use Rattle.fields.specs.Fields.{found, unreadable}

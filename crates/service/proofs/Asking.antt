@@ -1,13 +1,13 @@
 -- From a question over the index to the postcondition of the call. Assumes nothing.
 use Prim.Native.Nat.{ℕ, _≤_}
 use mathlib.Core.Path.{_≡_, refl, sym, ap, _∙_, subst}
-use mathlib.Core.Bool.{Bool, true}
-use mathlib.Core.List.{List, map}
+use mathlib.Core.Bool.{true}
+use mathlib.Core.List.{List}
 use native.Mathlib.Omega.{arith}
 use lib.ListN.{length, length-map}
 use Rattle.spell.specs.declared.Spell.{Spell}
 use Rattle.stabbing.specs.declared.Listed.{Listed}
-use Rattle.stabbing.specs.Index.{blockOf, numbers, firsts, lasts, Built}
+use Rattle.stabbing.specs.Index.{numbers, firsts, lasts, Built}
 use Rattle.stabbing.specs.Answer as rows
 use Rattle.stabbing.specs.Answer.{Gave, dayIn, spanIn, coverIn, daysIn}
 use Rattle.stabbing.proofs.Block as block
@@ -15,12 +15,12 @@ use Rattle.standing.specs.declared.Standing.{Standing}
 use Rattle.model.specs.declared.Call.{Call}
 use Rattle.model.specs.declared.Call.the-variants.{Day, Span, Cover, Days}
 use Rattle.model.specs.Questions.{firstsOf, lastsOf}
-use Rattle.model.specs.Model.{State, Request, Answer, step, stepOf}
+use Rattle.model.specs.Model.{State, step, stepOf}
 use Rattle.model.proofs.Account.{reads}
 use Rattle.model.proofs.Claims.{reads-keep}
 use Rattle.service.specs.declared.Outcome.{Outcome}
 use Rattle.service.specs.declared.Stepped.{Stepped}
-use Rattle.service.specs.Service.{indexOf, Shows, Represents, Published, Given, asking, answerOf, Met, Asked}
+use Rattle.service.specs.Service.{Shows, Represents, Published, asking, answerOf, Met, Asked}
 use Rattle.service.proofs.Questions.{told, numbersOf, own, day-told, span-told, cover-told, days-told}
 use Rattle.service.proofs.Publishing.{rows-ok}
 

@@ -1,33 +1,29 @@
 -- Service and index at the beginning, after publish, and beside a written text. Assumes nothing.
-use Prim.Native.Nat.{ℕ, _≤_}
+use Prim.Native.Nat.{ℕ}
 use mathlib.Core.Path.{_≡_, refl, sym, ap, _∙_, subst}
-use mathlib.Core.Bool.{Bool, true, false, _&&_, cond}
-use mathlib.Core.List.{List, [], _∷_, _++_, map}
+use mathlib.Core.Bool.{Bool, true}
+use mathlib.Core.List.{List, [], _++_, map}
 use native.Mathlib.Omega.{arith}
 use borrow.Author.Tests.{le-leb}
 use lib.Dec.{leb}
 use lib.ListN.{length, take, drop, length-map}
 use lib.Seq.{take-at}
 use Rattle.spell.specs.declared.Spell.{Spell}
-use Rattle.spell.specs.Listing.{Good}
 use Rattle.register.specs.declared.Written.{Written}
 use Rattle.register.specs.Text.{Register, accepted, refused, writeAll}
 use Rattle.register.specs.Answers.{Writes}
-use Rattle.stabbing.specs.Index.{rowsAfter, rowsOk, blockOf}
+use Rattle.stabbing.specs.Index.{rowsAfter}
 use Rattle.stabbing.proofs.Marks.{by-test}
 use Rattle.stabbing_index.specs.Build.{publishable, Builds}
 use Rattle.standing.specs.declared.Standing.{Standing}
 use Rattle.standing.specs.declared.Loaded.{Loaded}
-use Rattle.standing.specs.Standing.{Wf, listOf, pasts, Fresh, Loads, LaidOut}
+use Rattle.standing.specs.Standing.{Wf, listOf, Fresh, Loads, LaidOut}
 use Rattle.standing.proofs.Calls.{good-none}
-use Rattle.model.specs.declared.Call.the-variants.{Publish, Write}
+use Rattle.model.specs.declared.Call.the-variants.{Write}
 use Rattle.model.specs.Questions.{firstsOf, lastsOf}
-use Rattle.model.specs.Model.{State, Request, fresh, begun, giveText, stepOf}
+use Rattle.model.specs.Model.{fresh, begun, giveText, stepOf}
 use Rattle.model.proofs.Claims.{reads-keep}
-use Rattle.service.specs.declared.Outcome.{Outcome}
-use Rattle.service.specs.declared.Stepped.{Stepped}
-use Rattle.service.specs.declared.Started.{Started}
-use Rattle.service.specs.Service.{indexOf, Shows, Represents, Given, asking, answerOf, Met, Publishes, Wrote, Begins}
+use Rattle.service.specs.Service.{indexOf, Represents, asking, Publishes, Wrote, Begins}
 use Rattle.service.proofs.Publishing.{rows-ok}
 
 -- ---- Nothing is published

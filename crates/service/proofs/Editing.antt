@@ -1,7 +1,7 @@
 -- From an edit of the standing list to the postcondition of the call. Assumes nothing.
 use Prim.Native.Nat.{ℕ}
 use mathlib.Core.Path.{_≡_, refl, sym, ap, _∙_, subst}
-use mathlib.Core.Bool.{Bool, true, false, cond, false≢true}
+use mathlib.Core.Bool.{true, false, false≢true}
 use mathlib.Core.List.{List, [], _∷_}
 use borrow.Author.Tests.{eqb-true}
 use lib.Dec.{eqb}
@@ -14,9 +14,9 @@ use Rattle.standing.specs.Standing.{Wf, listOf, pasts, Edits, TakesBack, frontO
 use Rattle.model.specs.declared.Call.{Call}
 use Rattle.model.specs.declared.Call.the-variants.{Enter, Amend, Strike, TakeBack}
 use Rattle.model.specs.Edits.{insert, remove, replace, enterRefusal, amendRefusal, strikeRefusal, takeBackRefusal, remember}
-use Rattle.model.specs.Model.{State, Request, After, edit, takeBack, step, stepOf}
+use Rattle.model.specs.Model.{State, Request, After, edit, takeBack, stepOf}
 use Rattle.service.specs.declared.Stepped.{Stepped}
-use Rattle.service.specs.Service.{Shows, Represents, Given, asking, answerOf, Met, Changed}
+use Rattle.service.specs.Service.{Shows, Represents, asking, answerOf, Changed}
 
 -- the call's result
 abbrev pub steppedOf : Edited → Stepped

@@ -1,22 +1,22 @@
 -- The questions over a block's rows answer as the account does of the published list. Assumes nothing.
-use Prim.Native.Nat.{ℕ, zero, suc, _+_, _≤_, _<_}
+use Prim.Native.Nat.{ℕ, zero, suc, _≤_, _<_}
 use mathlib.Core.Path.{_≡_, refl, sym, ap, _∙_}
-use mathlib.Core.Bool.{Bool, true, false, not, _&&_, _||_, cond}
-use mathlib.Core.List.{List, [], _∷_, _++_, map}
+use mathlib.Core.Bool.{Bool, true, false, not, _&&_, _||_}
+use mathlib.Core.List.{List, [], _∷_, map}
 use native.Mathlib.Omega.{arith}
 use borrow.Author.Tests.{eqb-true, eq-eqb, ne-eqb, lt-ltb, leb-true, not-true}
-use lib.Dec.{leb, ltb, eqb}
-use lib.ListN.{length, getD, drop, length-map, List·getD-map}
-use Rattle.refusal.specs.Table.{offCalendar, reversed, unknownNumber, unsortedDays, shortBuffer}
+use lib.Dec.{leb, eqb}
+use lib.ListN.{length, getD, length-map, List·getD-map}
+use Rattle.refusal.specs.Table.{unknownNumber}
 use Rattle.spell.specs.declared.Spell.{Spell}
 use Rattle.spell.specs.Entry.{dayOk}
 use Rattle.spell.specs.Listing.{stands, distinct}
 use Rattle.spell.proofs.Entered.{both}
 use Rattle.stabbing.specs.Tree.{keep, fits, start, formula, below}
 use Rattle.stabbing.specs.Index.{named}
-use Rattle.stabbing.specs.Answer.{Outcome, refused, give, question, calendars, risingFrom, meets, containsAny, dayOf, spanOf, covering, coverOf, daysOf}
+use Rattle.stabbing.specs.Answer.{Outcome, give, question, calendars, risingFrom, meets, containsAny, dayOf, spanOf, covering, coverOf, daysOf}
 use Rattle.stabbing.proofs.Marks.{by-test, by-mark, clash, Below, below-is, below-own}
-use Rattle.model.specs.Questions.{reaches, onAny, daysOk, rising, filter, listed, firstsOf, lastsOf, comparisonsOf}
+use Rattle.model.specs.Questions.{reaches, onAny, daysOk, rising, listed, firstsOf, lastsOf, comparisonsOf}
 use Rattle.model.specs.Model.{State, Request, Answer, After, refuse, give as giveNumbers, ask, day, span, cover, days}
 use Rattle.model.proofs.Bridge.{Agree, agree, rows-kept, fits-agree}
 use Rattle.spell.specs.declared.Urgency.the-variants.{Grade}

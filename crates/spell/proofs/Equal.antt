@@ -1,12 +1,11 @@
 -- `sameOf` says that two spells are equal. Assumes nothing.
 use mathlib.Core.Path.{_≡_, refl, sym, ap, _∙_}
-use mathlib.Core.Bool.{Bool, true, false, not, _&&_, cond, false≢true}
+use mathlib.Core.Bool.{Bool, true, false, not, _&&_, cond}
 use Prim.Native.Nat.{ℕ}
-use lib.Dec.{T, eqb, eqb→eq, eqb-refl}
+use lib.Dec.{T, eqb, eqb→eq}
 use lib.Ieee.{Float, nan, inf, fin, binary32, isNan, toBits, ofBits, fits}
-use lib.Ieee.Bits.{ofBits-toBits, is-true}
+use lib.Ieee.Bits.{ofBits-toBits}
 use lib.Ieee.Fits.{and-l, and-r}
-use borrow.Author.Tests.{eq-eqb}
 use Rattle.spell.specs.declared.Urgency.{Urgency}
 use Rattle.spell.specs.declared.Urgency.the-variants.{Grade, Reading}
 use Rattle.spell.specs.declared.Spell.{Spell}

@@ -1,16 +1,16 @@
 -- The walk's recursions with no fuel to follow: what code that goes by the links is proved against. Assumes nothing.
-use Prim.Native.Nat.{ℕ, zero, suc, _+_, _-_, _≤_, _<_, zero-le}
+use Prim.Native.Nat.{ℕ, zero, suc, _+_, _-_, _≤_, _<_}
 use native.Mathlib.Nat.{le-refl}
 use native.Mathlib.Omega.{arith}
 use mathlib.Core.Bool.{Bool, true, false, not, _&&_}
-use mathlib.Core.List.{List, [], _∷_, _++_}
+use mathlib.Core.List.{List, [], _∷_}
 use mathlib.Core.Path.{_≡_, refl, sym, ap, _∙_}
 use lib.ListN.{length, length-append}
 use lib.Dec.{leb}
 use borrow.Author.Tests.{le-leb, lt-leb}
-use Rattle.stabbing.specs.Tree.{Sorted, keep, Found, push, tick, day, head, next, parent, child, leftSibling, lastChild, compare, chain, rise, climb}
-use Rattle.stabbing.proofs.Marks.{by-test, by-mark, by-eq, untrue, keep-hit, keep-miss, keep-skip}
-use Rattle.stabbing.proofs.Links.{Head, bottom, parent-is, Stretch, own, upper, lower, c-head, c-parent, c-under, c-over, c-longest, c-child, c-left}
+use Rattle.stabbing.specs.Tree.{keep, Found, tick, day, head, parent, child, leftSibling, lastChild, compare, chain, rise, climb}
+use Rattle.stabbing.proofs.Marks.{by-test, by-mark, by-eq, keep-hit, keep-miss}
+use Rattle.stabbing.proofs.Links.{parent-is, Stretch, upper, lower, c-head, c-under, c-over, c-longest, c-child, c-left}
 use Rattle.stabbing.proofs.Walk.{reach, compare-none, compare-yes, compare-no}
 
 module _ (fs ls : List ℕ) (l : ℕ) where

@@ -2,17 +2,15 @@
 use Prim.Native.Nat.{ℕ, zero, suc, _+_, _*_, _≤_, _<_, zero-le}
 use native.Mathlib.Nat.{le-refl}
 use native.Mathlib.Omega.{arith}
-use mathlib.Core.Bool.{Bool, true, false, not, _&&_, _||_}
+use mathlib.Core.Bool.{Bool, true, false, _&&_}
 use mathlib.Core.List.{List, [], _∷_, _++_, append-assoc, append-nil}
-use mathlib.Core.Logic.{_≢_}
-use mathlib.Core.Path.{_≡_, refl, sym, ap, subst, _∙_}
-use lib.ListN.{length, getD}
-use lib.Dec.{leb, eqb}
-use borrow.Author.Tests.{eqb-true, eqb-false, eq-eqb, ne-eqb, leb-true, leb-false, le-leb, lt-leb}
+use mathlib.Core.Path.{_≡_, refl, sym, ap, _∙_}
+use lib.ListN.{length}
+use lib.Dec.{leb}
+use borrow.Author.Tests.{eq-eqb, ne-eqb, leb-true, leb-false, le-leb}
 use Rattle.stabbing.specs.Tree.{Sorted, below, keep, count, one, some, Found, nothing, push, tick, day, head, next, parent, child, leftSibling, lastChild, fits, start, onPath, compare, chain, rise, climb, walk, hasNext, hasLeft, hasChild, formula}
-use Rattle.stabbing.proofs.Marks.{by-test, by-mark, by-eq, both, clash, untrue, Below, below-is, below-skip, keep-hit, keep-miss, keep-skip, keep-ext, count-last, count-le}
-use Rattle.stabbing.proofs.Links as Links
-use Rattle.stabbing.proofs.Links.{Head, bottom, bottom-is, Parent, parent-is, Stretch, own, upper, lower, c-head, c-parent, c-under, c-over, c-child, c-left, next-some, next-bottom, chain-up, Top, top, barren, left-is}
+use Rattle.stabbing.proofs.Marks.{by-test, by-mark, by-eq, both, untrue, Below, below-is, keep-hit, keep-miss, keep-skip, keep-ext, count-last, count-le}
+use Rattle.stabbing.proofs.Links.{Head, bottom, bottom-is, parent-is, Stretch, own, upper, lower, c-head, c-under, c-over, c-child, c-left, next-some, next-bottom, chain-up, Top, top, barren, left-is}
 
 module _ (fs ls : List ℕ) (l : ℕ) where
   abbrev pub reach : ℕ → Bool

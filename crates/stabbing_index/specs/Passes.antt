@@ -2,7 +2,7 @@
 -- the columns of first and last days, fs and ls the days themselves. A record with `At` in its name is over any days; what
 -- the contracts cite, with `Of`, `In`, `Asks` or `Gives` in its name, is the same at the first n words of the columns.
 -- Assumes nothing.
-use Prim.Native.Nat.{ℕ, zero, suc, _+_, _≤_, _<_}
+use Prim.Native.Nat.{ℕ, zero, suc, _≤_, _<_}
 use mathlib.Core.Bool.{Bool, true, false, not, _||_}
 use mathlib.Core.List.{List, []}
 use mathlib.Core.Path.{_≡_}

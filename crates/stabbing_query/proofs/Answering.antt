@@ -1,20 +1,18 @@
 -- From the walk to the answers of day, span and cover: what is written, the theorems on listing and comparisons, the starts. Assumes nothing.
-use Prim.Native.Nat.{ℕ, zero, suc, _+_, _-_, _*_, _/_, _%_, _≤_, _<_, zero-le}
+use Prim.Native.Nat.{ℕ, zero, suc, _+_, _-_, _/_, _%_, _≤_, _<_, zero-le}
 use native.Mathlib.Nat.{le-refl}
 use native.Mathlib.Omega.{arith}
-use native.Mathlib.Numerals.{add-one}
 use mathlib.Core.Bool.{Bool, true, false, _&&_}
 use mathlib.Core.List.{List, [], _∷_, _++_, map, map-append}
 use mathlib.Core.Path.{_≡_, refl, sym, ap, _∙_}
 use lib.Dec.{leb}
-use lib.ListN.{length, getD, take, drop, set, length-map, drop-of-length-le, length-drop}
-use lib.Seq.{drop-cons, set-at, length-take-le, append-snoc, take-suc, take-all}
-use borrow.Author.Tests.{le-leb, lt-leb, leb-true, leb-false}
+use lib.ListN.{length, getD, take, drop, length-map, drop-of-length-le}
+use lib.Seq.{take-all}
+use borrow.Author.Tests.{le-leb, lt-leb, leb-true}
 use Rattle.stabbing.specs.declared.Listed.{Listed}
-use Rattle.stabbing.specs.Tree.{Found, nothing, keep, day, head, fits, start, latest, spanStart, formula, walk, climb}
-use Rattle.stabbing.proofs.Marks.{by-test, by-mark, both, below-is, keep-hit, keep-miss}
-use Rattle.stabbing.proofs.Links.{Head}
-use Rattle.stabbing.proofs.Starts.{Latest, latest-is, start-span, cover-latest}
+use Rattle.stabbing.specs.Tree.{Found, nothing, keep, day, fits, start, latest, spanStart, walk, climb}
+use Rattle.stabbing.proofs.Marks.{by-test, both, below-is, keep-hit, keep-miss}
+use Rattle.stabbing.proofs.Starts.{latest-is, start-span, cover-latest}
 use Rattle.stabbing.proofs.Walk.{start-is, listing, comparisons-formula}
 use Rattle.stabbing.specs.Index.{Built, named, numbers, firsts, lasts}
 use Rattle.stabbing.proofs.Block.{Holds, built-holds}

@@ -1,13 +1,10 @@
 -- The steps of `chain` over what it asks and gives, apart from the code. Assumes nothing.
-use Prim.Native.Nat.{ℕ, zero, suc, _+_, _-_, _*_, _/_, _%_, _≤_, _<_, zero-le}
-use native.Mathlib.Nat.{le-refl}
+use Prim.Native.Nat.{ℕ, zero, suc, _+_, _-_, _/_, _≤_, _<_}
 use native.Mathlib.Omega.{arith}
-use mathlib.Core.Bool.{Bool, true, false}
-use mathlib.Core.List.{List, [], _∷_, _++_, map}
+use mathlib.Core.List.{List}
 use mathlib.Core.Path.{_≡_, refl, sym, ap, _∙_}
-use lib.ListN.{length, getD, drop, set, length-set}
-use Rattle.stabbing.specs.Tree.{Found, push, tick, one, some, day, next, compare, chain}
-use Rattle.stabbing.proofs.Marks.{by-mark}
+use lib.ListN.{length, getD, set}
+use Rattle.stabbing.specs.Tree.{Found, push, one, some, next, compare, chain}
 use Rattle.stabbing.proofs.Walk.{compare-none}
 use Rattle.stabbing.proofs.Steps.{compare-same}
 use Rattle.stabbing.specs.Index.{lastOf}

@@ -1,27 +1,25 @@
 -- The steps of the days question, apart from the code. Assumes nothing.
-use Prim.Native.Nat.{ℕ, zero, suc, _+_, _-_, _*_, _/_, _≤_, _<_, zero-le}
-use native.Mathlib.Nat.{le-refl}
+use Prim.Native.Nat.{ℕ, _+_, _-_, _/_, _≤_, _<_, zero-le}
 use native.Mathlib.Omega.{arith}
 use native.Mathlib.Numerals.{add-one}
-use mathlib.Core.Bool.{Bool, true, false, _&&_}
+use mathlib.Core.Bool.{true, false}
 use mathlib.Core.List.{List, [], _∷_, _++_, map, map-append, append-assoc, append-nil}
-use mathlib.Core.Logic.{_≢_}
 use mathlib.Core.Path.{_≡_, refl, sym, ap, _∙_}
 use lib.Dec.{leb, ltb}
-use lib.ListN.{take-append-drop, length, getD, take, drop, length-append, length-drop, length-map, drop-of-length-le, List·getD-append, List·getD-map}
+use lib.ListN.{take-append-drop, length, getD, take, drop, length-append, length-drop, length-map, drop-of-length-le}
 use lib.Seq.{getD-drop, drop-cons, drop-drop, take-at, drop-at, take-all, length-take-le}
 use borrow.Rule.Slice.PartMut.{putMid, postOf}
-use borrow.Author.Tests.{le-leb, lt-leb, lt-ltb, le-ltb, leb-true, leb-false, ltb-true, ltb-false}
-use Rattle.stabbing.specs.Tree.{keep, fits, start, latest, walk}
+use borrow.Author.Tests.{lt-ltb, le-ltb, leb-true, ltb-true}
+use Rattle.stabbing.specs.Tree.{keep, fits, start, latest}
 use Rattle.stabbing.specs.Index.{Built, numbers, firsts, lasts}
 use Rattle.stabbing.specs.declared.Listed.{Listed}
 use Rattle.stabbing.specs.Answer.{Gave, refused, give, calendar, calendars, risingFrom, containsAny, daysOf}
-use Rattle.stabbing.proofs.Marks.{by-test, both, keep-hit, keep-miss, keep-skip}
+use Rattle.stabbing.proofs.Marks.{both}
 use Rattle.stabbing.proofs.Walk.{listing}
 use Rattle.stabbing.proofs.Starts.{latest-is}
 use Rattle.stabbing.proofs.Block.{Holds, built-holds}
 use Rattle.stabbing.proofs.Days.{from, keep-from, added, added-room, added-none, added-all, latest-none}
-use Rattle.stabbing_query.specs.Code.{Now, walkOf, numbered, InRows, Skips, past, dayFrom, daysFrom, AddAsks, GatherAsks, Added}
+use Rattle.stabbing_query.specs.Code.{Now, walkOf, numbered, Skips, past, dayFrom, daysFrom, AddAsks, GatherAsks, Added}
 use Rattle.stabbing_query.proofs.Keeping.{now-place}
 use Rattle.stabbing_query.proofs.Filling.{drop-map}
 use Rattle.stabbing_query.proofs.Skipping.{past-le, rest-from, keep-within}

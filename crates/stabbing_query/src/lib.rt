@@ -1,7 +1,7 @@
 // The four questions over the published index: day, span, cover, days. Each walks the sibling tree by the stored links, from
 // its start, and lists numbers in a list of its own; they go to the caller's list once their count is known.
 ghost use mathlib.Core.Path.{_≡_};
-ghost use Prim.Native.Nat.{suc, _+_, _*_, _≤_, _<_, _-_};
+ghost use Prim.Native.Nat.{_+_, _≤_, _<_, _-_};
 ghost use mathlib.Core.List.{_++_};
 ghost use lib.ListN.{length, getD, take, drop};
 ghost use Rattle.stabbing.specs.Tree.{one, some};

@@ -9,7 +9,7 @@ use lib.Seq.{length-take-le, getD-take}
 use Rattle.refusal.specs.Table.{accepted, unknownNumber, noHistory}
 use Rattle.spell.specs.declared.Spell.{Spell}
 use Rattle.spell.specs.Order.{ordered}
-use Rattle.spell.specs.Listing.{stands, distinct, Each, Sound, Good}
+use Rattle.spell.specs.Listing.{distinct, Each, Sound, Good}
 use Rattle.model.specs.Edits.{insert, remove, replace, enterRefusal, amendRefusal, strikeRefusal, takeBackRefusal}
 use Rattle.standing.specs.declared.Undo.{Undo}
 use Rattle.standing.specs.declared.Standing.{Standing}

@@ -1,11 +1,10 @@
 -- The standing list of a register text. Assumes nothing.
-use Prim.Native.Nat.{ℕ, _+_, _-_, _≤_}
-use mathlib.Core.Path.{_≡_, refl, sym, ap, _∙_}
-use mathlib.Core.List.{List, [], _∷_, _++_}
+use Prim.Native.Nat.{ℕ, _+_, _-_}
+use mathlib.Core.Path.{_≡_, refl}
+use mathlib.Core.List.{List, _++_}
 use native.Mathlib.Omega.{arith}
 use lib.ListN.{length, take, length-append, length-replicate, replicate}
 use lib.Seq.{take-at}
-use Rattle.spell.specs.declared.Spell.{Spell}
 use Rattle.spell.specs.Listing.{Good}
 use Rattle.register.specs.declared.Reading.{Reading}
 use Rattle.register.specs.Text.{Register, accepted, refused, readText}
@@ -13,9 +12,8 @@ use Rattle.register.specs.Answers.{blank, readingOf}
 use Rattle.register.proofs.Texts.{written-read}
 use Rattle.model.specs.Model.{begun}
 use Rattle.standing.specs.declared.Undo.{Undo}
-use Rattle.standing.specs.declared.Standing.{Standing}
 use Rattle.standing.specs.declared.Loaded.{Loaded}
-use Rattle.standing.specs.Standing.{Wf, listOf, pasts, pastOf, Loads}
+use Rattle.standing.specs.Standing.{pastOf, Loads}
 use Rattle.standing.proofs.Calls.{begun-wf, good-none}
 
 -- what is made of a reading

@@ -1,6 +1,6 @@
 -- The past as the journal gives it, and an edit that is pushed on it. Assumes nothing.
 use mathlib.Core.Path.{_≡_, refl, sym, ap, _∙_}
-use mathlib.Core.Bool.{Bool, true, false, cond}
+use mathlib.Core.Bool.{false}
 use mathlib.Core.List.{List, [], _∷_, _++_, reverse, reverse-cons, reverse-append}
 use Prim.Native.Nat.{ℕ, zero, suc, _+_, _-_, _≤_, _<_}
 use native.Mathlib.Numerals.{add-one}
@@ -15,7 +15,6 @@ use Rattle.spell.specs.Listing.{Good}
 use Rattle.model.specs.Edits.{remember}
 use Rattle.standing.specs.declared.Undo.{Undo}
 use Rattle.standing.specs.declared.Standing.{Standing}
-use Rattle.standing.specs.declared.Edited.{Edited}
 use Rattle.standing.specs.Standing.{listOf, entries, undo, pastOf, pasts, Goods, Wf, Edits}
 use Rattle.standing.specs.Search.{Relisted, Pushed}
 use Rattle.standing.proofs.Lists.{closed, closed-length, close-take}

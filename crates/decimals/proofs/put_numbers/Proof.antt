@@ -1,12 +1,11 @@
 -- `decimals::put_numbers` meets its contract. The loop's invariant: the decimals from i on stand in front of the text that
 -- follows. The measure is i. Assumes nothing.
 use borrow.Author.Needs.{needs}
-use mathlib.Core.Path.{_≡_, sym}
-use Prim.Native.Nat.{ℕ, _+_, _-_, _*_, _≤_}
+use mathlib.Core.Path.{_≡_}
+use Prim.Native.Nat.{_-_, _*_, _≤_}
 use native.Mathlib.Omega.{arith}
-use lib.ListN.{length, getD}
-use Rattle.fields.specs.Fields.{numberText, numbersText}
-use Rattle.fields.specs.Answers.{Puts}
+use lib.ListN.{length}
+use Rattle.fields.specs.Fields.{numbersText}
 use Rattle.fields.proofs.Puts.{puts-before, puts-past}
 use Rattle.decimals.proofs.Rows.{Rest, rest-none, rest-one, rest-all}
 use Rattle.decimals.proofs.put_numbers.Statement.{statement}

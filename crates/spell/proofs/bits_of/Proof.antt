@@ -1,7 +1,6 @@
 -- `spell::bits_of` meets its contract. Assumes nothing.
-use mathlib.Core.Path.{_≡_, refl, sym, ap, _∙_}
 use borrow.Author.Needs.{needs}
-use lib.Ieee.{binary32, nan, toBits}
+use lib.Ieee.{toBits}
 use lib.Ieee.Compare.{differs-from-itself}
 use Rattle.spell.proofs.Floats.{no-nan}
 use Rattle.spell.proofs.bits_of.Statement.{statement}

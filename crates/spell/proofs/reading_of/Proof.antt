@@ -1,9 +1,7 @@
 use borrow.Author.Needs.{needs}
 use borrow.Author.Tests.{lt-ltb, le-ltb}
-use mathlib.Core.Path.{_≡_, refl, sym, ap, _∙_}
-use mathlib.Core.Bool.{Bool, true, false}
-use lib.Dec.{T}
-use lib.Ieee.{Float, nan, inf, fin, binary32, div, isNan, ofBits, nanBits}
+use mathlib.Core.Path.{_≡_, refl, sym, _∙_}
+use lib.Ieee.{nan, binary32, div, ofBits}
 use lib.Ieee.Bits.{nanBits-is, nanBits-above}
 use Rattle.spell.proofs.Equal.{is-nan}
 use Rattle.spell.proofs.reading_of.Statement.{statement}

@@ -1,9 +1,9 @@
 use borrow.Author.Needs.{needs}
 use borrow.Author.Tests.{eq-eqb, ne-eqb, lt-ltb, le-ltb, not-true, not-false}
 use mathlib.Core.Path.{_≡_, _∙_, sym}
-use mathlib.Core.Bool.{Bool, true, false}
-use lib.Dec.{eqb, ltb}
-use Rattle.spell.specs.Entry.{dayOk, urgencyOk}
+use mathlib.Core.Bool.{true, false}
+use lib.Dec.{eqb}
+use Rattle.spell.specs.Entry.{dayOk}
 use Rattle.spell.proofs.refusal_of.Statement.{statement}
 use Rattle.spell.proofs.refusal_of.Tie as tie
 

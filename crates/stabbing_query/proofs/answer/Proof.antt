@@ -3,10 +3,6 @@ use Rattle.stabbing_query.proofs.Answering as Steps
 use borrow.Author.Needs.{needs}
 use Rattle.stabbing_query.proofs.answer.Statement.{statement}
 use Rattle.stabbing_query.proofs.answer.Tie as tie
-use Rattle.stabbing_query.proofs.answer.Reads as reads
-use Rattle.stabbing_query.proofs.answer.Lts as lts
-use Rattle.stabbing_query.proofs.copy.Reads as copy-reads
-use Rattle.stabbing_query.proofs.walk.Reads as walk-reads
 
 walk-requires : tie.Need-walk-requires
 walk-requires c κs = search needs

@@ -1,19 +1,11 @@
 -- `stabbing_query::cover` meets its contract. Assumes nothing.
-use Prim.Native.Nat.{ℕ, suc, _+_, _-_, _≤_, _<_}
+use Prim.Native.Nat.{suc, _-_, _<_}
 use native.Mathlib.Omega.{arith}
 use mathlib.Core.Path.{_≡_, refl}
-use lib.ListN.{getD}
-use borrow.Author.Tests.{le-leb, lt-leb}
-use Rattle.stabbing.specs.Index.{numbers, firsts, lasts}
 use Rattle.stabbing_query.proofs.Answering as Steps
 use borrow.Author.Needs.{needs}
 use Rattle.stabbing_query.proofs.cover.Statement.{statement}
 use Rattle.stabbing_query.proofs.cover.Tie as tie
-use Rattle.stabbing_query.proofs.cover.Reads as reads
-use Rattle.stabbing_query.proofs.cover.Lts as lts
-use Rattle.stabbing_query.proofs.answer.Reads as answer-reads
-use Rattle.stabbing_query.proofs.refuse.Reads as refuse-reads
-use Rattle.stabbing_query.proofs.wide.Reads as wide-reads
 
 wide-requires : tie.Need-wide-requires
 wide-requires c κs = search needs

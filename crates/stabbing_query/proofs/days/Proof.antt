@@ -1,6 +1,5 @@
 -- `stabbing_query::days` meets its contract. Assumes nothing.
-use native.Mathlib.Omega.{arith}
-use mathlib.Core.Path.{_≡_, refl, sym, _∙_}
+use mathlib.Core.Path.{sym, _∙_}
 use borrow.Author.Needs.{needs}
 use borrow.Author.Tests.{not-true, not-false}
 use Rattle.stabbing.specs.Index.{numbers, firsts, lasts}
@@ -8,13 +7,6 @@ use Rattle.stabbing_query.proofs.Answering as Answers
 use Rattle.stabbing_query.proofs.Several as Steps
 use Rattle.stabbing_query.proofs.days.Statement.{statement}
 use Rattle.stabbing_query.proofs.days.Tie as tie
-use Rattle.stabbing_query.proofs.days.Reads as reads
-use Rattle.stabbing_query.proofs.days.Lts as lts
-use Rattle.stabbing_query.proofs.gather.Reads as gather-reads
-use Rattle.stabbing_query.proofs.in_order.Reads as in-order-reads
-use Rattle.stabbing_query.proofs.on_calendar.Reads as on-calendar-reads
-use Rattle.stabbing_query.proofs.refuse.Reads as refuse-reads
-use Rattle.stabbing_query.proofs.copy.Reads as copy-reads
 
 on-calendar-requires : tie.Need-on-calendar-requires
 on-calendar-requires c κs = search needs

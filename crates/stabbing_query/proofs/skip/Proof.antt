@@ -1,5 +1,5 @@
 -- `stabbing_query::skip` meets its contract: each need is a step of `proofs/Skipping.antt`. Assumes nothing.
-use Prim.Native.Nat.{_+_, _≤_, _-_}
+use Prim.Native.Nat.{_≤_, _-_}
 use native.Mathlib.Omega.{arith}
 use borrow.Author.Needs.{needs}
 use Rattle.stabbing_query.proofs.Skipping as Steps

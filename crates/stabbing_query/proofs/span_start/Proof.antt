@@ -1,17 +1,10 @@
 -- `stabbing_query::span_start` meets its contract. Assumes nothing.
-use Prim.Native.Nat.{ℕ, suc, _+_, _-_, _≤_, _<_}
+use Prim.Native.Nat.{_-_}
 use native.Mathlib.Omega.{arith}
-use mathlib.Core.Path.{_≡_}
-use lib.ListN.{getD}
-use borrow.Author.Tests.{le-leb, lt-leb}
-use Rattle.stabbing.specs.Index.{numbers, firsts, lasts}
 use Rattle.stabbing_query.proofs.Answering as Steps
 use borrow.Author.Needs.{needs}
 use Rattle.stabbing_query.proofs.span_start.Statement.{statement}
 use Rattle.stabbing_query.proofs.span_start.Tie as tie
-use Rattle.stabbing_query.proofs.span_start.Reads as reads
-use Rattle.stabbing_query.proofs.span_start.Lts as lts
-use Rattle.stabbing_query.proofs.wide.Reads as wide-reads
 
 wide-requires : tie.Need-wide-requires
 wide-requires c κs = search needs

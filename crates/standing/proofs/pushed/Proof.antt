@@ -1,10 +1,9 @@
 use borrow.Author.Needs.{needs}
-use mathlib.Core.Path.{_≡_, refl, ap, subst}
-use Prim.Native.Nat.{ℕ, _+_, _-_, _≤_}
+use mathlib.Core.Path.{_≡_, refl}
+use Prim.Native.Nat.{_-_, _≤_}
 use native.Mathlib.Omega.{arith}
 use lib.ListN.{length}
 use Rattle.standing.proofs.Lists.{unmapped, closed, close-none, close-step}
-use Rattle.standing.proofs.Search.{blank}
 use Rattle.standing.proofs.Past.{blankEntry, push-room, push-full}
 use Rattle.standing.proofs.pushed.Statement.{statement}
 use Rattle.standing.proofs.pushed.Tie as tie

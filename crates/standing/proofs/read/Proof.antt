@@ -1,9 +1,7 @@
 -- `standing::read` meets its contract. Assumes nothing.
-use mathlib.Core.Path.{_≡_, refl, sym, ap, subst}
+use mathlib.Core.Path.{refl}
 use borrow.Author.Needs.{needs}
-use Rattle.register.specs.declared.Reading.{Reading}
-use Rattle.standing.specs.Standing.{Loads}
-use Rattle.standing.proofs.Loading.{loadedOf, loads}
+use Rattle.standing.proofs.Loading.{loads}
 use Rattle.standing.proofs.read.Statement.{statement}
 use Rattle.standing.proofs.read.Tie as tie
 

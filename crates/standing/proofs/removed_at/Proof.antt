@@ -1,11 +1,9 @@
 use borrow.Author.Needs.{needs}
 use mathlib.Core.Path.{_≡_, refl, _∙_, ap}
-use mathlib.Core.List.{List}
-use Prim.Native.Nat.{suc, _+_, _-_, _≤_, _<_}
+use Prim.Native.Nat.{suc, _-_, _≤_, _<_}
 use native.Mathlib.Omega.{arith}
 use lib.ListN.{length, take, drop, length-append, length-drop}
 use lib.Seq.{length-take-le}
-use Rattle.spell.specs.declared.Spell.{Spell}
 use Rattle.standing.specs.Standing.{listOf}
 use Rattle.standing.proofs.Lists.{unmapped, closed, close-none, close-step, close-take}
 use Rattle.standing.proofs.Search.{blank}
