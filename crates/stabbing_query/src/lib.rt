@@ -223,11 +223,12 @@ fn span_start(index: &[u16; INDEX], a: u16, b: u16) -> usize
     ensures { λ r. ⌜ r ≡ startOf (now (index .entry)) b a ⌝ }
 {
     let m = wide(index[wide(b) + BEGUN]);
+    let start = wide(index[wide(a) + START]);
     if m == 0 {
-        return wide(index[wide(a) + START]);
+        return start;
     }
     if index[m - 1 + FIRST] < a {
-        return wide(index[wide(a) + START]);
+        return start;
     }
     m
 }

@@ -40,55 +40,40 @@ returns : tie.Need-returns
 returns c =
     let s = c .before .before .before .before .before .before .before in
     let g = s .args in
-    Steps.span-none (g .index .now) (g .a) (g .b) (s .pre) _ _ (c .before .before .before .before .before .before .wide .ensures .0) (c .before .before .before .before .wide2 .ensures .0) _ _ (c .before .before .wide3 .ensures .0) (c .wide4 .ensures .0) (c .before .before .before .if1 .taken)
+    Steps.span-none (g .index .now) (g .a) (g .b) (s .pre) _ _ (c .before .before .before .before .before .before .wide .ensures .0) (c .before .before .before .before .wide2 .ensures .0) _ _ (c .before .before .before .wide3 .ensures .0) (c .before .wide4 .ensures .0) (c .if1 .taken)
 
 sub-if2 : tie.Need-sub-if2
 sub-if2 c = search needs
 
 add-if2 : tie.Need-add-if2
 add-if2 c =
-    let s = c .before .before .before .before in
+    let s = c .before .before .before .before .before .before .before in
     let g = s .args in
-    record { fits = omega (arith, Steps.m-small (g .index .now) (g .a) (g .b) (s .pre) _ _ (c .before .before .before .wide .ensures .0) (c .before .wide2 .ensures .0)) }
+    record { fits = omega (arith, Steps.m-small (g .index .now) (g .a) (g .b) (s .pre) _ _ (c .before .before .before .before .before .before .wide .ensures .0) (c .before .before .before .before .wide2 .ensures .0)) }
 
 mul-if2 : tie.Need-mul-if2
 mul-if2 c =
-    let s = c .before .before .before .before in
+    let s = c .before .before .before .before .before .before .before in
     let g = s .args in
-    record { fits = omega (arith, Steps.m-small (g .index .now) (g .a) (g .b) (s .pre) _ _ (c .before .before .before .wide .ensures .0) (c .before .wide2 .ensures .0)) }
+    record { fits = omega (arith, Steps.m-small (g .index .now) (g .a) (g .b) (s .pre) _ _ (c .before .before .before .before .before .before .wide .ensures .0) (c .before .before .before .before .wide2 .ensures .0)) }
 
 element-copy-out-if2 : tie.Need-element-copy-out-if2
 element-copy-out-if2 c =
-    let s = c .before .before .before .before in
+    let s = c .before .before .before .before .before .before .before in
     let g = s .args in
-    omega (arith, Steps.m-small (g .index .now) (g .a) (g .b) (s .pre) _ _ (c .before .before .before .wide .ensures .0) (c .before .wide2 .ensures .0), c .if1 .left)
-
-wide-requires-5 : tie.Need-wide-requires-5
-wide-requires-5 c κs = search needs
-
-add-wide-3 : tie.Need-add-wide-3
-add-wide-3 c = search needs
-
-mul-wide-3 : tie.Need-mul-wide-3
-mul-wide-3 c = search needs
-
-element-copy-out-wide-3 : tie.Need-element-copy-out-wide-3
-element-copy-out-wide-3 c = search needs
-
-wide-requires-6 : tie.Need-wide-requires-6
-wide-requires-6 c κs = search needs
+    omega (arith, Steps.m-small (g .index .now) (g .a) (g .b) (s .pre) _ _ (c .before .before .before .before .before .before .wide .ensures .0) (c .before .before .before .before .wide2 .ensures .0), c .if1 .left)
 
 returns-2 : tie.Need-returns-2
 returns-2 c =
     let s = c .before .before .before .before .before .before .before .before .before in
     let g = s .args in
-    Steps.span-before (g .index .now) (g .a) (g .b) (s .pre) _ _ (c .before .before .before .before .before .before .before .before .wide .ensures .0) (c .before .before .before .before .before .before .wide2 .ensures .0) _ _ (c .before .before .wide5 .ensures .0) (c .wide6 .ensures .0) (c .before .before .before .before .before .before .wide2 .result - 1) (omega (arith, c .before .before .before .before .before .if1 .left)) (c .before .before .before .if2 .taken)
+    Steps.span-before (g .index .now) (g .a) (g .b) (s .pre) _ _ (c .before .before .before .before .before .before .before .before .wide .ensures .0) (c .before .before .before .before .before .before .wide2 .ensures .0) _ _ (c .before .before .before .before .before .wide3 .ensures .0) (c .before .before .before .wide4 .ensures .0) (c .before .before .before .before .before .before .wide2 .result - 1) (omega (arith, c .before .before .if1 .left)) (c .if2 .taken)
 
 returns-3 : tie.Need-returns-3
 returns-3 c =
-    let s = c .before .before .before .before .before .before in
+    let s = c .before .before .before .before .before .before .before .before .before in
     let g = s .args in
-    Steps.span-within (g .index .now) (g .a) (g .b) (s .pre) _ _ (c .before .before .before .before .before .wide .ensures .0) (c .before .before .before .wide2 .ensures .0) (c .before .before .before .wide2 .result - 1) (omega (arith, c .before .before .if1 .left)) (c .if2 .left)
+    Steps.span-within (g .index .now) (g .a) (g .b) (s .pre) _ _ (c .before .before .before .before .before .before .before .before .wide .ensures .0) (c .before .before .before .before .before .before .wide2 .ensures .0) (c .before .before .before .before .before .before .wide2 .result - 1) (omega (arith, c .before .before .if1 .left)) (c .if2 .left)
 
 pub span-start-spec : {M : Type 1} → statement M
 span-start-spec =
@@ -109,10 +94,5 @@ span-start-spec =
     add-if2
     mul-if2
     element-copy-out-if2
-    wide-requires-5
-    add-wide-3
-    mul-wide-3
-    element-copy-out-wide-3
-    wide-requires-6
     returns-2
     returns-3)
