@@ -1,6 +1,6 @@
-// The packaged implicit interval trees behind C functions.
+// The packaged implicit interval trees, and a scan of pairs, behind C functions.
 //
-// The library lists what overlaps [begin, end) by rising begin and leaves equal begins in any order. Positions are
+// The trees' library lists what overlaps [begin, end) by rising begin and leaves equal begins in any order. Positions are
 // therefore scaled: a row of rank r that stands from day f to day l is [f * SCALE + r, (l + 1) * SCALE), and a question
 // for days a to b is [a * SCALE, (b + 1) * SCALE). Begins are then distinct and rise with the rank, so that the
 // library's own order is the answer's order and nothing is sorted afterwards.
@@ -9,6 +9,7 @@
 #include <cstddef>
 #include <filesystem>
 #include <string>
+#include <utility>
 #include <vector>
 #include <unistd.h>
 #include <omp.h>
@@ -63,6 +64,12 @@ size_t list(Asked<Tree>& asked, uint16_t a, uint16_t b, uint16_t* out) {
     return count;
 }
 
+// Pairs of first and last day with their numbers, as the scan of pairs in Rust has them.
+struct Pairs {
+    std::vector<std::pair<uint16_t, uint16_t>> days;
+    std::vector<uint16_t> numbers;
+};
+
 }  // namespace
 
 extern "C" {
@@ -90,5 +97,26 @@ size_t iitii_list(void* tree, uint16_t a, uint16_t b, uint16_t* out) {
 }
 
 void iitii_free(void* tree) { delete static_cast<Asked<Interpolated>*>(tree); }
+
+void* pairs_new(const uint16_t* first, const uint16_t* last, const uint16_t* number, size_t count) {
+    Pairs* pairs = new Pairs{{}, std::vector<uint16_t>(number, number + count)};
+    for (size_t rank = 0; rank < count; ++rank) {
+        pairs->days.emplace_back(first[rank], last[rank]);
+    }
+    return pairs;
+}
+
+size_t pairs_list(void* list, uint16_t a, uint16_t b, uint16_t* out) {
+    const Pairs& pairs = *static_cast<Pairs*>(list);
+    size_t count = 0;
+    for (size_t rank = 0; rank < pairs.days.size(); ++rank) {
+        if (pairs.days[rank].first <= b && pairs.days[rank].second >= a) {
+            out[count++] = pairs.numbers[rank];
+        }
+    }
+    return count;
+}
+
+void pairs_free(void* list) { delete static_cast<Pairs*>(list); }
 
 }

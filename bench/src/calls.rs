@@ -68,8 +68,8 @@ fn builds(rows: &[Row], rounds: usize) -> Vec<(String, Vec<String>)> {
     let row = |name: &str, taken| (format!("build, {name}"), microseconds(taken));
     vec![
         row("intervaltree (crate)", median_of(rounds, || drop(black_box(PackagedCrate::new(black_box(rows)))))),
-        row("libiitii: iit", median_of(rounds, || drop(black_box(PackagedHeader::plain(black_box(rows)))))),
-        row("libiitii: iitii", median_of(rounds, || drop(black_box(PackagedHeader::interpolated(black_box(rows)))))),
+        row("libiitii: iit", median_of(rounds, || drop(black_box(Linked::plain(black_box(rows)))))),
+        row("libiitii: iitii", median_of(rounds, || drop(black_box(Linked::interpolated(black_box(rows)))))),
     ]
 }
 

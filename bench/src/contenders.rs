@@ -171,22 +171,29 @@ extern "C" {
     fn iitii_new(first: *const u16, last: *const u16, number: *const u16, count: usize) -> *mut c_void;
     fn iitii_list(tree: *mut c_void, a: u16, b: u16, out: *mut u16) -> usize;
     fn iitii_free(tree: *mut c_void);
+    fn pairs_new(first: *const u16, last: *const u16, number: *const u16, count: usize) -> *mut c_void;
+    fn pairs_list(pairs: *mut c_void, a: u16, b: u16, out: *mut u16) -> usize;
+    fn pairs_free(pairs: *mut c_void);
 }
 
-/// One of the packaged C++ trees, behind the adapter that keeps its answers in the order.
-pub struct PackagedHeader {
+/// One of the packaged C++ trees, behind the adapter that keeps its answers in the order, or the scan of pairs in C++.
+pub struct Linked {
     tree: *mut c_void,
     list: List,
     free: Free,
 }
 
-impl PackagedHeader {
-    pub fn plain(rows: &[Row]) -> PackagedHeader {
-        PackagedHeader { tree: build(iit_new, rows), list: iit_list, free: iit_free }
+impl Linked {
+    pub fn plain(rows: &[Row]) -> Linked {
+        Linked { tree: build(iit_new, rows), list: iit_list, free: iit_free }
     }
 
-    pub fn interpolated(rows: &[Row]) -> PackagedHeader {
-        PackagedHeader { tree: build(iitii_new, rows), list: iitii_list, free: iitii_free }
+    pub fn interpolated(rows: &[Row]) -> Linked {
+        Linked { tree: build(iitii_new, rows), list: iitii_list, free: iitii_free }
+    }
+
+    pub fn pairs(rows: &[Row]) -> Linked {
+        Linked { tree: build(pairs_new, rows), list: pairs_list, free: pairs_free }
     }
 }
 
@@ -196,7 +203,7 @@ fn build(new: New, rows: &[Row]) -> *mut c_void {
     unsafe { new(first.as_ptr(), last.as_ptr(), number.as_ptr(), rows.len()) }
 }
 
-impl Lists for PackagedHeader {
+impl Lists for Linked {
     fn day(&mut self, d: u16, out: &mut [u16]) -> usize {
         self.span(d, d, out)
     }
@@ -208,7 +215,7 @@ impl Lists for PackagedHeader {
     }
 }
 
-impl Drop for PackagedHeader {
+impl Drop for Linked {
     fn drop(&mut self) {
         unsafe { (self.free)(self.tree) }
     }

@@ -23,7 +23,7 @@ mod timing;
 use proved::Proved;
 use rng::Rng;
 use rows::{rows_listing, workloads, Workload, LAST_DAY, ROWS};
-use timing::{measure, Case, Question, Taken, CRATE, IIT, IITII, PAIRS, PROVED};
+use timing::{measure, Case, Question, Taken, CRATE, IIT, IITII, PAIRS, PAIRS_CPP, PROVED};
 
 /// The length of the spans asked about.
 const SPAN: u16 = 2;
@@ -89,13 +89,16 @@ fn mark(reached: bool) -> &'static str {
 fn ratios(workloads: &[Workload], taken: &[Taken]) -> Vec<(String, Vec<String>)> {
     let pairs_target = |name: &str| if name == "about 1" { 15.0 } else { 2.0 };
     let against = |name, target| taken.iter().map(|taken| ratio(taken, name, target)).collect();
-    let both = workloads.iter().zip(taken);
-    let against_pairs = both.map(|(workload, taken)| ratio(taken, PAIRS, pairs_target(workload.name))).collect();
+    let against_pairs = |name| {
+        let both = workloads.iter().zip(taken);
+        both.map(|(workload, taken)| ratio(taken, name, pairs_target(workload.name))).collect()
+    };
     vec![
         (format!("{IIT}, at least 1.5"), against(IIT, 1.5)),
         (format!("{IITII}, at least 1.5"), against(IITII, 1.5)),
         (format!("{CRATE}, at least 4"), against(CRATE, 4.0)),
-        (format!("{PAIRS}, at least 2 (15 at about 1)"), against_pairs),
+        (format!("{PAIRS}, at least 2 (15 at about 1)"), against_pairs(PAIRS)),
+        (format!("{PAIRS_CPP}, at least 2 (15 at about 1)"), against_pairs(PAIRS_CPP)),
         ("sorted scan, early stop".to_string(), against("sorted scan, early stop", 0.0)),
         ("sorted scan, branch-free".to_string(), against("sorted scan, branch-free", 0.0)),
     ]

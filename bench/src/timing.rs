@@ -74,6 +74,7 @@ impl<L: Lists> Contender for Named<L> {
 
 pub const PROVED: &str = "proved library";
 pub const PAIRS: &str = "scan of pairs";
+pub const PAIRS_CPP: &str = "scan of pairs, C++";
 pub const CRATE: &str = "intervaltree (crate)";
 pub const IIT: &str = "libiitii: iit";
 pub const IITII: &str = "libiitii: iitii";
@@ -82,11 +83,12 @@ fn contenders(rows: &[Row]) -> Vec<Box<dyn Contender>> {
     vec![
         Box::new(Named(PROVED, Proved::new(rows))),
         Box::new(Named(PAIRS, Scan::new(rows))),
+        Box::new(Named(PAIRS_CPP, Linked::pairs(rows))),
         Box::new(Named("sorted scan, early stop", SortedScan(Scan::new(rows)))),
         Box::new(Named("sorted scan, branch-free", BranchFreeScan::new(rows))),
         Box::new(Named(CRATE, PackagedCrate::new(rows))),
-        Box::new(Named(IIT, PackagedHeader::plain(rows))),
-        Box::new(Named(IITII, PackagedHeader::interpolated(rows))),
+        Box::new(Named(IIT, Linked::plain(rows))),
+        Box::new(Named(IITII, Linked::interpolated(rows))),
         Box::new(Named("plain walk over links", PlainWalk::new(rows))),
     ]
 }
