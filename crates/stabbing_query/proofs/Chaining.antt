@@ -1,5 +1,6 @@
 -- The steps of `chain` over what it asks and gives, apart from the code. Assumes nothing.
-use Prim.Native.Nat.{ℕ, zero, suc, _+_, _-_, _/_, _≤_, _<_}
+use Prim.Native.Nat.{ℕ, zero, suc, _+_, _-_, _/_, _%_, _≤_, _<_}
+use native.Mathlib.Nat.{mod-eq-of-lt}
 use native.Mathlib.Omega.{arith}
 use mathlib.Core.List.{List}
 use mathlib.Core.Path.{_≡_, refl, sym, ap, _∙_}
@@ -32,8 +33,11 @@ module _ (ix ns fs ls : List ℕ) (l p : ℕ) (xs : List ℕ) (s : ℕ) (q : Cha
   pub positive : 65536 ≤ s
   positive = lit ix xs s (q .at) (q .now) room
 
-  pub inside : (s - 65536) / 65536 < 1024
-  inside = rw (place-less ix xs s (q .at) (q .now) room) (omega arith)
+  placed : (s - 65536) / 65536 % 1024 ≡ (s - 65536) / 65536
+  placed = mod-eq-of-lt (rw (place-less ix xs s (q .at) (q .now) room) (omega arith))
+
+  pub inside : (s - 65536) / 65536 % 1024 < 1024
+  inside = rw (placed, place-less ix xs s (q .at) (q .now) room) (omega arith)
 
   few-at : q .at .comparisons ≤ 8192
   few-at = omega (arith, q .few)
@@ -50,12 +54,12 @@ module _ (ix ns fs ls : List ℕ) (l p : ℕ) (xs : List ℕ) (s : ℕ) (q : Cha
     count = e ∙ ap (λ (x : ℕ). one (some x)) (b .next-lasts p (q .inside)) ∙ compared ix ns fs ls b m (let z = next-le ix ns fs ls b p in omega (arith, q .inside))
 
     abbrev xs₁ : List ℕ
-    xs₁ = set xs ((s - 65536) / 65536) (getD ix p 0)
+    xs₁ = set xs ((s - 65536) / 65536 % 1024) (getD ix p 0)
 
     listed : (f : Found) → Now ix xs s f → Now ix xs₁ (s - 65536 + c) (ticked m (push p f))
     listed f g =
         let r : length (f .list) < 1024 = rw (as-long ix xs s (q .at) (q .now) f g) room in
-        now-tick ix xs₁ (s - 65536) (push p f) (now-push ix xs s f g r p) (as-few ix xs s (q .at) (q .now) 8192 few-at f g) m c count
+        now-tick ix xs₁ (s - 65536) (push p f) (rw placed (now-push ix xs s f g r p)) (as-few ix xs s (q .at) (q .now) 8192 few-at f g) m c count
 
     pub ends : getD ix (p + 9216) 0 < l → Does ix xs s xs₁ (s - 65536 + c) (chain fs ls l p)
     ends h = record { does = λ f g. rw (chain-step ix ns fs ls b l p f ∙ compare-miss ls l (q .dated) fs m (chain fs ls l) (push p f) (rw (b .next-lasts p (q .inside)) at h)) (listed f g) }

@@ -47,13 +47,14 @@ fn comparison(last: u16) -> usize
     if last == 0 { 0 } else { 1 }
 }
 
-// Lists p, and its chain while it lasts to l.
+// Lists p, and its chain while it lasts to l. The place is below 1024, so that the remainder is the place itself: it lets the compiler do
+// with short numbers.
 fn chain(index: &[u16; INDEX], l: u16, p: usize, found: &mut [u16; 1024], s: usize) -> usize
     requires { ⌜ ChainAsks (now index) l p (now found) s ⌝ }
     ensures { λ r. ⌜ Does (now (index .entry)) (now (found .entry)) s (now (found .exit)) r (chainOf (now (index .entry)) l p) ⌝ }
 {
     let t = s - 65536;
-    let at = t / 65536;
+    let at = t / 65536 % 1024;
     found[at] = index[p];
     let last = index[p + NEXT_LAST];
     let a = t + comparison(last);
