@@ -114,7 +114,7 @@ fn put(index: &[u16; INDEX], q: Question, days: &[u16], out: &mut [u16]) -> List
         Question::Day(d) => stabbing_query::day(index, d, out),
         Question::Span(a, b) => stabbing_query::span(index, a, b, out),
         Question::Cover(n) => stabbing_query::cover(index, n, out),
-        Question::Days => stabbing_query::days(index, days, out),
+        Question::Days => stabbing_days::days(index, days, out),
     }
 }
 

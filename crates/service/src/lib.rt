@@ -200,7 +200,7 @@ pub fn days(index: &[u16; INDEX], days: &[u16], numbers: &mut [u16]) -> Outcome
     requires { ⌜ Published (now index) ⌝ }
     ensures { λ r. ⌜ Asked (now (index .entry)) Call.Days (now (days .entry)) (now (numbers .entry)) r (now (numbers .exit)) ⌝ }
 {
-    listed(stabbing_query::days(index, days, numbers))
+    listed(stabbing_days::days(index, days, numbers))
 }
 
 // ---- Any call

@@ -1,9 +1,9 @@
--- Lists copied place by place into the first places of another, and dropped from. Assumes nothing.
-use Prim.Native.Nat.{ℕ, zero, suc, _+_, _<_}
+-- A list copied place by place into the first places of another. Assumes nothing.
+use Prim.Native.Nat.{ℕ, suc, _+_, _<_}
 use native.Mathlib.Omega.{arith}
 use native.Mathlib.Numerals.{add-one}
-use mathlib.Core.List.{List, [], _∷_, _++_, map}
-use mathlib.Core.Path.{_≡_, refl, sym, ap, _∙_}
+use mathlib.Core.List.{List, _++_}
+use mathlib.Core.Path.{_≡_, sym, ap, _∙_}
 use lib.ListN.{length, getD, take, drop, set}
 use lib.Seq.{drop-cons, set-at, length-take-le, append-snoc, take-suc}
 
@@ -14,8 +14,3 @@ filled d s j x v e hd hs =
     ∙ set-at (take j s) (getD d j 0) (drop (suc j) d) (getD s j x) j (length-take-le j s (omega arith))
     ∙ sym (append-snoc (take j s) (getD s j x) (drop (suc j) d))
     ∙ ap (λ (r : List ℕ). r ++ drop (suc j) d) (sym (take-suc s j x hs)))
-
-pub drop-map : (f : ℕ → ℕ) (n : ℕ) (xs : List ℕ) → drop n (map f xs) ≡ map f (drop n xs)
-drop-map f zero xs = refl
-drop-map f (suc n) [] = refl
-drop-map f (suc n) (x ∷ xs) = drop-map f n xs

@@ -5,5 +5,3 @@ pub mod Rising
 pub mod Chaining
 pub mod Climbing
 pub mod Answering
-pub mod Skipping
-pub mod Several

@@ -1,18 +1,17 @@
-// The four questions over the published index: day, span, cover, days. Each walks the sibling tree by the stored links, from
+// Three of the four questions over the published index: day, span, cover. Each walks the sibling tree by the stored links, from
 // its start, and lists numbers in a list of its own; they go to the caller's list once their count is known.
 ghost use mathlib.Core.Path.{_≡_};
 ghost use Prim.Native.Nat.{_+_, _≤_, _<_, _-_};
 ghost use mathlib.Core.List.{_++_};
-ghost use lib.ListN.{length, getD, take, drop};
+ghost use lib.ListN.{length, take, drop};
 ghost use Rattle.stabbing.specs.Tree.{one, some};
 ghost use Rattle.stabbing.specs.Index.{Built};
-ghost use Rattle.stabbing.specs.Answer.{Gave, dayIn, spanIn, coverIn, daysIn, calendar, calendars, risingFrom};
-ghost use Rattle.stabbing_query.specs.Code.{Does, ChainAsks, RiseAsks, ClimbAsks, Now, chainOf, riseOf, lowerOf, climbOf, WalkAsks, SpanAsks, walkOf, startOf, toldOf, listedOf, Skips, dayFrom, daysFrom, AddAsks, GatherAsks, Added};
+ghost use Rattle.stabbing.specs.Answer.{Gave, dayIn, spanIn, coverIn, calendar};
+ghost use Rattle.stabbing_query.specs.Code.{Does, ChainAsks, RiseAsks, ClimbAsks, Now, chainOf, riseOf, lowerOf, climbOf, WalkAsks, SpanAsks, walkOf, startOf, toldOf, listedOf};
 use refusal::OFF_CALENDAR;
 use refusal::REVERSED;
 use refusal::SHORT_BUFFER;
 use refusal::UNKNOWN_NUMBER;
-use refusal::UNSORTED_DAYS;
 use stabbing::BEGUN;
 use stabbing::BY_NUMBER;
 use stabbing::CHILD;
@@ -32,7 +31,7 @@ use stabbing::START;
 // Its state is one number: the place reached in `found`, which is written from its end downward, 65536 each, and the comparisons
 // made.
 
-fn wide(x: u16) -> usize
+pub fn wide(x: u16) -> usize
     ensures { λ r. ⌜ r ≡ x ⌝ }
     ensures { λ r. ⌜ r < 65536 ⌝ }
 {
@@ -149,7 +148,7 @@ fn copy(found: &[u16; 1024], at: usize, k: usize, to: &mut [u16])
     }
 }
 
-fn refuse(number: u16) -> Listed
+pub fn refuse(number: u16) -> Listed
     ensures { λ r. ⌜ r ≡ record { refusal = number; count = 0; comparisons = 0 } ⌝ }
 {
     Listed {
@@ -197,7 +196,7 @@ fn answer(index: &[u16; INDEX], l: u16, m: usize, out: &mut [u16]) -> usize
 // ---- Day, span, cover
 
 // Whether d is on the calendar.
-fn is_day(d: u16) -> bool
+pub fn is_day(d: u16) -> bool
     ensures { λ r. ⌜ r ≡ calendar d ⌝ }
 {
     if d < 1 {
@@ -264,122 +263,4 @@ pub fn cover(index: &[u16; INDEX], number: u16, out: &mut [u16]) -> Listed
     let first = wide(index[p + FIRST]);
     let last = index[p + LAST];
     told(answer(index, last, wide(index[first + BEGUN]), out))
-}
-
-// ---- Several days
-
-// Whether every day is on the calendar.
-fn on_calendar(days: &[u16]) -> bool
-    ensures { λ r. ⌜ r ≡ calendars (now (days .entry)) ⌝ }
-{
-    let mut i = 0;
-    while i < days.len() {
-        if !is_day(days[i]) {
-            return false;
-        }
-        i += 1;
-    }
-    true
-}
-
-// Whether every day is above the one before, the first above 0.
-fn in_order(days: &[u16]) -> bool
-    ensures { λ r. ⌜ r ≡ risingFrom 0 (now (days .entry)) ⌝ }
-{
-    let mut before = 0;
-    let mut i = 0;
-    while i < days.len() {
-        if days[i] <= before {
-            return false;
-        }
-        before = days[i];
-        i += 1;
-    }
-    true
-}
-
-// The first place from which on all rows lie past the first m, sought from the end back to `at`: so only rows that are new to the
-// answer are passed, and one more.
-fn skip(index: &[u16; INDEX], found: &[u16; 1024], at: usize, m: usize) -> usize
-    requires { ⌜ Built (now index) ⌝ }
-    requires { ⌜ length (now found) ≡ 1024 ⌝ }
-    requires { ⌜ at ≤ 1024 ⌝ }
-    ensures { λ r. ⌜ Skips (now (index .entry)) (now (found .entry)) at m r ⌝ }
-{
-    let mut i = 1024;
-    while at < i {
-        let j = i - 1;
-        if wide(index[wide(found[j]) + BY_NUMBER]) <= m {
-            return i;
-        }
-        i = j;
-    }
-    i
-}
-
-// What the first of the days still to come adds to the days before it, by the last of which m rows begin: of these m, the ones that
-// contain it contain that day too. The walk lists them in the order, so that they come first and are skipped. The table by number tells
-// a row's place in the order, since no two rows have one number.
-fn add(
-    index: &[u16; INDEX],
-    days: &[u16],
-    m: usize,
-    found: &mut [u16; 1024],
-    answer: &mut [u16],
-) -> usize
-    requires { ⌜ 0 < length (now days) ⌝ }
-    requires { ⌜ AddAsks (now index) (getD (now days) 0 0) m (now answer) ⌝ }
-    requires { ⌜ length (now found) ≡ 1024 ⌝ }
-    ensures { λ r. ⌜ Added (dayFrom (now (index .entry)) m (getD (now (days .entry)) 0 0)) (now (answer .entry)) (now (answer .exit)) r ⌝ }
-    ensures { λ _. ⌜ length (now (found .exit)) ≡ 1024 ⌝ }
-{
-    let d = days[0];
-    let s = walk(index, d, wide(index[wide(d) + START]), found);
-    let at = skip(index, found, s / 65536, m);
-    let k = 1024 - at;
-    copy(found, at, k, answer);
-    k
-}
-
-// What the days give, one after the other: each time the days still to come are handed on as the rest of their list, and what the first
-// of them adds goes into the part of the answer not yet written.
-fn gather(index: &[u16; INDEX], days: &[u16], found: &mut [u16; 1024], answer: &mut [u16]) -> usize
-    requires { ⌜ GatherAsks (now index) (now days) 0 (now answer) ⌝ }
-    requires { ⌜ length (now found) ≡ 1024 ⌝ }
-    ensures { λ r. ⌜ Added (daysFrom (now (index .entry)) 0 (now (days .entry))) (now (answer .entry)) (now (answer .exit)) r ⌝ }
-{
-    let mut begun = 0;
-    let mut at = 0;
-    let mut i = 0;
-    while i < days.len() {
-        at += add(index, &days[i..], begun, found, &mut answer[at..]);
-        begun = wide(index[wide(days[i]) + BEGUN]);
-        i += 1;
-    }
-    at
-}
-
-// The days, strictly rising: the spells that contain at least one of them. No comparisons are reported.
-pub fn days(index: &[u16; INDEX], days: &[u16], out: &mut [u16]) -> Listed
-    requires { ⌜ Built (now index) ⌝ }
-    ensures { λ r. ⌜ Gave r (now (out .exit)) (daysIn (now (index .entry)) (now (days .entry)) (now (out .entry))) ⌝ }
-{
-    if !on_calendar(days) {
-        return refuse(OFF_CALENDAR);
-    }
-    if !in_order(days) {
-        return refuse(UNSORTED_DAYS);
-    }
-    let mut found = [0u16; 1024];
-    let mut answer = [0u16; 1024];
-    let n = gather(index, days, &mut found, &mut answer);
-    if out.len() < n {
-        return refuse(SHORT_BUFFER);
-    }
-    copy(&answer, 0, n, out);
-    Listed {
-        refusal: 0,
-        count: n,
-        comparisons: 0,
-    }
 }

@@ -1,12 +1,12 @@
--- `stabbing_query::days` meets its contract. Assumes nothing.
+-- `stabbing_days::days` meets its contract. Assumes nothing.
 use mathlib.Core.Path.{sym, _∙_}
 use borrow.Author.Needs.{needs}
 use borrow.Author.Tests.{not-true, not-false}
 use Rattle.stabbing.specs.Index.{numbers, firsts, lasts}
 use Rattle.stabbing_query.proofs.Answering as Answers
-use Rattle.stabbing_query.proofs.Several as Steps
-use Rattle.stabbing_query.proofs.days.Statement.{statement}
-use Rattle.stabbing_query.proofs.days.Tie as tie
+use Rattle.stabbing_days.proofs.Several as Steps
+use Rattle.stabbing_days.proofs.days.Statement.{statement}
+use Rattle.stabbing_days.proofs.days.Tie as tie
 
 on-calendar-requires : tie.Need-on-calendar-requires
 on-calendar-requires c κs = search needs
@@ -33,6 +33,9 @@ returns-2 c =
 slice-aggregate-gather : tie.Need-slice-aggregate-gather
 slice-aggregate-gather c = search needs
 
+slice-aggregate-gather-2 : tie.Need-slice-aggregate-gather-2
+slice-aggregate-gather-2 c = search needs
+
 gather-requires : tie.Need-gather-requires
 gather-requires c κs =
     let s = c .before .before .before .before .before .before .before .before in
@@ -46,30 +49,47 @@ refuse-requires-3 c κs = search needs
 
 returns-3 : tie.Need-returns-3
 returns-3 c =
-    let s = c .before .before .before .before .before .before .before .before .before .before .before .before in
-    let g = s .args in
-    let d = sym (c .before .before .before .before .before .before .before .before .before .on-calendar .ensures) ∙ not-false _ (c .before .before .before .before .before .before .before .before .if1 .left) in
-    let r = sym (c .before .before .before .before .before .before .before .in-order .ensures) ∙ not-false _ (c .before .before .before .before .before .before .if2 .left) in
-    Steps.too-many (g .index .now) (g .days .now) (s .pre) d r _ _ _ (c .before .before .before .gather .ensures) (g .out .now) (c .before .if3 .taken) _ (c .refuse3 .ensures)
-
-copy-requires : tie.Need-copy-requires
-copy-requires c κs =
     let s = c .before .before .before .before .before .before .before .before .before .before .before .before .before in
     let g = s .args in
     let d = sym (c .before .before .before .before .before .before .before .before .before .before .on-calendar .ensures) ∙ not-false _ (c .before .before .before .before .before .before .before .before .before .if1 .left) in
     let r = sym (c .before .before .before .before .before .before .before .before .in-order .ensures) ∙ not-false _ (c .before .before .before .before .before .before .before .if2 .left) in
-    (search needs, (Steps.few-in (g .index .now) (g .days .now) (s .pre) d r _ _ _ (c .before .before .before .before .gather .ensures), c .before .before .if3 .left))
+    Steps.too-many (g .index .now) (g .days .now) (s .pre) d r _ _ _ (c .before .before .before .before .gather .ensures) (g .out .now) (c .before .if3 .taken) _ (c .refuse3 .ensures)
+
+array-share-prefix-answer : tie.Need-array-share-prefix-answer
+array-share-prefix-answer c =
+    let s = c .before .before .before .before .before .before .before .before .before .before .before .before in
+    let g = s .args in
+    let d = sym (c .before .before .before .before .before .before .before .before .before .on-calendar .ensures) ∙ not-false _ (c .before .before .before .before .before .before .before .before .if1 .left) in
+    let r = sym (c .before .before .before .before .before .before .before .in-order .ensures) ∙ not-false _ (c .before .before .before .before .before .before .if2 .left) in
+    let n = Steps.few-in (g .index .now) (g .days .now) (s .pre) d r _ _ _ (c .before .before .before .gather .ensures) in
+    search needs
+
+slice-aggregate-put : tie.Need-slice-aggregate-put
+slice-aggregate-put c =
+    let s = c .before .before .before .before .before .before .before .before .before .before .before .before .before in
+    let g = s .args in
+    let d = sym (c .before .before .before .before .before .before .before .before .before .before .on-calendar .ensures) ∙ not-false _ (c .before .before .before .before .before .before .before .before .before .if1 .left) in
+    let r = sym (c .before .before .before .before .before .before .before .before .in-order .ensures) ∙ not-false _ (c .before .before .before .before .before .before .before .if2 .left) in
+    Steps.part-count (g .index .now) (g .days .now) (s .pre) d r _ _ _ (c .before .before .before .before .gather .ensures)
+
+put-requires : tie.Need-put-requires
+put-requires c κs =
+    let s = c .before .before .before .before .before .before .before .before .before .before .before .before .before .before in
+    let g = s .args in
+    let d = sym (c .before .before .before .before .before .before .before .before .before .before .before .on-calendar .ensures) ∙ not-false _ (c .before .before .before .before .before .before .before .before .before .before .if1 .left) in
+    let r = sym (c .before .before .before .before .before .before .before .before .before .in-order .ensures) ∙ not-false _ (c .before .before .before .before .before .before .before .before .if2 .left) in
+    Steps.part-in (g .index .now) (g .days .now) (s .pre) d r _ _ _ (c .before .before .before .before .before .gather .ensures) (g .out .now) (c .before .before .if3 .left)
 
 same-length : tie.Need-same-length
 same-length c = search needs
 
 returns-4 : tie.Need-returns-4
 returns-4 c =
-    let s = c .before .before .before .before .before .before .before .before .before .before .before .before .before .before .before .before in
+    let s = c .before .before .before .before .before .before .before .before .before .before .before .before .before .before .before .before .before in
     let g = s .args in
-    let d = sym (c .before .before .before .before .before .before .before .before .before .before .before .before .before .on-calendar .ensures) ∙ not-false _ (c .before .before .before .before .before .before .before .before .before .before .before .before .if1 .left) in
-    let r = sym (c .before .before .before .before .before .before .before .before .before .before .before .in-order .ensures) ∙ not-false _ (c .before .before .before .before .before .before .before .before .before .before .if2 .left) in
-    Steps.all-written (g .index .now) (g .days .now) (s .pre) d r _ _ _ (c .before .before .before .before .before .before .before .gather .ensures) (g .out .now) (c .before .before .before .before .before .if3 .left) _ (c .before .before .copy .ensures)
+    let d = sym (c .before .before .before .before .before .before .before .before .before .before .before .before .before .before .on-calendar .ensures) ∙ not-false _ (c .before .before .before .before .before .before .before .before .before .before .before .before .before .if1 .left) in
+    let r = sym (c .before .before .before .before .before .before .before .before .before .before .before .before .in-order .ensures) ∙ not-false _ (c .before .before .before .before .before .before .before .before .before .before .before .if2 .left) in
+    Steps.all-written (g .index .now) (g .days .now) (s .pre) d r _ _ _ (c .before .before .before .before .before .before .before .before .gather .ensures) (g .out .now) (c .before .before .before .before .before .if3 .left) _ (c .before .before .put .ensures)
 
 pub days-spec : {M : Type 1} → statement M
 days-spec =
@@ -82,9 +102,12 @@ days-spec =
     refuse-requires-2
     returns-2
     slice-aggregate-gather
+    slice-aggregate-gather-2
     gather-requires
     refuse-requires-3
     returns-3
-    copy-requires
+    array-share-prefix-answer
+    slice-aggregate-put
+    put-requires
     same-length
     returns-4)

@@ -1,29 +1,29 @@
 -- The steps of the days question, apart from the code. Assumes nothing.
-use Prim.Native.Nat.{ℕ, _+_, _-_, _/_, _≤_, _<_, zero-le}
+use Prim.Native.Nat.{ℕ, _+_, _-_, _≤_, _<_, zero-le}
 use native.Mathlib.Omega.{arith}
 use native.Mathlib.Numerals.{add-one}
 use mathlib.Core.Bool.{true, false}
 use mathlib.Core.List.{List, [], _∷_, _++_, map, map-append, append-assoc, append-nil}
 use mathlib.Core.Path.{_≡_, refl, sym, ap, _∙_}
-use lib.Dec.{leb, ltb}
+use lib.Dec.{ltb}
 use lib.ListN.{take-append-drop, length, getD, take, drop, length-append, length-drop, length-map, drop-of-length-le}
-use lib.Seq.{getD-drop, drop-cons, drop-drop, take-at, drop-at, take-all, length-take-le}
+use lib.Seq.{getD-drop, drop-cons, drop-drop, drop-append-le, take-at, drop-at, take-all, length-take-le}
 use borrow.Rule.Slice.PartMut.{putMid, postOf}
-use borrow.Author.Tests.{lt-ltb, le-ltb, leb-true, ltb-true}
-use Rattle.stabbing.specs.Tree.{keep, fits, start, latest}
+use borrow.Author.Tests.{lt-ltb, le-ltb, ltb-true}
+use Rattle.stabbing.specs.Tree.{keep, fits, start, latest, formula}
 use Rattle.stabbing.specs.Index.{Built, numbers, firsts, lasts}
 use Rattle.stabbing.specs.declared.Listed.{Listed}
-use Rattle.stabbing.specs.Answer.{Gave, refused, give, calendar, calendars, risingFrom, containsAny, daysOf}
+use Rattle.stabbing.specs.Answer.{Outcome, Gave, refused, give, question, calendar, calendars, risingFrom, containsAny, dayIn, daysOf}
 use Rattle.stabbing.proofs.Marks.{both}
-use Rattle.stabbing.proofs.Walk.{listing}
 use Rattle.stabbing.proofs.Starts.{latest-is}
+use Rattle.stabbing.proofs.Steps.{keep-room}
 use Rattle.stabbing.proofs.Block.{Holds, built-holds}
 use Rattle.stabbing.proofs.Days.{from, keep-from, added, added-room, added-none, added-all, latest-none}
-use Rattle.stabbing_query.specs.Code.{Now, walkOf, numbered, Skips, past, dayFrom, daysFrom, AddAsks, GatherAsks, Added}
-use Rattle.stabbing_query.proofs.Keeping.{now-place}
-use Rattle.stabbing_query.proofs.Filling.{drop-map}
-use Rattle.stabbing_query.proofs.Skipping.{past-le, rest-from, keep-within}
-use Rattle.stabbing_query.proofs.Answering.{give-all, give-none, refusal, keep-map}
+use Rattle.stabbing_query.specs.Code.{numbered}
+use Rattle.stabbing_query.proofs.Answering.{give-all, give-none, refusal, keep-map, day-in}
+use Rattle.stabbing_query.proofs.Answering as Answers
+use Rattle.stabbing_days.specs.Code.{Skips, past, dayFrom, daysFrom, AddAsks, GatherAsks, Added}
+use Rattle.stabbing_days.proofs.Skipping.{drop-map, rest-from, keep-within}
 
 -- ---- The checks, day by day
 
@@ -63,7 +63,8 @@ module _ (ds : List ℕ) (i : ℕ) (h : length ds ≤ i) where
 
 -- ---- What one day adds
 
-module _ (ix : List ℕ) (d m : ℕ) (answer : List ℕ) (q : AddAsks ix d m answer) (st : ℕ) (e : st ≡ start (firsts ix) (lasts ix) d d) where
+-- after the day is asked with a list of 1,024 places
+module _ (ix : List ℕ) (d m : ℕ) (answer : List ℕ) (q : AddAsks ix d m answer) (before xs : List ℕ) (n : length before ≡ 1024) (r : Listed) (g : Gave r xs (dayIn ix d before)) where
   abbrev fs : List ℕ
   fs = firsts ix
 
@@ -76,39 +77,63 @@ module _ (ix : List ℕ) (d m : ℕ) (answer : List ℕ) (q : AddAsks ix d m ans
   abbrev finds : List ℕ
   finds = keep (fits fs ls d d) (length fs)
 
-  -- after the walk, and with the place that is reached by skipping
-  module _ (xs : List ℕ) (s : ℕ) (g : Now ix xs s (walkOf ix d st)) (at : ℕ) (z : Skips ix xs (s / 65536) m at) where
-    list-is : walkOf ix d st .list ≡ finds
-    list-is = rw e (listing fs ls (held .sorted) d d)
+  listed : map (λ p. getD (numbers ix) p 0) finds ≡ numbered ix finds
+  listed = sym (keep-map (λ p. getD ix p 0) (λ p. getD (numbers ix) p 0) (fits fs ls d d) (length fs) (held .numbers))
 
-    found-is : drop (s / 65536) xs ≡ numbered ix finds
-    found-is = rw (now-place ix xs s (walkOf ix d st) g) (g .list ∙ ap (numbered ix) list-is)
+  listed-length : length (numbered ix finds) ≡ length finds
+  listed-length = length-map finds (λ (p : ℕ). getD ix p 0)
 
-    at-is : at + past m finds ≡ 1024
-    at-is = z .skips finds (keep-within (fits fs ls d d) (length fs)) found-is
+  few : length finds ≤ 1024
+  unfolding keep
+  few = omega (arith, keep-room (fits fs ls d d) 0 (length fs) zero-le, held .few)
 
-    place-is : s / 65536 + length finds ≡ 1024
-    place-is = omega (arith, now-place ix xs s (walkOf ix d st) g, g .fits, ap length list-is)
+  -- it is not refused: its finds stand in the first places
+  given : dayIn ix d before ≡ record { result = record { refusal = 0; count = length (numbered ix finds); comparisons = formula fs ls (start fs ls d d) finds }; out = numbered ix finds ++ drop (length (numbered ix finds)) before }
+  unfolding question
+  given = day-in ix d before (q .dated) ∙ rw listed (give-all (numbered ix finds) (formula fs ls (start fs ls d d) finds) before (omega (arith, n, listed-length, few)))
 
-    pub at-in : at ≤ 1024
-    at-in = omega (arith, at-is)
+  count-is : r .count ≡ length finds
+  count-is = ap (λ (l : Listed). l .count) (g .result ∙ ap (λ (o : Outcome). o .result) given) ∙ listed-length
 
-    rest-is : drop at xs ≡ dayFrom ix m d
+  places-are : xs ≡ numbered ix finds ++ drop (length (numbered ix finds)) before
+  places-are = g .out ∙ ap (λ (o : Outcome). o .out) given
+
+  pub count-in : r .count ≤ 1024
+  count-in = omega (arith, count-is, few)
+
+  -- with the place that is reached by skipping
+  module _ (at : ℕ) (z : Skips ix (take (r .count) xs) m at) where
+    found-is : take (r .count) xs ≡ numbered ix finds
+    found-is = rw places-are (take-at (numbered ix finds) (drop (length (numbered ix finds)) before) (r .count) (listed-length ∙ sym count-is))
+
+    at-is : at + past m finds ≡ length finds
+    at-is = z .skips finds (keep-within (fits fs ls d d) (length fs)) found-is ∙ ap length found-is ∙ listed-length
+
+    pub at-in : at ≤ r .count
+    at-in = omega (arith, at-is, count-is)
+
+    new : drop at (numbered ix finds) ≡ dayFrom ix m d
+    new =
+        let n : at ≡ length finds - past m finds = omega (arith, at-is) in
+        rw n (drop-map (λ (p : ℕ). getD ix p 0) (length finds - past m finds) finds ∙ ap (numbered ix) (rest-from (fits fs ls d d) m (length fs)))
+
+    new-count : length (drop at (numbered ix finds)) ≡ r .count - at
+    new-count = length-drop at (numbered ix finds) ∙ omega (arith, listed-length, count-is)
+
+    rest-is : take (r .count - at) (drop at xs) ≡ dayFrom ix m d
     rest-is =
-        let n : at ≡ s / 65536 + (length finds - past m finds) = omega (arith, at-is, place-is, past-le m finds) in
-        rw n (sym (drop-drop (length finds - past m finds) (s / 65536) xs)
-        ∙ rw found-is (drop-map (λ (p : ℕ). getD ix p 0) (length finds - past m finds) finds ∙ ap (numbered ix) (rest-from (fits fs ls d d) m (length fs))))
+        let ys : List ℕ = drop (length (numbered ix finds)) before in
+        rw places-are (ap (take (r .count - at)) (drop-append-le at (numbered ix finds) ys (omega (arith, at-in, listed-length, count-is)))
+        ∙ take-at (drop at (numbered ix finds)) ys (r .count - at) new-count ∙ new)
 
-    count-is : 1024 - at ≡ length (dayFrom ix m d)
-    count-is = sym (ap length (sym rest-is) ∙ length-drop at xs ∙ ap (λ (n : ℕ). n - at) (g .size))
+    rest-count : r .count - at ≡ length (dayFrom ix m d)
+    rest-count = sym new-count ∙ ap length new
 
-    pub fits-in : 1024 - at ≤ length answer
-    fits-in = omega (arith, count-is, length-map (keep (from m (fits fs ls d d)) (length fs)) (λ (p : ℕ). getD ix p 0), keep-from (fits fs ls d d) m (length fs) (q .within), q .room)
+    pub fits-in : length (take (r .count - at) (drop at xs)) ≤ length answer
+    fits-in = rw rest-is (omega (arith, length-map (keep (from m (fits fs ls d d)) (length fs)) (λ (p : ℕ). getD ix p 0), keep-from (fits fs ls d d) m (length fs) (q .within), q .room))
 
-    pub adds : (after : List ℕ) → after ≡ take (1024 - at) (drop at xs) ++ drop (1024 - at) answer → Added (dayFrom ix m d) answer after (1024 - at)
-    adds after y =
-        let t : take (1024 - at) (dayFrom ix m d) ≡ dayFrom ix m d = take-all (1024 - at) (dayFrom ix m d) (omega (arith, count-is)) in
-        record { count = count-is; places = y ∙ rw (rest-is, t) }
+    pub adds : (after : List ℕ) → after ≡ take (r .count - at) (drop at xs) ++ drop (length (take (r .count - at) (drop at xs))) answer → Added (dayFrom ix m d) answer after (r .count - at)
+    adds after y = record { count = rest-count; places = y ∙ rw (rest-is, ← rest-count) }
 
 -- ---- What several days add
 
@@ -159,9 +184,7 @@ module _ (ix ds : List ℕ) (m : ℕ) (answer : List ℕ) (q : GatherAsks ix ds 
     after-b = ltb-true (q .b) x (rises .0)
 
     pub asks-add : AddAsks ix x m answer
-    asks-add =
-        let y = both (leb 1 x) (leb x 4000) (dates .0) in
-        record { built = q .built; dated = leb-true 1 x (y .0); late = leb-true x 4000 (y .1); room = q .room; within = m-in }
+    asks-add = record { built = q .built; dated = dates .0; room = q .room; within = m-in }
 
     module _ (M : ℕ) (e : M ≡ latest gs ks x) where
       M-in : M ≤ length gs
@@ -244,7 +267,7 @@ module _ (ix ds answer₀ : List ℕ) where
       today-is = let z : i + 0 ≡ i = omega arith in rw (lent ds i) (getD-drop i ds 0 0 ∙ ap (λ (n : ℕ). getD ds n 0) z)
 
       pub late : getD ds i 0 ≤ 4000
-      late = rw (← today-is) (asks-day .late)
+      late = rw (← today-is) (Answers.dated today (asks-day .dated) .1)
 
       module _ (M : ℕ) (e : M ≡ latest (firsts ix) (lasts ix) (getD ds i 0)) (ys : List ℕ) (k : ℕ) (a : Added (dayFrom ix m today) free ys k) where
         e′ : M ≡ latest (firsts ix) (lasts ix) today
@@ -341,25 +364,31 @@ module _ (ix ds : List ℕ) (b : Built ix) (d : calendars ds ≡ true) (r : risi
     all-is : daysFrom ix 0 ds ≡ names
     all-is = ap (numbered ix) (added-all js es (holding .sorted) ds) ∙ keep-map (λ p. getD ix p 0) (λ p. getD (numbers ix) p 0) (containsAny js es ds) (length js) (holding .numbers)
 
-    pub few-in : 0 + k ≤ 1024
+    pub few-in : k ≤ 1024
     few-in = omega (arith, a .count, length-map (keep (from 0 (containsAny js es ds)) (length js)) (λ (p : ℕ). getD ix p 0), keep-from (containsAny js es ds) 0 (length js) zero-le, holding .few)
 
     counted : k ≡ length names
     counted = a .count ∙ ap length all-is
 
-    written : take k (drop 0 after) ≡ names
+    written : take k after ≡ names
     written = rw (a .places) (take-at (daysFrom ix 0 ds) (drop k answer) k (sym (a .count)) ∙ all-is)
 
+    pub part-count : k ≡ length (take k after)
+    part-count = counted ∙ ap length (sym written)
+
     module _ (out : List ℕ) where
+      pub part-in : k ≤ length out → length (take k after) ≤ length out
+      part-in h = omega (arith, part-count)
+
       is : daysOf (numbers ix) js es ds out ≡ give names 0 out
       is = days-in (numbers ix) js es ds out d r
 
       pub too-many : length out < k → (l : Listed) → l ≡ record { refusal = 11; count = 0; comparisons = 0 } → Gave l out (daysOf (numbers ix) js es ds out)
       too-many h = refusal 11 out (daysOf (numbers ix) js es ds out) (is ∙ give-none names 0 out (rw counted at h))
 
-      pub all-written : k ≤ length out → (end : List ℕ) → end ≡ take k (drop 0 after) ++ drop k out
+      pub all-written : k ≤ length out → (end : List ℕ) → end ≡ take k after ++ drop (length (take k after)) out
           → Gave (record { refusal = 0; count = k; comparisons = 0 }) end (daysOf (numbers ix) js es ds out)
       all-written h end e = rw (is ∙ give-all names 0 out (rw counted at h)) (record {
         result = ap (λ (n : ℕ). record { refusal = 0; count = n; comparisons = 0 }) counted;
-        out = e ∙ ap (λ (xs : List ℕ). xs ++ drop k out) written ∙ ap (λ (n : ℕ). names ++ drop n out) counted;
+        out = e ∙ ap (λ (xs : List ℕ). xs ++ drop (length xs) out) written;
       })

@@ -7,14 +7,15 @@ use mathlib.Core.List.{List, [], _∷_, _++_, map}
 use mathlib.Core.Path.{_≡_, refl, sym, ap, _∙_}
 use lib.Dec.{leb, ltb}
 use lib.ListN.{length, getD, drop, length-append, length-drop, length-map, drop-of-length-le, List·getD-append}
-use lib.Seq.{getD-append-seam, getD-drop, drop-cons, drop-append-le, drop-length}
+use lib.Seq.{getD-append-seam, drop-cons, drop-append-le, drop-length}
 use borrow.Author.Tests.{le-leb, lt-leb, leb-true, leb-false, ltb-true, ltb-false}
 use Rattle.stabbing.specs.Tree.{keep}
 use Rattle.stabbing.specs.Index.{Built, numbers, firsts, lasts}
 use Rattle.stabbing.proofs.Marks.{by-test, both, keep-hit, keep-miss, keep-skip}
 use Rattle.stabbing.proofs.Block.{Holds, built-holds}
 use Rattle.stabbing.proofs.Days.{from}
-use Rattle.stabbing_query.specs.Code.{numbered, past, InRows, Skips}
+use Rattle.stabbing_query.specs.Code.{numbered}
+use Rattle.stabbing_days.specs.Code.{past, InRows, Skips}
 
 by-le : {A : Type 0} (a b : ℕ) → (a ≤ b → A) → (b < a → A) → A
 by-le a b f g = by-test (leb a b) (λ e. f (leb-true a b e)) (λ e. g (leb-false a b e))
@@ -123,69 +124,64 @@ keep-within t (suc n) k h = by-test (t n)
 
 -- ---- The steps of `skip`
 
+pub drop-map : (f : ℕ → ℕ) (n : ℕ) (xs : List ℕ) → drop n (map f xs) ≡ map f (drop n xs)
+drop-map f zero xs = refl
+drop-map f (suc n) [] = refl
+drop-map f (suc n) (x ∷ xs) = drop-map f n xs
+
 getD-map : (f : ℕ → ℕ) (ps : List ℕ) (k : ℕ) → k < length ps → getD (map f ps) k 0 ≡ f (getD ps k 0)
 getD-map f [] k h = absurd (omega arith)
 getD-map f (p ∷ ps) zero h = refl
 getD-map f (p ∷ ps) (suc k) h = getD-map f ps k (omega arith)
 
--- from the place i on all rows lie past the first m, whatever rows stand from `at` on
-abbrev pub Passed : List ℕ → List ℕ → ℕ → ℕ → ℕ → Type 0
-Passed ix xs at m i = (ps : List ℕ) → InRows ix ps → drop at xs ≡ numbered ix ps → past m (drop (i - at) ps) ≡ 1024 - i
+-- from the place i on all rows lie past the first m, whatever rows these are
+abbrev pub Passed : List ℕ → List ℕ → ℕ → ℕ → Type 0
+Passed ix xs m i = (ps : List ℕ) → InRows ix ps → xs ≡ numbered ix ps → past m (drop i ps) ≡ length xs - i
 
-module _ (ix xs : List ℕ) (at m : ℕ) (b : Built ix) (size : length xs ≡ 1024) (h : at ≤ 1024) where
+module _ (ix xs : List ℕ) (m : ℕ) (b : Built ix) where
   held : Holds ix (numbers ix) (firsts ix) (lasts ix)
   held = built-holds ix b
 
-  long : (ps : List ℕ) → drop at xs ≡ numbered ix ps → length ps ≡ 1024 - at
-  long ps e = sym (length-map ps (λ (p : ℕ). getD ix p 0)) ∙ ap length (sym e) ∙ length-drop at xs ∙ ap (λ (n : ℕ). n - at) size
+  long : (ps : List ℕ) → xs ≡ numbered ix ps → length ps ≡ length xs
+  long ps e = sym (length-map ps (λ (p : ℕ). getD ix p 0)) ∙ ap length (sym e)
 
-  pub begins : Passed ix xs at m 1024
+  pub begins : Passed ix xs m (length xs)
   unfolding past
-  begins ps r e = ap (past m) (drop-of-length-le ps {i = 1024 - at} (omega (arith, long ps e)))
+  begins ps r e = ap (past m) (drop-of-length-le ps {i = length xs} (omega (arith, long ps e))) ∙ omega arith
 
-  pub ends : (i : ℕ) → i ≡ at → Passed ix xs at m i → Skips ix xs at m i
-  ends i z d = record {
-    skips = λ ps r e.
-        let n : i - at ≡ 0 = omega arith in
-        let t : past m ps ≡ 1024 - i = rw n at (d ps r e) in
-        omega arith;
-  }
+  pub ends : (i : ℕ) → i ≡ 0 → Passed ix xs m i → Skips ix xs m i
+  ends i z d = record { skips = λ ps r e. let t : past m ps ≡ length xs - 0 = rw z at (d ps r e) in omega arith }
 
   -- the row at the place before i, by its number x and its mark k
-  module _ (i : ℕ) (lo : at < i) (hi : i ≤ 1024) (d : Passed ix xs at m i) (x k : ℕ) (ex : x ≡ getD xs (i - 1) 0) (small : x < 65536) (ek : k ≡ getD ix (x + 18242) 0) where
-    module _ (ps : List ℕ) (r : InRows ix ps) (e : drop at xs ≡ numbered ix ps) where
-      abbrev j : ℕ
-      j = i - 1 - at
-
+  module _ (i : ℕ) (lo : 0 < i) (hi : i ≤ length xs) (d : Passed ix xs m i) (x k : ℕ) (ex : x ≡ getD xs (i - 1) 0) (small : x < 65536) (ek : k ≡ getD ix (x + 18242) 0) where
+    module _ (ps : List ℕ) (r : InRows ix ps) (e : xs ≡ numbered ix ps) where
       abbrev p : ℕ
-      p = getD ps j 0
+      p = getD ps (i - 1) 0
 
-      inside : j < length ps
+      inside : i - 1 < length ps
       inside = omega (arith, long ps e)
 
       number-is : x ≡ getD (numbers ix) p 0
-      number-is =
-          let z : at + j ≡ i - 1 = omega arith in
-          ex ∙ ap (λ (n : ℕ). getD xs n 0) (sym z) ∙ sym (getD-drop at xs j 0) ∙ ap (λ (ys : List ℕ). getD ys j 0) e ∙ getD-map (λ (q : ℕ). getD ix q 0) ps j inside ∙ held .numbers p (r j inside)
+      number-is = ex ∙ ap (λ (ys : List ℕ). getD ys (i - 1) 0) e ∙ getD-map (λ (q : ℕ). getD ix q 0) ps (i - 1) inside ∙ held .numbers p (r (i - 1) inside)
 
       mark-is : k ≡ suc p
-      mark-is = ek ∙ ap (λ (n : ℕ). getD ix (n + 18242) 0) number-is ∙ held .own p (r j inside) (rw number-is at small)
+      mark-is = ek ∙ ap (λ (n : ℕ). getD ix (n + 18242) 0) number-is ∙ held .own p (r (i - 1) inside) (rw number-is at small)
 
-      later : drop j ps ≡ p ∷ drop (i - at) ps
-      later = let z : suc j ≡ i - at = omega arith in drop-cons ps j 0 inside ∙ ap (λ (n : ℕ). p ∷ drop n ps) z
+      later : drop (i - 1) ps ≡ p ∷ drop i ps
+      later = let z : suc (i - 1) ≡ i = omega arith in drop-cons ps (i - 1) 0 inside ∙ ap (λ (n : ℕ). p ∷ drop n ps) z
 
-      rest : length (drop (i - at) ps) ≡ 1024 - i
-      rest = length-drop (i - at) ps ∙ omega (arith, long ps e)
+      rest : length (drop i ps) ≡ length xs - i
+      rest = length-drop i ps ∙ omega (arith, long ps e)
 
-    pub passes : m < k → Passed ix xs at m (i - 1)
+    pub passes : m < k → Passed ix xs m (i - 1)
     passes g ps r e =
-        ap (past m) (later ps r e) ∙ past-all m (p ps r e) (drop (i - at) ps) (d ps r e ∙ sym (rest ps r e)) (omega (arith, mark-is ps r e))
+        ap (past m) (later ps r e) ∙ past-all m (p ps r e) (drop i ps) (d ps r e ∙ sym (rest ps r e)) (omega (arith, mark-is ps r e))
         ∙ omega (arith, rest ps r e)
 
-    pub stops : k ≤ m → Skips ix xs at m i
+    pub stops : k ≤ m → Skips ix xs m i
     stops g = record {
       skips = λ ps r e.
-          let t : past m (drop (j ps r e) ps) ≡ 1024 - i = ap (past m) (later ps r e) ∙ past-none m (p ps r e) (drop (i - at) ps) (omega (arith, mark-is ps r e)) ∙ d ps r e in
-          let l : length (drop (j ps r e) ps) ≡ suc (1024 - i) = ap length (later ps r e) ∙ ap suc (rest ps r e) in
-          omega (arith, past-rest m (j ps r e) ps (omega arith));
+          let t : past m (drop (i - 1) ps) ≡ length xs - i = ap (past m) (later ps r e) ∙ past-none m (p ps r e) (drop i ps) (omega (arith, mark-is ps r e)) ∙ d ps r e in
+          let l : length (drop (i - 1) ps) ≡ suc (length xs - i) = ap length (later ps r e) ∙ ap suc (rest ps r e) in
+          omega (arith, past-rest m (i - 1) ps (omega arith));
     }

@@ -1,13 +1,13 @@
--- `stabbing_query::in_order` meets its contract: what the days from i on say after the day before is what all of them say. Assumes nothing.
+-- `stabbing_days::in_order` meets its contract: what the days from i on say after the day before is what all of them say. Assumes nothing.
 use Prim.Native.Nat.{_≤_, _-_}
 use native.Mathlib.Omega.{arith}
 use mathlib.Core.Path.{_≡_, refl, sym, _∙_}
 use borrow.Author.Needs.{needs}
 use lib.ListN.{length, drop}
 use Rattle.stabbing.specs.Answer.{risingFrom}
-use Rattle.stabbing_query.proofs.Several as Steps
-use Rattle.stabbing_query.proofs.in_order.Statement.{statement}
-use Rattle.stabbing_query.proofs.in_order.Tie as tie
+use Rattle.stabbing_days.proofs.Several as Steps
+use Rattle.stabbing_days.proofs.in_order.Statement.{statement}
+use Rattle.stabbing_days.proofs.in_order.Tie as tie
 
 abbrev Inv-loop : tie.InvT-loop
 Inv-loop days before₀ i₀ before i = (i ≤ length days) × (risingFrom before (drop i days) ≡ risingFrom 0 days)

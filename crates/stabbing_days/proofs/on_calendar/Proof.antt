@@ -1,4 +1,4 @@
--- `stabbing_query::on_calendar` meets its contract: what the days from i on say is what all of them say. Assumes nothing.
+-- `stabbing_days::on_calendar` meets its contract: what the days from i on say is what all of them say. Assumes nothing.
 use Prim.Native.Nat.{_≤_, _-_}
 use native.Mathlib.Omega.{arith}
 use mathlib.Core.Path.{_≡_, refl, sym, _∙_}
@@ -6,9 +6,9 @@ use borrow.Author.Needs.{needs}
 use borrow.Author.Tests.{not-true, not-false}
 use lib.ListN.{length, drop}
 use Rattle.stabbing.specs.Answer.{calendars}
-use Rattle.stabbing_query.proofs.Several as Steps
-use Rattle.stabbing_query.proofs.on_calendar.Statement.{statement}
-use Rattle.stabbing_query.proofs.on_calendar.Tie as tie
+use Rattle.stabbing_days.proofs.Several as Steps
+use Rattle.stabbing_days.proofs.on_calendar.Statement.{statement}
+use Rattle.stabbing_days.proofs.on_calendar.Tie as tie
 
 abbrev Inv-loop : tie.InvT-loop
 Inv-loop days i₀ i = (i ≤ length days) × (calendars (drop i days) ≡ calendars days)

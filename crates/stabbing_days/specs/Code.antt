@@ -1,0 +1,54 @@
+-- What the functions behind the days question ask and give: records and short names that their contracts cite. Assumes nothing.
+use Prim.Native.Nat.{ℕ, suc, _+_, _≤_, _<_}
+use mathlib.Core.Bool.{true, false, _&&_}
+use mathlib.Core.List.{List, [], _∷_, _++_}
+use mathlib.Core.Path.{_≡_}
+use lib.Dec.{leb}
+use lib.ListN.{length, getD, drop}
+use Rattle.stabbing.specs.Tree.{keep, fits, latest}
+use Rattle.stabbing.specs.Index.{Built, firsts, lasts}
+use Rattle.stabbing.specs.Answer.{calendar, calendars, risingFrom, containsAny}
+use Rattle.stabbing.proofs.Days.{from}
+use Rattle.stabbing_query.specs.Code.{numbered}
+
+-- how many of a list's last positions are not below m, back to the first that is
+unfoldable pub past : ℕ → List ℕ → ℕ
+past m [] = 0
+past m (p ∷ ps) = elim (leb (length ps) (past m ps) && leb m p) [ true ↦ suc (length ps) | false ↦ past m ps ]
+
+-- these positions are those of rows of the block
+abbrev pub InRows : List ℕ → List ℕ → Type 0
+InRows ix ps = (k : ℕ) → k < length ps → getD ps k 0 < length (firsts ix)
+
+-- where xs are numbers of rows, the place r is the first from which on all of these rows lie past the first m
+pub record Skips (ix xs : List ℕ) (m r : ℕ) : Type 0 where
+  pub skips : (ps : List ℕ) → InRows ix ps → xs ≡ numbered ix ps → r + past m ps ≡ length xs
+
+-- what one day adds: the numbers of the rows from the position m on that contain it
+abbrev pub dayFrom : List ℕ → ℕ → ℕ → List ℕ
+dayFrom ix m d = numbered ix (keep (from m (fits (firsts ix) (lasts ix) d d)) (length (firsts ix)))
+
+-- and what several days add
+abbrev pub daysFrom : List ℕ → ℕ → List ℕ → List ℕ
+daysFrom ix m ds = numbered ix (keep (from m (containsAny (firsts ix) (lasts ix) ds)) (length (firsts ix)))
+
+-- what is asked of one day: it is on the calendar, and there is room for the rows from the position m on
+pub record AddAsks (ix : List ℕ) (d m : ℕ) (answer : List ℕ) : Type 0 where
+  pub built : Built ix
+  pub dated : calendar d ≡ true
+  pub room : length (firsts ix) ≤ m + length answer
+  pub within : m ≤ length (firsts ix)
+
+-- and of several: they are on the calendar and rise from a day b, by which m rows begin, and there is room for the other rows
+pub record GatherAsks (ix ds : List ℕ) (m : ℕ) (answer : List ℕ) : Type 0 where
+  pub built : Built ix
+  pub dated : calendars ds ≡ true
+  pub b : ℕ
+  pub rising : risingFrom b ds ≡ true
+  pub begun : m ≡ latest (firsts ix) (lasts ix) b
+  pub room : length (firsts ix) ≤ m + length answer
+
+-- the numbers ns stand in the first places, r of them, and the later places are as before
+pub record Added (ns before after : List ℕ) (r : ℕ) : Type 0 where
+  pub count : r ≡ length ns
+  pub places : after ≡ ns ++ drop r before
