@@ -34,13 +34,6 @@ fn wide(x: u16) -> u64 {
     x as u64
 }
 
-fn place(x: u16) -> usize
-    ensures { λ r. ⌜ r ≡ x ⌝ }
-    ensures { λ r. ⌜ r < 65536 ⌝ }
-{
-    x as usize
-}
-
 // ---- The checksum
 
 // The checksum h with x taken in.
@@ -350,11 +343,11 @@ fn ask_all(name: &[u8], index: &[u16; INDEX], number: &[u16; 1024], n: usize, fa
 fn own_numbers(index: &[u16; INDEX]) -> bool
     ensures { λ r. ⌜ (r ≡ true → Own (now (index .entry)) (rows (now (index .entry)))) ⌝ }
 {
-    let n = place(index[ROWS]);
+    let n = stabbing::wide(index[ROWS]);
     let mut p: usize = 0;
     while p < n {
-        let number = place(index[p]);
-        if place(index[number + BY_NUMBER]) != p + 1 {
+        let number = stabbing::wide(index[p]);
+        if stabbing::wide(index[number + BY_NUMBER]) != p + 1 {
             return false;
         }
         p += 1;

@@ -14,9 +14,9 @@ use stabbing::BEGUN;
 use stabbing::BY_NUMBER;
 use stabbing::INDEX;
 use stabbing::Listed;
-use stabbing_query::is_day;
-use stabbing_query::refuse;
-use stabbing_query::wide;
+use stabbing::is_day;
+use stabbing::refuse;
+use stabbing::wide;
 
 // ---- The checks
 

@@ -12,11 +12,6 @@ use Rattle.stabbing_index.specs.declared.Way.{Way}
 use Rattle.stabbing.specs.Tree.{Sorted, day, next, parent, child, leftSibling, nearest, start, latest}
 use Rattle.stabbing.proofs.Links.{Head, bottom}
 
--- a word of 16 bits as a number
-pub record Widened (x r : ℕ) : Type 0 where
-  pub same : r ≡ x
-  pub small : r < 65536
-
 -- ---- The columns
 
 -- the columns xs and ys hold the n first and last days fs and ls, which stand in the order

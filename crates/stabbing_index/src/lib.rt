@@ -12,6 +12,7 @@ use stabbing::NUMBER;
 use stabbing::PARENT;
 use stabbing::ROWS;
 use stabbing::START;
+use stabbing::wide;
 ghost use mathlib.Core.Path.{_≡_};
 ghost use mathlib.Core.Bool.{_&&_};
 ghost use mathlib.Core.List.{_++_};
@@ -19,14 +20,8 @@ ghost use Prim.Native.Nat.{suc, _+_, _≤_, _<_};
 ghost use lib.ListN.{length, take, getD};
 ghost use Rattle.stabbing.specs.Index.{lastOf, rowOk, mayFollow, rowsOk, column, blockOf};
 ghost use Rattle.stabbing_index.specs.Build.{Builds};
-ghost use Rattle.stabbing_index.specs.Passes.{Widened, headAt, ColumnsOf, ClimbAsks, ClimbGives, HeadAsks, LinkedOf, nextOf, AdvanceAsks, latestIn, DaysAsks, DayAsks, startIn, DayedOf};
+ghost use Rattle.stabbing_index.specs.Passes.{headAt, ColumnsOf, ClimbAsks, ClimbGives, HeadAsks, LinkedOf, nextOf, AdvanceAsks, latestIn, DaysAsks, DayAsks, startIn, DayedOf};
 ghost use Rattle.stabbing_index.specs.Words.{Laid, rowWord, headWord, nextWord, lastWord, nameWord, MarksIn, BlankFrom, linkWords, dayWords, RowsOf};
-
-fn wide(x: u16) -> usize
-    ensures { λ r. ⌜ Widened x r ⌝ }
-{
-    x as usize
-}
 
 // ---- rows that can be published
 

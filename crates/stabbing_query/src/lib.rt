@@ -6,7 +6,7 @@ ghost use mathlib.Core.List.{_++_};
 ghost use lib.ListN.{length, take, drop};
 ghost use Rattle.stabbing.specs.Tree.{one, some};
 ghost use Rattle.stabbing.specs.Index.{Built};
-ghost use Rattle.stabbing.specs.Answer.{Gave, dayIn, spanIn, coverIn, calendar};
+ghost use Rattle.stabbing.specs.Answer.{Gave, dayIn, spanIn, coverIn};
 ghost use Rattle.stabbing_query.specs.Code.{Does, ChainAsks, RiseAsks, ClimbAsks, Now, chainOf, riseOf, lowerOf, climbOf, WalkAsks, SpanAsks, walkOf, startOf, toldOf, listedOf};
 use refusal::OFF_CALENDAR;
 use refusal::REVERSED;
@@ -26,17 +26,13 @@ use stabbing::NEXT;
 use stabbing::NEXT_LAST;
 use stabbing::PARENT;
 use stabbing::START;
+use stabbing::is_day;
+use stabbing::refuse;
+use stabbing::wide;
 
 // ---- The walk
 // Its state is one number: the place reached in `found`, which is written from its end downward, 65536 each, and the comparisons
 // made.
-
-pub fn wide(x: u16) -> usize
-    ensures { λ r. ⌜ r ≡ x ⌝ }
-    ensures { λ r. ⌜ r < 65536 ⌝ }
-{
-    x as usize
-}
 
 // A comparison with a neighbour's last day (document 01's look), as it counts in the state. The stored day is 0 where there is
 // no neighbour, and then none is made.
@@ -148,16 +144,6 @@ fn copy(found: &[u16; 1024], at: usize, k: usize, to: &mut [u16])
     }
 }
 
-pub fn refuse(number: u16) -> Listed
-    ensures { λ r. ⌜ r ≡ record { refusal = number; count = 0; comparisons = 0 } ⌝ }
-{
-    Listed {
-        refusal: number,
-        count: 0,
-        comparisons: 0,
-    }
-}
-
 // An answer is handed on in one number, which stays in a register: the state that the walk ends in, or this one, whose place is
 // past the list's end, where the buffer is short.
 const SHORT: usize = 67174400;
@@ -194,16 +180,6 @@ fn answer(index: &[u16; INDEX], l: u16, m: usize, out: &mut [u16]) -> usize
 }
 
 // ---- Day, span, cover
-
-// Whether d is on the calendar.
-pub fn is_day(d: u16) -> bool
-    ensures { λ r. ⌜ r ≡ calendar d ⌝ }
-{
-    if d < 1 {
-        return false;
-    }
-    d <= 4000
-}
 
 // Day d: the spells with first ≤ d ≤ last.
 pub fn day(index: &[u16; INDEX], d: u16, out: &mut [u16]) -> Listed

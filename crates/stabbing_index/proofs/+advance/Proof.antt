@@ -8,7 +8,7 @@ use borrow.Fn.PlainCycle.{Measures, is, falls, and}
 use Rattle.stabbing_index.proofs.advance.Reads as advance
 use Rattle.stabbing_index.proofs.advance.Kinds as advance-kinds
 use Rattle.stabbing_index.proofs.+advance.Lts-advance as advance-lts
-use Rattle.stabbing_index.proofs.wide.Reads as wide-reads
+use Rattle.stabbing.proofs.wide.Reads as wide-reads
 use Rattle.stabbing_index.proofs.+advance.{statement}
 use Rattle.stabbing_index.proofs.+advance.Tie.{close}
 
@@ -42,7 +42,7 @@ advance-wide-requires t c κs = search needs
 advance-returns-2 : (t : ℕ) → advance-lts.Need-returns-2 (wide-reads.Asked, wide-reads.Learnt, advance-below t, advance.Post) (advance-at t) advance.Post
 advance-returns-2 t c =
     let q = c .before .before .before .before .pre .1 in
-    Steps.stops q (c .before .before .before .if1 .left) (omega (arith, c .if2 .taken, c .before .wide .ensures .same))
+    Steps.stops q (c .before .before .before .if1 .left) (omega (arith, c .if2 .taken, c .before .wide .ensures .0))
 
 advance-add-advance : (t : ℕ) → advance-lts.Need-add-advance (wide-reads.Asked, wide-reads.Learnt, advance-below t, advance.Post) (advance-at t) advance.Post
 advance-add-advance t c =
@@ -52,7 +52,7 @@ advance-add-advance t c =
 advance-advance-requires : (t : ℕ) → advance-lts.Need-advance-requires (wide-reads.Asked, wide-reads.Learnt, advance-below t, advance.Post) (advance-at t) advance.Post
 advance-advance-requires t c κs =
     let q = c .before .before .before .before .pre .1 in
-    (omega (arith, c .before .before .before .before .pre .0, c .before .before .before .if1 .left), Steps.goes q (c .before .before .before .if1 .left) (omega (arith, c .if2 .left, c .before .wide .ensures .same)))
+    (omega (arith, c .before .before .before .before .pre .0, c .before .before .before .if1 .left), Steps.goes q (c .before .before .before .if1 .left) (omega (arith, c .if2 .left, c .before .wide .ensures .0)))
 
 advance-returns-3 : (t : ℕ) → advance-lts.Need-returns-3 (wide-reads.Asked, wide-reads.Learnt, advance-below t, advance.Post) (advance-at t) advance.Post
 advance-returns-3 t c = c .advance .ensures

@@ -8,7 +8,7 @@ use borrow.Fn.PlainCycle.{Measures, is, falls, and}
 use Rattle.stabbing_index.proofs.climb.Reads as climb
 use Rattle.stabbing_index.proofs.climb.Kinds as climb-kinds
 use Rattle.stabbing_index.proofs.+climb.Lts-climb as climb-lts
-use Rattle.stabbing_index.proofs.wide.Reads as wide-reads
+use Rattle.stabbing.proofs.wide.Reads as wide-reads
 use Rattle.stabbing_index.proofs.+climb.{statement}
 use Rattle.stabbing_index.proofs.+climb.Tie.{close}
 
@@ -70,13 +70,13 @@ climb-climb-requires : (t : ℕ) → climb-lts.Need-climb-requires (wide-reads.A
 climb-climb-requires t c κs =
     let g = c .before .before .before .before .before .args in
     let q = c .before .before .before .before .before .pre .1 in
-    (omega (arith, c .before .before .before .before .before .pre .0, Steps.falls (g .l) (g .left) q (g .m - 1) (omega (arith, c .before .before .before .before .if1 .left)) _ (c .wide .ensures .same)), Steps.asks (g .l) (g .left) q (g .m - 1) (omega (arith, c .before .before .before .before .if1 .left)) _ (c .wide .ensures .same))
+    (omega (arith, c .before .before .before .before .before .pre .0, Steps.falls (g .l) (g .left) q (g .m - 1) (omega (arith, c .before .before .before .before .if1 .left)) _ (c .wide .ensures .0)), Steps.asks (g .l) (g .left) q (g .m - 1) (omega (arith, c .before .before .before .before .if1 .left)) _ (c .wide .ensures .0))
 
 climb-returns-3 : (t : ℕ) → climb-lts.Need-returns-3 (wide-reads.Asked, wide-reads.Learnt, climb-below t, climb.Post) (climb-at t) climb.Post
 climb-returns-3 t c =
     let g = c .before .before .before .before .before .before .args in
     let q = c .before .before .before .before .before .before .pre .1 in
-    Steps.goes-up (g .l) (g .left) q (g .m - 1) (omega (arith, c .before .before .before .before .before .if1 .left)) _ (c .before .wide .ensures .same) (c .before .before .before .if2 .left) _ (c .climb .ensures)
+    Steps.goes-up (g .l) (g .left) q (g .m - 1) (omega (arith, c .before .before .before .before .before .if1 .left)) _ (c .before .wide .ensures .0) (c .before .before .before .if2 .left) _ (c .climb .ensures)
 
 pub +climb-spec : {M : Type 1} → statement M
 +climb-spec = close μ-climb λ t. climb-lts.spec (wide-reads.Asked, wide-reads.Learnt, climb-below t, climb.Post)

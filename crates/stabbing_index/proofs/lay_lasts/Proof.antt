@@ -37,7 +37,7 @@ last-of-requires : tie.Need-last-of-requires Inv-loop μ-loop
 last-of-requires c κs =
     let s = c .before .before .before .before .before in
     let l = c .before .before .before .loop in
-    omega (arith, c .wide .ensures .same, l .inv .0 .kept (s .args .marks + l .k) (omega (arith, c .before .before .loop-test .taken)), s .pre .1 .small (l .k) (c .before .before .loop-test .taken))
+    omega (arith, c .wide .ensures .0, l .inv .0 .kept (s .args .marks + l .k) (omega (arith, c .before .before .loop-test .taken)), s .pre .1 .small (l .k) (c .before .before .loop-test .taken))
 
 add-index : tie.Need-add-index Inv-loop μ-loop
 add-index c = search needs
@@ -60,7 +60,7 @@ loop-again c =
     let g = s .args in
     let l = c .before .before .before .before .loop in
     let t = c .before .before .before .loop-test .taken in
-    (Steps.laying-next (l .inv .0) (omega (arith, t, s .pre .0)) (c .last-of .ensures ∙ ap (lastOf (g .last .now)) (c .before .wide .ensures .same ∙ l .inv .0 .kept (g .marks + l .k) (omega (arith, t)))), omega (arith, t))
+    (Steps.laying-next (l .inv .0) (omega (arith, t, s .pre .0)) (c .last-of .ensures ∙ ap (lastOf (g .last .now)) (c .before .wide .ensures .0 ∙ l .inv .0 .kept (g .marks + l .k) (omega (arith, t)))), omega (arith, t))
 
 same-length : tie.Need-same-length Inv-loop μ-loop
 same-length c = c .before .loop .inv .0 .size

@@ -54,7 +54,7 @@ loop-again c =
     let g = s .args in
     let l = c .before .before .before .loop in
     let t = c .before .before .loop-test .taken in
-    (Names.one-more (g .index .now) (g .number .now) 18242 65536 (l .k) (l .index) _ (l .inv .0) (omega (arith, s .pre .1 .1)) (c .wide .ensures .small) (c .wide .ensures .same), omega (arith, t))
+    (Names.one-more (g .index .now) (g .number .now) 18242 65536 (l .k) (l .index) _ (l .inv .0) (omega (arith, s .pre .1 .1)) (c .wide .ensures .1) (c .wide .ensures .0), omega (arith, t))
 
 same-length : tie.Need-same-length Inv-loop μ-loop
 same-length c = c .before .loop .inv .0 .size
