@@ -1,4 +1,4 @@
--- The word that a line begins with: byte by byte, and the first of several. Assumes nothing.
+-- The word that a line begins with: byte by byte. Assumes nothing.
 use mathlib.Core.Path.{_≡_}
 use mathlib.Core.Bool.{true, false}
 use mathlib.Core.List.{List, _∷_}
@@ -9,8 +9,7 @@ use borrow.Author.Tests.{lt-ltb}
 use lib.ListN.{length, drop, getD}
 use Rattle.fields.specs.Fields.{isAt}
 use Rattle.fields.proofs.Places.{here, past-end, at-inside}
-use Rattle.requests.specs.declared.Word.{Word}
-use Rattle.requests.specs.Requests.{begins, wordAmong}
+use Rattle.requests.specs.Requests.{begins}
 
 module _ (w s : List ℕ) (i : ℕ) where
   pub begins-on : i < length w → isAt s i (getD w i 0) ≡ true → begins (drop i w) (drop i s) ≡ begins (drop (i + 1) w) (drop (i + 1) s)
@@ -31,13 +30,3 @@ module _ (w s : List ℕ) (i : ℕ) where
   pub begins-all : length w ≤ i → begins (drop i w) (drop i s) ≡ true
   unfolding begins
   begins-all h = rw (past-end w i h)
-
--- ---- the first word of a list
-module _ (w : List ℕ × Word) (ws : List (List ℕ × Word)) (s : List ℕ) where
-  pub word-here : begins (w .0) s ≡ true → wordAmong (w ∷ ws) s ≡ w .1
-  unfolding wordAmong
-  word-here e = rw e
-
-  pub word-later : begins (w .0) s ≡ false → wordAmong (w ∷ ws) s ≡ wordAmong ws s
-  unfolding wordAmong
-  word-later e = rw e

@@ -71,25 +71,23 @@ begins [] s = true
 begins (a ∷ w) [] = false
 begins (a ∷ w) (b ∷ s) = eqb b a && begins w s
 
--- the words of edits, publishing and writing, and those of questions, rooms and readings
-abbrev pub editWords : List (List ℕ × Word)
-editWords =
-    (enterWord, EnterWord) ∷ (amendWord, AmendWord) ∷ (strikeWord, StrikeWord) ∷
-    (takeBackWord, TakeBackWord) ∷ (publishWord, PublishWord) ∷ (writeWord, WriteWord) ∷ []
-
-abbrev pub questionWords : List (List ℕ × Word)
-questionWords =
-    (dayWord, DayWord) ∷ (spanWord, SpanWord) ∷ (coverWord, CoverWord) ∷ (daysWord, DaysWord) ∷
-    (noDaysWord, NoDaysWord) ∷ (roomWord, RoomWord) ∷ (readWord, ReadWord) ∷ []
-
--- the first of these words with which the bytes begin
-unfoldable pub wordAmong : List (List ℕ × Word) → List ℕ → Word
-wordAmong [] s = Unknown
-wordAmong (w ∷ ws) s = cond (begins (w .0) s) (w .1) (wordAmong ws s)
-
--- the word of a line; no two of them begin the same line
+-- the word of a line, by the table; no two of them begin the same line
 abbrev pub wordOf : List ℕ → Word
-wordOf s = wordAmong (editWords ++ questionWords) s
+wordOf s =
+    cond (begins enterWord s) EnterWord (
+    cond (begins amendWord s) AmendWord (
+    cond (begins strikeWord s) StrikeWord (
+    cond (begins takeBackWord s) TakeBackWord (
+    cond (begins publishWord s) PublishWord (
+    cond (begins writeWord s) WriteWord (
+    cond (begins dayWord s) DayWord (
+    cond (begins spanWord s) SpanWord (
+    cond (begins coverWord s) CoverWord (
+    cond (begins daysWord s) DaysWord (
+    cond (begins noDaysWord s) NoDaysWord (
+    cond (begins roomWord s) RoomWord (
+    cond (begins readWord s) ReadWord (
+    Unknown)))))))))))))
 
 -- ---- What a request asks
 

@@ -1,12 +1,13 @@
 // The requests of the program `serve`: what the bytes of a line ask, as its protocol gives them.
 ghost use mathlib.Core.Path.{_≡_};
+ghost use mathlib.Core.Bool.{cond};
 ghost use Prim.Native.Nat.{_<_};
 ghost use lib.ListN.{length, take, drop};
 ghost use Rattle.fields.specs.Fields.{readNumber, readLength};
 ghost use Rattle.fields.specs.Answers.{fieldOf, lengthOf};
 ghost use Rattle.register.specs.Text.{readLine};
 ghost use Rattle.register.specs.Answers.{lineOf};
-ghost use Rattle.requests.specs.Requests.{begins, questionWords, wordAmong, wordOf, ended, asking, asks, readSpan, bare, lastDay, readDays};
+ghost use Rattle.requests.specs.Requests.{begins, wordOf, ended, asking, asks, readSpan, bare, lastDay, readDays};
 ghost use Rattle.requests.specs.Parsing.{requestOf, lineAsked, numberAsked, lengthAsked, after, ReadsDays, Parses};
 use fields::Field;
 use fields::Length;
@@ -67,57 +68,33 @@ fn begins(line: &[u8], word: &[u8]) -> bool
     true
 }
 
-// The word of a question, a room or a reading.
-fn question_word(line: &[u8]) -> Word
-    ensures { λ r. ⌜ r ≡ wordAmong questionWords (now (line .entry)) ⌝ }
+// The word w where the line begins with its bytes, or else the word that was found before.
+fn word_or(line: &[u8], bytes: &[u8], w: Word, found: Word) -> Word
+    ensures { λ r. ⌜ r ≡ cond (begins (now (bytes .entry)) (now (line .entry))) w found ⌝ }
 {
-    if begins(line, b"day\t") {
-        return Word::Day;
+    if begins(line, bytes) {
+        return w;
     }
-    if begins(line, b"span\t") {
-        return Word::Span;
-    }
-    if begins(line, b"cover\t") {
-        return Word::Cover;
-    }
-    if begins(line, b"days\t") {
-        return Word::Days;
-    }
-    if begins(line, b"days\n") {
-        return Word::NoDays;
-    }
-    if begins(line, b"room\t") {
-        return Word::Room;
-    }
-    if begins(line, b"read\t") {
-        return Word::Read;
-    }
-    Word::Unknown
+    found
 }
 
-// The word of any request.
+// The word of a line, tried from the last of the table to the first.
 fn word_of(line: &[u8]) -> Word
     ensures { λ r. ⌜ r ≡ wordOf (now (line .entry)) ⌝ }
 {
-    if begins(line, b"enter\t") {
-        return Word::Enter;
-    }
-    if begins(line, b"amend\t") {
-        return Word::Amend;
-    }
-    if begins(line, b"strike\t") {
-        return Word::Strike;
-    }
-    if begins(line, b"take-back\n") {
-        return Word::TakeBack;
-    }
-    if begins(line, b"publish\n") {
-        return Word::Publish;
-    }
-    if begins(line, b"write\n") {
-        return Word::Write;
-    }
-    question_word(line)
+    let w = word_or(line, b"read\t", Word::Read, Word::Unknown);
+    let w = word_or(line, b"room\t", Word::Room, w);
+    let w = word_or(line, b"days\n", Word::NoDays, w);
+    let w = word_or(line, b"days\t", Word::Days, w);
+    let w = word_or(line, b"cover\t", Word::Cover, w);
+    let w = word_or(line, b"span\t", Word::Span, w);
+    let w = word_or(line, b"day\t", Word::Day, w);
+    let w = word_or(line, b"write\n", Word::Write, w);
+    let w = word_or(line, b"publish\n", Word::Publish, w);
+    let w = word_or(line, b"take-back\n", Word::TakeBack, w);
+    let w = word_or(line, b"strike\t", Word::Strike, w);
+    let w = word_or(line, b"amend\t", Word::Amend, w);
+    word_or(line, b"enter\t", Word::Enter, w)
 }
 
 // ---- The last field of a line: nothing follows its LF

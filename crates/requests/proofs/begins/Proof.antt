@@ -22,9 +22,6 @@ loop-holds c = (omega arith, refl)
 shared-slice-read-is-at : tie.Need-shared-slice-read-is-at Inv-loop μ-loop
 shared-slice-read-is-at c = omega arith
 
-is-at-requires : tie.Need-is-at-requires Inv-loop μ-loop
-is-at-requires c κs = search needs
-
 returns : tie.Need-returns Inv-loop μ-loop
 returns c =
     let head = c .before .before .before .before in
@@ -61,7 +58,7 @@ begins-spec =
     μ-loop
     loop-holds
     shared-slice-read-is-at
-    is-at-requires
+    (λ c κs. search needs)
     returns
     add-i
     loop-less

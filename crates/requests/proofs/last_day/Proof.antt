@@ -6,32 +6,11 @@ use Rattle.requests.proofs.DayLists.{last-none, last-one}
 use Rattle.requests.proofs.last_day.Statement.{statement}
 use Rattle.requests.proofs.last_day.Tie as tie
 
-last-number-requires : tie.Need-last-number-requires
-last-number-requires c κs = search needs
-
-enum-known-d : tie.Need-enum-known-d
-enum-known-d c = search needs
-
-enum-told : tie.Need-enum-told
-enum-told c = search needs
-
 returns : tie.Need-returns
 returns c =
     let told = c .before .before in
     let start = told .before .before .before in
     last-none (start .args .days .now) (start .args .k) (start .pre) _ (sym (told .last-number .ensures) ∙ ap (fieldOf (start .args .line .now)) (c .enum-told .given .1))
-
-mul-days : tie.Need-mul-days
-mul-days c = search needs
-
-slice-write-days : tie.Need-slice-write-days
-slice-write-days c = search needs
-
-add-t7 : tie.Need-add-t7
-add-t7 c = search needs
-
-same-length : tie.Need-same-length
-same-length c = search needs
 
 returns-2 : tie.Need-returns-2
 returns-2 c =
@@ -43,12 +22,7 @@ pub last-day-spec : {M : Type 1} → statement M
 last-day-spec =
     tie.close
     (tie.spec
-    last-number-requires
-    enum-known-d
-    enum-told
+    (λ c κs. search needs) (λ c. search needs) (λ c. search needs)
     returns
-    mul-days
-    slice-write-days
-    add-t7
-    same-length
+    (λ c. search needs) (λ c. search needs) (λ c. search needs) (λ c. search needs)
     returns-2)

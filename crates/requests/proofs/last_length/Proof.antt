@@ -9,15 +9,6 @@ use Rattle.requests.proofs.Fields.{ended-more, ended-all}
 use Rattle.requests.proofs.last_length.Statement.{statement}
 use Rattle.requests.proofs.last_length.Tie as tie
 
-read-length-requires : tie.Need-read-length-requires
-read-length-requires c κs = search needs
-
-enum-known-n : tie.Need-enum-known-n
-enum-known-n c = search needs
-
-enum-told : tie.Need-enum-told
-enum-told c = search needs
-
 returns : tie.Need-returns
 returns c =
     let told = c .before .before in
@@ -45,4 +36,4 @@ returns-3 c =
 
 pub last-length-spec : {M : Type 1} → statement M
 last-length-spec =
-    tie.close (tie.spec read-length-requires enum-known-n enum-told returns returns-2 returns-3)
+    tie.close (tie.spec (λ c κs. search needs) (λ c. search needs) (λ c. search needs) returns returns-2 returns-3)

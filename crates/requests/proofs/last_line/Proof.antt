@@ -10,15 +10,6 @@ use Rattle.requests.proofs.Fields.{ended-more, ended-all}
 use Rattle.requests.proofs.last_line.Statement.{statement}
 use Rattle.requests.proofs.last_line.Tie as tie
 
-read-line-requires : tie.Need-read-line-requires
-read-line-requires c κs = search needs
-
-enum-known-s : tie.Need-enum-known-s
-enum-known-s c = search needs
-
-enum-told : tie.Need-enum-told
-enum-told c = search needs
-
 returns : tie.Need-returns
 returns c =
     let told = c .before .before in
@@ -46,4 +37,4 @@ returns-3 c =
 
 pub last-line-spec : {M : Type 1} → statement M
 last-line-spec =
-    tie.close (tie.spec read-line-requires enum-known-s enum-told returns returns-2 returns-3)
+    tie.close (tie.spec (λ c κs. search needs) (λ c. search needs) (λ c. search needs) returns returns-2 returns-3)

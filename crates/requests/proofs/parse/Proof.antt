@@ -55,111 +55,6 @@ returns c =
     let start = c .before .before .before in
     parses-long (start .args .line .now) (start .args .days .now) (c .if1 .taken)
 
-word-of-requires : tie.Need-word-of-requires
-word-of-requires c κs = search needs
-
-enum-told : tie.Need-enum-told
-enum-told c = search needs
-
-last-line-requires : tie.Need-last-line-requires
-last-line-requires c κs = search needs
-
-enter-asked-requires : tie.Need-enter-asked-requires
-enter-asked-requires c κs = search needs
-
-enum-told-2 : tie.Need-enum-told-2
-enum-told-2 c = search needs
-
-last-line-requires-2 : tie.Need-last-line-requires-2
-last-line-requires-2 c κs = search needs
-
-amend-asked-requires : tie.Need-amend-asked-requires
-amend-asked-requires c κs = search needs
-
-enum-told-3 : tie.Need-enum-told-3
-enum-told-3 c = search needs
-
-last-number-requires : tie.Need-last-number-requires
-last-number-requires c κs = search needs
-
-strike-asked-requires : tie.Need-strike-asked-requires
-strike-asked-requires c κs = search needs
-
-enum-told-4 : tie.Need-enum-told-4
-enum-told-4 c = search needs
-
-bare-requires : tie.Need-bare-requires
-bare-requires c κs = search needs
-
-enum-told-5 : tie.Need-enum-told-5
-enum-told-5 c = search needs
-
-bare-requires-2 : tie.Need-bare-requires-2
-bare-requires-2 c κs = search needs
-
-enum-told-6 : tie.Need-enum-told-6
-enum-told-6 c = search needs
-
-bare-requires-3 : tie.Need-bare-requires-3
-bare-requires-3 c κs = search needs
-
-enum-told-7 : tie.Need-enum-told-7
-enum-told-7 c = search needs
-
-last-number-requires-2 : tie.Need-last-number-requires-2
-last-number-requires-2 c κs = search needs
-
-day-asked-requires : tie.Need-day-asked-requires
-day-asked-requires c κs = search needs
-
-enum-told-8 : tie.Need-enum-told-8
-enum-told-8 c = search needs
-
-span-asked-requires : tie.Need-span-asked-requires
-span-asked-requires c κs = search needs
-
-enum-told-9 : tie.Need-enum-told-9
-enum-told-9 c = search needs
-
-last-number-requires-3 : tie.Need-last-number-requires-3
-last-number-requires-3 c κs = search needs
-
-cover-asked-requires : tie.Need-cover-asked-requires
-cover-asked-requires c κs = search needs
-
-enum-told-10 : tie.Need-enum-told-10
-enum-told-10 c = search needs
-
-read-days-requires : tie.Need-read-days-requires
-read-days-requires c κs = search needs
-
-enum-told-11 : tie.Need-enum-told-11
-enum-told-11 c = search needs
-
-bare-requires-4 : tie.Need-bare-requires-4
-bare-requires-4 c κs = search needs
-
-enum-told-12 : tie.Need-enum-told-12
-enum-told-12 c = search needs
-
-last-length-requires : tie.Need-last-length-requires
-last-length-requires c κs = search needs
-
-room-asked-requires : tie.Need-room-asked-requires
-room-asked-requires c κs = search needs
-
-enum-told-13 : tie.Need-enum-told-13
-enum-told-13 c = search needs
-
-last-length-requires-2 : tie.Need-last-length-requires-2
-last-length-requires-2 c κs = search needs
-
-read-asked-requires : tie.Need-read-asked-requires
-read-asked-requires c κs = search needs
-
-enum-told-14 : tie.Need-enum-told-14
-enum-told-14 c = search needs
-
 returns-2 : tie.Need-returns-2
 unfolding askedBy isDays
 returns-2 c =
@@ -279,41 +174,15 @@ parse-spec =
     tie.close
     (tie.spec
     returns
-    word-of-requires
-    enum-told
-    last-line-requires
-    enter-asked-requires
-    enum-told-2
-    last-line-requires-2
-    amend-asked-requires
-    enum-told-3
-    last-number-requires
-    strike-asked-requires
-    enum-told-4
-    bare-requires
-    enum-told-5
-    bare-requires-2
-    enum-told-6
-    bare-requires-3
-    enum-told-7
-    last-number-requires-2
-    day-asked-requires
-    enum-told-8
-    span-asked-requires
-    enum-told-9
-    last-number-requires-3
-    cover-asked-requires
-    enum-told-10
-    read-days-requires
-    enum-told-11
-    bare-requires-4
-    enum-told-12
-    last-length-requires
-    room-asked-requires
-    enum-told-13
-    last-length-requires-2
-    read-asked-requires
-    enum-told-14
+    (λ c κs. search needs) (λ c. search needs)
+    (λ c κs. search needs) (λ c κs. search needs) (λ c. search needs) (λ c κs. search needs)
+    (λ c κs. search needs) (λ c. search needs) (λ c κs. search needs) (λ c κs. search needs)
+    (λ c. search needs) (λ c κs. search needs) (λ c. search needs) (λ c κs. search needs) (λ c. search needs)
+    (λ c κs. search needs) (λ c. search needs) (λ c κs. search needs) (λ c κs. search needs)
+    (λ c. search needs) (λ c κs. search needs) (λ c. search needs) (λ c κs. search needs)
+    (λ c κs. search needs) (λ c. search needs) (λ c κs. search needs) (λ c. search needs)
+    (λ c κs. search needs) (λ c. search needs) (λ c κs. search needs) (λ c κs. search needs)
+    (λ c. search needs) (λ c κs. search needs) (λ c κs. search needs) (λ c. search needs)
     returns-2
     returns-3
     returns-4

@@ -20,18 +20,6 @@ abbrev μ-loop : tie.MeasureT-loop
 loop-holds : tie.Need-loop-holds Inv-loop μ-loop
 loop-holds c = sofar-start _ _ _
 
-read-number-requires : tie.Need-read-number-requires Inv-loop μ-loop
-read-number-requires c κs = search needs
-
-enum-known-d : tie.Need-enum-known-d Inv-loop μ-loop
-enum-known-d c = search needs
-
-enum-told : tie.Need-enum-told Inv-loop μ-loop
-enum-told c = search needs
-
-last-day-requires : tie.Need-last-day-requires Inv-loop μ-loop
-last-day-requires c κs = search needs
-
 same-length : tie.Need-same-length Inv-loop μ-loop
 same-length c = c .before .before .last-day .ensures .sized ∙ c .before .before .before .before .before .before .before .before .loop .inv .sized
 
@@ -42,15 +30,6 @@ returns c =
     sofar-last (head .loop .inv) (omega (arith, head .loop .inv .sized)) _ _
     (sym (c .before .before .before .before .before .before .read-number .ensures .says) ∙ ap (fieldOf line) (c .before .before .before .before .enum-told .given .1))
     (c .before .before .last-day .ensures)
-
-mul-days : tie.Need-mul-days Inv-loop μ-loop
-mul-days c = search needs
-
-slice-write-days : tie.Need-slice-write-days Inv-loop μ-loop
-slice-write-days c = search needs
-
-add-k : tie.Need-add-k Inv-loop μ-loop
-add-k c = search needs
 
 loop-less : tie.Need-loop-less Inv-loop μ-loop
 loop-less c = omega (arith, c .before .before .before .before .before .loop .inv .sized)
@@ -75,15 +54,10 @@ read-days-spec =
     Inv-loop
     μ-loop
     loop-holds
-    read-number-requires
-    enum-known-d
-    enum-told
-    last-day-requires
+    (λ c κs. search needs) (λ c. search needs) (λ c. search needs) (λ c κs. search needs)
     same-length
     returns
-    mul-days
-    slice-write-days
-    add-k
+    (λ c. search needs) (λ c. search needs) (λ c. search needs)
     loop-less
     loop-again
     same-length-2

@@ -7,15 +7,6 @@ use Rattle.fields.specs.Answers.{fieldOf}
 use Rattle.requests.proofs.span_asked.Statement.{statement}
 use Rattle.requests.proofs.span_asked.Tie as tie
 
-read-number-requires : tie.Need-read-number-requires
-read-number-requires c κs = search needs
-
-enum-known-a : tie.Need-enum-known-a
-enum-known-a c = search needs
-
-enum-told : tie.Need-enum-told
-enum-told c = search needs
-
 returns : tie.Need-returns
 returns c =
     let told = c .before .before in
@@ -28,15 +19,6 @@ valued : (c : tie.After-known-told) →
 valued c =
     let told = c .before .before .before in
     sym (told .read-number .ensures .says) ∙ ap (fieldOf (told .before .before .args .line .now)) (c .before .a .given .1)
-
-last-number-requires : tie.Need-last-number-requires
-last-number-requires c κs = search needs
-
-enum-known-b : tie.Need-enum-known-b
-enum-known-b c = search needs
-
-enum-told-2 : tie.Need-enum-told-2
-enum-told-2 c = search needs
 
 returns-2 : tie.Need-returns-2
 returns-2 c =
@@ -52,12 +34,8 @@ pub span-asked-spec : {M : Type 1} → statement M
 span-asked-spec =
     tie.close
     (tie.spec
-    read-number-requires
-    enum-known-a
-    enum-told
+    (λ c κs. search needs) (λ c. search needs) (λ c. search needs)
     returns
-    last-number-requires
-    enum-known-b
-    enum-told-2
+    (λ c κs. search needs) (λ c. search needs) (λ c. search needs)
     returns-2
     returns-3)

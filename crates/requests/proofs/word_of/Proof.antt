@@ -1,132 +1,71 @@
--- `requests::word_of` meets its contract: the words are tried one after another. Assumes nothing.
-use mathlib.Core.Path.{_≡_, sym, _∙_}
-use mathlib.Core.List.{List, _++_}
+-- `requests::word_of` meets its contract: each word of the table stands before those that were tried. Assumes nothing.
+use mathlib.Core.Path.{_≡_}
+use mathlib.Core.Bool.{cond}
+use mathlib.Core.List.{List}
 use Prim.Native.Nat.{ℕ}
 use borrow.Author.Needs.{needs}
-use lib.ListN.{drop}
-use Rattle.requests.specs.Requests.{editWords, questionWords, wordAmong}
-use Rattle.requests.proofs.Words.{word-here, word-later}
+use Rattle.requests.specs.declared.Word.{Word}
+use Rattle.requests.specs.declared.Word.the-variants.{Enter as EnterWord, Amend as AmendWord, Strike as StrikeWord, TakeBack as TakeBackWord, Publish as PublishWord, Write as WriteWord, Day as DayWord, Span as SpanWord, Cover as CoverWord, Days as DaysWord, NoDays as NoDaysWord, Room as RoomWord, Read as ReadWord, Unknown}
+use Rattle.requests.specs.Requests.{begins, wordOf, enterWord, amendWord, strikeWord, takeBackWord, publishWord, writeWord, dayWord, spanWord, coverWord, daysWord, noDaysWord, roomWord, readWord}
 use Rattle.requests.proofs.word_of.Statement.{statement}
 use Rattle.requests.proofs.word_of.Tie as tie
 
--- the line, where so many words are passed, and that its word is among the rest
-abbrev line1 : tie.Else1 → List ℕ
-line1 c = c .before .before .before .before .args .line .now
-
-later1 : (c : tie.Else1) → wordAmong (editWords ++ questionWords) (line1 c) ≡ wordAmong (drop 1 (editWords ++ questionWords)) (line1 c)
-later1 c = word-later _ _ (line1 c) (sym (c .before .begins .ensures) ∙ c .if1 .left)
-
-abbrev line2 : tie.Else2 → List ℕ
-line2 c = line1 (c .before .before .before)
-
-later2 : (c : tie.Else2) → wordAmong (editWords ++ questionWords) (line2 c) ≡ wordAmong (drop 2 (editWords ++ questionWords)) (line2 c)
-later2 c = later1 (c .before .before .before) ∙ word-later _ _ (line2 c) (sym (c .before .begins2 .ensures) ∙ c .if2 .left)
-
-abbrev line3 : tie.Else3 → List ℕ
-line3 c = line2 (c .before .before .before)
-
-later3 : (c : tie.Else3) → wordAmong (editWords ++ questionWords) (line3 c) ≡ wordAmong (drop 3 (editWords ++ questionWords)) (line3 c)
-later3 c = later2 (c .before .before .before) ∙ word-later _ _ (line3 c) (sym (c .before .begins3 .ensures) ∙ c .if3 .left)
-
-abbrev line4 : tie.Else4 → List ℕ
-line4 c = line3 (c .before .before .before)
-
-later4 : (c : tie.Else4) → wordAmong (editWords ++ questionWords) (line4 c) ≡ wordAmong (drop 4 (editWords ++ questionWords)) (line4 c)
-later4 c = later3 (c .before .before .before) ∙ word-later _ _ (line4 c) (sym (c .before .begins4 .ensures) ∙ c .if4 .left)
-
-abbrev line5 : tie.Else5 → List ℕ
-line5 c = line4 (c .before .before .before)
-
-later5 : (c : tie.Else5) → wordAmong (editWords ++ questionWords) (line5 c) ≡ wordAmong (drop 5 (editWords ++ questionWords)) (line5 c)
-later5 c = later4 (c .before .before .before) ∙ word-later _ _ (line5 c) (sym (c .before .begins5 .ensures) ∙ c .if5 .left)
-
-abbrev line6 : tie.Else6 → List ℕ
-line6 c = line5 (c .before .before .before)
-
-later6 : (c : tie.Else6) → wordAmong (editWords ++ questionWords) (line6 c) ≡ wordAmong (drop 6 (editWords ++ questionWords)) (line6 c)
-later6 c = later5 (c .before .before .before) ∙ word-later _ _ (line6 c) (sym (c .before .begins6 .ensures) ∙ c .if6 .left)
-
-slice-aggregate-begins : tie.Need-slice-aggregate-begins
-slice-aggregate-begins c = search needs
-
-begins-requires : tie.Need-begins-requires
-begins-requires c κs = search needs
+-- the words tried from the last to the first: the last that is found is the word of the line
+tried : (s : List ℕ) {w1 w2 w3 w4 w5 w6 w7 w8 w9 w10 w11 w12 w13 : Word} →
+    w1 ≡ cond (begins readWord s) ReadWord Unknown →
+    w2 ≡ cond (begins roomWord s) RoomWord w1 →
+    w3 ≡ cond (begins noDaysWord s) NoDaysWord w2 →
+    w4 ≡ cond (begins daysWord s) DaysWord w3 →
+    w5 ≡ cond (begins coverWord s) CoverWord w4 →
+    w6 ≡ cond (begins spanWord s) SpanWord w5 →
+    w7 ≡ cond (begins dayWord s) DayWord w6 →
+    w8 ≡ cond (begins writeWord s) WriteWord w7 →
+    w9 ≡ cond (begins publishWord s) PublishWord w8 →
+    w10 ≡ cond (begins takeBackWord s) TakeBackWord w9 →
+    w11 ≡ cond (begins strikeWord s) StrikeWord w10 →
+    w12 ≡ cond (begins amendWord s) AmendWord w11 →
+    w13 ≡ cond (begins enterWord s) EnterWord w12 →
+    w13 ≡ wordOf s
+tried s e1 e2 e3 e4 e5 e6 e7 e8 e9 e10 e11 e12 e13 = rw (e13, e12, e11, e10, e9, e8, e7, e6, e5, e4, e3, e2, e1)
 
 returns : tie.Need-returns
-returns c = sym (word-here _ _ _ (sym (c .before .begins .ensures) ∙ c .if1 .taken))
-
-slice-aggregate-begins-2 : tie.Need-slice-aggregate-begins-2
-slice-aggregate-begins-2 c = search needs
-
-begins-requires-2 : tie.Need-begins-requires-2
-begins-requires-2 c κs = search needs
-
-returns-2 : tie.Need-returns-2
-returns-2 c = sym (later1 (c .before .before .before) ∙ word-here _ _ _ (sym (c .before .begins2 .ensures) ∙ c .if2 .taken))
-
-slice-aggregate-begins-3 : tie.Need-slice-aggregate-begins-3
-slice-aggregate-begins-3 c = search needs
-
-begins-requires-3 : tie.Need-begins-requires-3
-begins-requires-3 c κs = search needs
-
-returns-3 : tie.Need-returns-3
-returns-3 c = sym (later2 (c .before .before .before) ∙ word-here _ _ _ (sym (c .before .begins3 .ensures) ∙ c .if3 .taken))
-
-slice-aggregate-begins-4 : tie.Need-slice-aggregate-begins-4
-slice-aggregate-begins-4 c = search needs
-
-begins-requires-4 : tie.Need-begins-requires-4
-begins-requires-4 c κs = search needs
-
-returns-4 : tie.Need-returns-4
-returns-4 c = sym (later3 (c .before .before .before) ∙ word-here _ _ _ (sym (c .before .begins4 .ensures) ∙ c .if4 .taken))
-
-slice-aggregate-begins-5 : tie.Need-slice-aggregate-begins-5
-slice-aggregate-begins-5 c = search needs
-
-begins-requires-5 : tie.Need-begins-requires-5
-begins-requires-5 c κs = search needs
-
-returns-5 : tie.Need-returns-5
-returns-5 c = sym (later4 (c .before .before .before) ∙ word-here _ _ _ (sym (c .before .begins5 .ensures) ∙ c .if5 .taken))
-
-slice-aggregate-begins-6 : tie.Need-slice-aggregate-begins-6
-slice-aggregate-begins-6 c = search needs
-
-begins-requires-6 : tie.Need-begins-requires-6
-begins-requires-6 c κs = search needs
-
-returns-6 : tie.Need-returns-6
-returns-6 c = sym (later5 (c .before .before .before) ∙ word-here _ _ _ (sym (c .before .begins6 .ensures) ∙ c .if6 .taken))
-
-question-word-requires : tie.Need-question-word-requires
-question-word-requires c κs = search needs
-
-returns-7 : tie.Need-returns-7
-returns-7 c = c .question-word .ensures ∙ sym (later6 (c .before))
+returns c =
+    let c12 = c .before .before in
+    let c11 = c12 .before .before in
+    let c10 = c11 .before .before in
+    let c9 = c10 .before .before in
+    let c8 = c9 .before .before in
+    let c7 = c8 .before .before in
+    let c6 = c7 .before .before in
+    let c5 = c6 .before .before in
+    let c4 = c5 .before .before in
+    let c3 = c4 .before .before in
+    let c2 = c3 .before .before in
+    let c1 = c2 .before .before in
+    tried _
+    (c1 .word-or .ensures)
+    (c2 .word-or2 .ensures)
+    (c3 .word-or3 .ensures)
+    (c4 .word-or4 .ensures)
+    (c5 .word-or5 .ensures)
+    (c6 .word-or6 .ensures)
+    (c7 .word-or7 .ensures)
+    (c8 .word-or8 .ensures)
+    (c9 .word-or9 .ensures)
+    (c10 .word-or10 .ensures)
+    (c11 .word-or11 .ensures)
+    (c12 .word-or12 .ensures)
+    (c .word-or13 .ensures)
 
 pub word-of-spec : {M : Type 1} → statement M
 word-of-spec =
     tie.close
     (tie.spec
-    slice-aggregate-begins
-    begins-requires
-    returns
-    slice-aggregate-begins-2
-    begins-requires-2
-    returns-2
-    slice-aggregate-begins-3
-    begins-requires-3
-    returns-3
-    slice-aggregate-begins-4
-    begins-requires-4
-    returns-4
-    slice-aggregate-begins-5
-    begins-requires-5
-    returns-5
-    slice-aggregate-begins-6
-    begins-requires-6
-    returns-6
-    question-word-requires
-    returns-7)
+    (λ c. search needs) (λ c κs. search needs) (λ c. search needs) (λ c κs. search needs)
+    (λ c. search needs) (λ c κs. search needs) (λ c. search needs) (λ c κs. search needs)
+    (λ c. search needs) (λ c κs. search needs) (λ c. search needs) (λ c κs. search needs)
+    (λ c. search needs) (λ c κs. search needs) (λ c. search needs) (λ c κs. search needs)
+    (λ c. search needs) (λ c κs. search needs) (λ c. search needs) (λ c κs. search needs)
+    (λ c. search needs) (λ c κs. search needs) (λ c. search needs) (λ c κs. search needs)
+    (λ c. search needs) (λ c κs. search needs)
+    returns)
