@@ -39,27 +39,6 @@ loop-holds c =
     let args = c .before .before .before .before .args in
     rest-none (args .numbers .now) (args .buf .now) (args .at) (roomy (c .before)) (c .if2 .left)
 
-sub-end-before : tie.Need-sub-end-before Inv-loop μ-loop
-sub-end-before c = search needs
-
-end-before-requires : tie.Need-end-before-requires Inv-loop μ-loop
-end-before-requires c κs = search needs
-
-sub-i : tie.Need-sub-i Inv-loop μ-loop
-sub-i c = search needs
-
-mul-put-number : tie.Need-mul-put-number Inv-loop μ-loop
-mul-put-number c = search needs
-
-shared-slice-read-put-number : tie.Need-shared-slice-read-put-number Inv-loop μ-loop
-shared-slice-read-put-number c = search needs
-
-put-number-requires : tie.Need-put-number-requires Inv-loop μ-loop
-put-number-requires c κs = search needs
-
-loop-less : tie.Need-loop-less Inv-loop μ-loop
-loop-less c = search needs
-
 loop-again : tie.Need-loop-again Inv-loop μ-loop
 loop-again c =
     let p = c .before .before in
@@ -69,9 +48,6 @@ loop-again c =
     let args = s .before .before .before .before .args in
     rest-one (args .numbers .now) (args .buf .now) (args .at) (roomy (s .before)) (s .if2 .left) _ _ (l .place) (l .i) _ (l .inv) (e .before .loop-test .taken)
     (rw (e .end-before .ensures) at (p .put-number .ensures))
-
-same-length : tie.Need-same-length Inv-loop μ-loop
-same-length c = search needs
 
 returns-3 : tie.Need-returns-3 Inv-loop μ-loop
 returns-3 c =
@@ -90,13 +66,8 @@ put-numbers-spec =
     returns
     returns-2
     loop-holds
-    sub-end-before
-    end-before-requires
-    sub-i
-    mul-put-number
-    shared-slice-read-put-number
-    put-number-requires
-    loop-less
+    (λ c. search needs) (λ c κs. search needs) (λ c. search needs) (λ c. search needs) (λ c. search needs)
+    (λ c κs. search needs) (λ c. search needs)
     loop-again
-    same-length
+    (λ c. search needs)
     returns-3)

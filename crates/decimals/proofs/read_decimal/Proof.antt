@@ -15,19 +15,10 @@ returns c =
     let args = c .before .before .args in
     sym (decimal-past (args .text .now) (args .at) (args .limit) (omega arith))
 
-shared-slice-read-b : tie.Need-shared-slice-read-b
-shared-slice-read-b c = search needs
-
-add-t9 : tie.Need-add-t9
-add-t9 c = search needs
-
 returns-2 : tie.Need-returns-2
 returns-2 c =
     let args = c .before .before .before .before .args in
     sym (decimal-zero (args .text .now) (args .at) (args .limit) (omega arith) (c .if2 .taken))
-
-is-digit-requires : tie.Need-is-digit-requires
-is-digit-requires c κs = search needs
 
 returns-3 : tie.Need-returns-3
 returns-3 c =
@@ -36,9 +27,6 @@ returns-3 c =
 
 is-one : (c : tie.Else3) → let args = c .before .before .before .before .before .before .args in isDigit (getD (args .text .now) (args .at) 0) ≡ true
 is-one c = sym (c .before .is-digit .ensures) ∙ not-false (c .before .is-digit .result) (c .if3 .left)
-
-read-digits-requires : tie.Need-read-digits-requires
-read-digits-requires c κs = search needs
 
 returns-4 : tie.Need-returns-4
 returns-4 c =
@@ -51,10 +39,9 @@ read-decimal-spec =
     tie.close
     (tie.spec
     returns
-    shared-slice-read-b
-    add-t9
+    (λ c. search needs) (λ c. search needs)
     returns-2
-    is-digit-requires
+    (λ c κs. search needs)
     returns-3
-    read-digits-requires
+    (λ c κs. search needs)
     returns-4)

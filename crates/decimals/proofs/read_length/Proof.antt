@@ -13,15 +13,6 @@ use Rattle.fields.proofs.Places.{at-inside, passed-not, passed-at, place-back, 
 use Rattle.decimals.proofs.read_length.Statement.{statement}
 use Rattle.decimals.proofs.read_length.Tie as tie
 
-read-decimal-requires : tie.Need-read-decimal-requires
-read-decimal-requires c κs = search needs
-
-enum-known-v : tie.Need-enum-known-v
-enum-known-v c = search needs
-
-enum-told : tie.Need-enum-told
-enum-told c = search needs
-
 returns : tie.Need-returns
 returns c =
     let told = c .before .before in
@@ -36,9 +27,6 @@ valued c =
     let told = c .before .before .before in
     let args = told .before .before .args in
     ap (λ (f : Found ℕ). onward f (passed (args .end))) (sym (told .read-decimal .ensures) ∙ ap (lengthOf (args .text .now)) (c .before .v .given .1))
-
-is-at-requires : tie.Need-is-at-requires
-is-at-requires c κs = search needs
 
 returns-2 : tie.Need-returns-2
 returns-2 c =
@@ -75,11 +63,9 @@ pub read-length-spec : {M : Type 1} → statement M
 read-length-spec =
     tie.close
     (tie.spec
-    read-decimal-requires
-    enum-known-v
-    enum-told
+    (λ c κs. search needs) (λ c. search needs) (λ c. search needs)
     returns
-    is-at-requires
+    (λ c κs. search needs)
     returns-2
     add-t10
     returns-3)

@@ -12,15 +12,6 @@ use Rattle.decimals.proofs.Decimals.{length-within}
 use Rattle.decimals.proofs.read_number.Statement.{statement}
 use Rattle.decimals.proofs.read_number.Tie as tie
 
-read-length-requires : tie.Need-read-length-requires
-read-length-requires c κs = search needs
-
-enum-known-v : tie.Need-enum-known-v
-enum-known-v c = search needs
-
-enum-told : tie.Need-enum-told
-enum-told c = search needs
-
 returns : tie.Need-returns
 returns c =
     let told = c .before .before in
@@ -50,4 +41,4 @@ returns-2 c =
 
 pub read-number-spec : {M : Type 1} → statement M
 read-number-spec =
-    tie.close (tie.spec read-length-requires enum-known-v enum-told returns cast-t7 returns-2)
+    tie.close (tie.spec (λ c κs. search needs) (λ c. search needs) (λ c. search needs) returns cast-t7 returns-2)

@@ -8,14 +8,8 @@ use borrow.Author.Needs.{needs}
 use Rattle.hex.proofs.hex_value.Statement.{statement}
 use Rattle.hex.proofs.hex_value.Tie as tie
 
-is-digit-requires : tie.Need-is-digit-requires
-is-digit-requires c κs = search needs
-
 sub-result : tie.Need-sub-result
 sub-result c = digit-low _ (sym (c .before .is-digit .ensures) ∙ c .if1 .taken)
-
-cast-result : tie.Need-cast-result
-cast-result c = search needs
 
 returns : tie.Need-returns
 unfolding hexValue
@@ -29,12 +23,6 @@ returns-3 : tie.Need-returns-3
 unfolding hexValue
 returns-3 c = rw (sym (c .before .before .before .is-digit .ensures) ∙ c .before .before .if1 .left, le-leb 65 _ (c .before .if2 .left), lt-leb _ 70 (c .if3 .taken))
 
-cast-result-2 : tie.Need-cast-result-2
-cast-result-2 c = search needs
-
-add-result : tie.Need-add-result
-add-result c = search needs
-
 returns-4 : tie.Need-returns-4
 unfolding hexValue
 returns-4 c = rw (sym (c .before .before .before .is-digit .ensures) ∙ c .before .before .if1 .left, le-leb 65 _ (c .before .if2 .left), le-leb _ 70 (c .if3 .left)) (omega arith)
@@ -43,12 +31,11 @@ pub hex-value-spec : {M : Type 1} → statement M
 hex-value-spec =
     tie.close
     (tie.spec
-    is-digit-requires
+    (λ c κs. search needs)
     sub-result
-    cast-result
+    (λ c. search needs)
     returns
     returns-2
     returns-3
-    cast-result-2
-    add-result
+    (λ c. search needs) (λ c. search needs)
     returns-4)

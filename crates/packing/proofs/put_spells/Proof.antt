@@ -37,9 +37,6 @@ array-copy-out-x c = omega arith
 mul-put-spell : tie.Need-mul-put-spell Inv-loop μ-loop
 mul-put-spell c = omega arith
 
-put-spell-requires : tie.Need-put-spell-requires Inv-loop μ-loop
-put-spell-requires c κs = search needs
-
 add-i : tie.Need-add-i Inv-loop μ-loop
 add-i c = omega arith
 
@@ -83,7 +80,7 @@ put-spells-spec =
     mul-x
     array-copy-out-x
     mul-put-spell
-    put-spell-requires
+    (λ c κs. search needs)
     add-i
     loop-less
     loop-again

@@ -17,17 +17,11 @@ Inv-loop words spells₀ i₀ spells i = (i ≤ 1024) × (spells ≡ parts 7 spe
 abbrev μ-loop : tie.MeasureT-loop
 μ-loop words spells₀ i₀ spells i = 1024 - i
 
-none-requires : tie.Need-none-requires Inv-loop μ-loop
-none-requires c κs = search needs
-
 loop-holds : tie.Need-loop-holds Inv-loop μ-loop
 loop-holds c = (omega arith, unfold parts in refl)
 
 mul-spell-at : tie.Need-mul-spell-at Inv-loop μ-loop
 mul-spell-at c = omega arith
-
-spell-at-requires : tie.Need-spell-at-requires Inv-loop μ-loop
-spell-at-requires c κs = search needs
 
 mul-spells : tie.Need-mul-spells Inv-loop μ-loop
 mul-spells c = omega arith
@@ -57,10 +51,10 @@ spells-at-spec =
     (tie.spec
     Inv-loop
     μ-loop
-    none-requires
+    (λ c κs. search needs)
     loop-holds
     mul-spell-at
-    spell-at-requires
+    (λ c κs. search needs)
     mul-spells
     array-set-from-spells
     add-i

@@ -5,9 +5,6 @@ use borrow.Author.Needs.{needs}
 use Rattle.packing.proofs.urgency_of.Statement.{statement}
 use Rattle.packing.proofs.urgency_of.Tie as tie
 
-reading-of-requires : tie.Need-reading-of-requires
-reading-of-requires c κs = search needs
-
 returns : tie.Need-returns
 unfolding urgencyOf
 returns c = simp (eq-eqb _ 1 (c .before .if1 .taken), c .reading-of .ensures)
@@ -20,13 +17,10 @@ returns-3 : tie.Need-returns-3
 unfolding urgencyOf
 returns-3 c = simp (ne-eqb _ 1 (c .before .before .if1 .left), eq-eqb _ 0 (c .before .if2 .left), lt-leb _ _ (c .if3 .taken))
 
-cast-t5 : tie.Need-cast-t5
-cast-t5 c = search needs
-
 returns-4 : tie.Need-returns-4
 unfolding urgencyOf
 returns-4 c = simp (ne-eqb _ 1 (c .before .before .if1 .left), eq-eqb _ 0 (c .before .if2 .left), le-leb _ _ (c .if3 .left))
 
 pub urgency-of-spec : {M : Type 1} → statement M
 urgency-of-spec =
-    tie.close (tie.spec reading-of-requires returns returns-2 returns-3 cast-t5 returns-4)
+    tie.close (tie.spec (λ c κs. search needs) returns returns-2 returns-3 (λ c. search needs) returns-4)

@@ -4,17 +4,8 @@ use borrow.Author.Needs.{needs}
 use Rattle.phayaklit.proofs.phayaklit_enter.Statement.{statement}
 use Rattle.phayaklit.proofs.phayaklit_enter.Tie as tie
 
-unpack-requires : tie.Need-unpack-requires
-unpack-requires c κs = search needs
-
-spell-in-requires : tie.Need-spell-in-requires
-spell-in-requires c κs = search needs
-
 enter-requires : tie.Need-enter-requires
 enter-requires c κs = held _ _ (c .before .unpack .ensures) (c .before .before .before .pre)
-
-put-back-requires : tie.Need-put-back-requires
-put-back-requires c κs = search needs
 
 returns : tie.Need-returns
 returns c =
@@ -24,4 +15,4 @@ returns c =
 
 pub phayaklit-enter-spec : {M : Type 1} → statement M
 phayaklit-enter-spec =
-    tie.close (tie.spec unpack-requires spell-in-requires enter-requires put-back-requires returns)
+    tie.close (tie.spec (λ c κs. search needs) (λ c κs. search needs) enter-requires (λ c κs. search needs) returns)

@@ -4,14 +4,8 @@ use borrow.Author.Needs.{needs}
 use Rattle.phayaklit.proofs.phayaklit_publish.Statement.{statement}
 use Rattle.phayaklit.proofs.phayaklit_publish.Tie as tie
 
-unpack-requires : tie.Need-unpack-requires
-unpack-requires c κs = search needs
-
 publish-requires : tie.Need-publish-requires
 publish-requires c κs = held _ _ (c .before .unpack .ensures) (c .before .before .pre)
-
-answered-requires : tie.Need-answered-requires
-answered-requires c κs = search needs
 
 returns : tie.Need-returns
 returns c =
@@ -21,4 +15,4 @@ returns c =
 
 pub phayaklit-publish-spec : {M : Type 1} → statement M
 phayaklit-publish-spec =
-    tie.close (tie.spec unpack-requires publish-requires answered-requires returns)
+    tie.close (tie.spec (λ c κs. search needs) publish-requires (λ c κs. search needs) returns)

@@ -4,14 +4,8 @@ use Rattle.phayaklit.proofs.Host.{laid}
 use Rattle.phayaklit.proofs.phayaklit_read.Statement.{statement}
 use Rattle.phayaklit.proofs.phayaklit_read.Tie as tie
 
-read-requires : tie.Need-read-requires
-read-requires c κs = search needs
-
-pack-requires : tie.Need-pack-requires
-pack-requires c κs = search needs
-
 returns : tie.Need-returns
 returns c = (rw (c .pack .ensures .back) (c .before .before .before .read .ensures), laid _ _ (c .pack .ensures))
 
 pub phayaklit-read-spec : {M : Type 1} → statement M
-phayaklit-read-spec = tie.close (tie.spec read-requires pack-requires returns)
+phayaklit-read-spec = tie.close (tie.spec (λ c κs. search needs) (λ c κs. search needs) returns)

@@ -4,14 +4,8 @@ use borrow.Author.Needs.{needs}
 use Rattle.phayaklit.proofs.phayaklit_take_back.Statement.{statement}
 use Rattle.phayaklit.proofs.phayaklit_take_back.Tie as tie
 
-unpack-requires : tie.Need-unpack-requires
-unpack-requires c κs = search needs
-
 take-back-requires : tie.Need-take-back-requires
 take-back-requires c κs = held _ _ (c .unpack .ensures) (c .before .before .pre)
-
-put-back-requires : tie.Need-put-back-requires
-put-back-requires c κs = search needs
 
 returns : tie.Need-returns
 returns c =
@@ -20,4 +14,4 @@ returns c =
 
 pub phayaklit-take-back-spec : {M : Type 1} → statement M
 phayaklit-take-back-spec =
-    tie.close (tie.spec unpack-requires take-back-requires put-back-requires returns)
+    tie.close (tie.spec (λ c κs. search needs) take-back-requires (λ c κs. search needs) returns)

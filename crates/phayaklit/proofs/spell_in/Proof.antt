@@ -3,11 +3,8 @@ use borrow.Author.Needs.{needs}
 use Rattle.phayaklit.proofs.spell_in.Statement.{statement}
 use Rattle.phayaklit.proofs.spell_in.Tie as tie
 
-urgency-of-requires : tie.Need-urgency-of-requires
-urgency-of-requires c κs = search needs
-
 returns : tie.Need-returns
 returns c = rw (c .urgency-of .ensures)
 
 pub spell-in-spec : {M : Type 1} → statement M
-spell-in-spec = tie.close (tie.spec urgency-of-requires returns)
+spell-in-spec = tie.close (tie.spec (λ c κs. search needs) returns)

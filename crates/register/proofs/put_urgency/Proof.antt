@@ -6,9 +6,6 @@ use Rattle.register.proofs.Backward.{put-ends, two-more}
 use Rattle.register.proofs.put_urgency.Statement.{statement}
 use Rattle.register.proofs.put_urgency.Tie as tie
 
-enum-known-u : tie.Need-enum-known-u
-enum-known-u c = search needs
-
 put-number-requires : tie.Need-put-number-requires
 put-number-requires c κs = tt
 
@@ -17,9 +14,6 @@ put-byte-requires c κs = tt
 
 put-byte-requires-2 : tie.Need-put-byte-requires-2
 put-byte-requires-2 c κs = tt
-
-enum-known-u-2 : tie.Need-enum-known-u-2
-enum-known-u-2 c = search needs
 
 bits-of-requires : tie.Need-bits-of-requires
 bits-of-requires c κs = tt
@@ -54,11 +48,11 @@ pub put-urgency-spec : {M : Type 1} → statement M
 put-urgency-spec =
     tie.close
     (tie.spec
-    enum-known-u
+    (λ c. search needs)
     put-number-requires
     put-byte-requires
     put-byte-requires-2
-    enum-known-u-2
+    (λ c. search needs)
     bits-of-requires
     put-bits-requires
     put-byte-requires-3

@@ -44,12 +44,6 @@ cast-line c = omega (arith, c .before .loop .inv .few)
 read-line-requires : tie.Need-read-line-requires Inv-loop μ-loop
 read-line-requires c κs = tt
 
-enum-known-s : tie.Need-enum-known-s Inv-loop μ-loop
-enum-known-s c = search needs
-
-enum-told : tie.Need-enum-told Inv-loop μ-loop
-enum-told c = search needs
-
 refuse-requires-2 : tie.Need-refuse-requires-2 Inv-loop μ-loop
 refuse-requires-2 c κs = tt
 
@@ -211,8 +205,7 @@ read-spec =
     add-line
     cast-line
     read-line-requires
-    enum-known-s
-    enum-told
+    (λ c. search needs) (λ c. search needs)
     refuse-requires-2
     returns-2
     refusal-of-requires

@@ -18,19 +18,10 @@ returns c =
     let args = c .before .before .args in
     sym (letter-past (args .text .now) (args .at) (omega arith))
 
-shared-slice-read-b : tie.Need-shared-slice-read-b
-shared-slice-read-b c = search needs
-
-is-letter-requires : tie.Need-is-letter-requires
-is-letter-requires c κs = search needs
-
 returns-2 : tie.Need-returns-2
 returns-2 c =
     let args = c .before .before .before .before .before .args in
     sym (letter-other (args .text .now) (args .at) (omega arith) (sym (c .before .is-letter .ensures) ∙ not-true (c .before .is-letter .result) (c .if2 .taken)))
-
-add-i : tie.Need-add-i
-add-i c = search needs
 
 -- past the letter
 lettered : (c : tie.Else2) →
@@ -39,9 +30,6 @@ lettered : (c : tie.Else2) →
 lettered c =
     let args = c .before .before .before .before .before .args in
     letter-at (args .text .now) (args .at) (omega arith) (sym (c .before .is-letter .ensures) ∙ not-false (c .before .is-letter .result) (c .if2 .left))
-
-is-at-requires : tie.Need-is-at-requires
-is-at-requires c κs = search needs
 
 returns-3 : tie.Need-returns-3
 returns-3 c =
@@ -76,11 +64,9 @@ read-letter-spec =
     tie.close
     (tie.spec
     returns
-    shared-slice-read-b
-    is-letter-requires
+    (λ c. search needs) (λ c κs. search needs)
     returns-2
-    add-i
-    is-at-requires
+    (λ c. search needs) (λ c κs. search needs)
     returns-3
     cast-t10
     add-t5

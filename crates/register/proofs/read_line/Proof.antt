@@ -42,84 +42,30 @@ read6 : (c : tie.After-known-told6) →
     readValue (c .before .before .before .before .before .letter .given .0 .0) (drop (c .before .before .before .before .before .letter .given .0 .1 .0) (a .text .now)) ≡ found (c .before .urgency .given .0 .0) (drop (c .before .urgency .given .0 .1 .0) (a .text .now))
 read6 c = sym (c .before .before .before .read-value .ensures .says) ∙ ap (kindOf (c .before .before .before .before .before .before .before .before .before .before .before .before .before .before .before .before .before .before .before .before .before .before .before .before .before .args .text .now)) (c .before .urgency .given .1)
 
-read-number-requires : tie.Need-read-number-requires
-read-number-requires c κs = search needs
-
-enum-known-number : tie.Need-enum-known-number
-enum-known-number c = search needs
-
-enum-told : tie.Need-enum-told
-enum-told c = search needs
-
 returns : tie.Need-returns
 unfolding readLine
 returns c =
     reads-as unreadable (rw (sym (c .before .before .read-number .ensures .says) ∙ ap (fieldOf (c .before .before .before .before .args .text .now)) (c .enum-told .given .1))) refl refl
-
-read-number-requires-2 : tie.Need-read-number-requires-2
-read-number-requires-2 c κs = search needs
-
-enum-known-candidate : tie.Need-enum-known-candidate
-enum-known-candidate c = search needs
-
-enum-told-2 : tie.Need-enum-told-2
-enum-told-2 c = search needs
 
 returns-2 : tie.Need-returns-2
 unfolding readLine
 returns-2 c =
     reads-as unreadable (rw (read1 (c .before .before .before), sym (c .before .before .read-number2 .ensures .says) ∙ ap (fieldOf (c .before .before .before .before .before .before .before .before .args .text .now)) (c .enum-told2 .given .1))) refl refl
 
-read-number-requires-3 : tie.Need-read-number-requires-3
-read-number-requires-3 c κs = search needs
-
-enum-known-first : tie.Need-enum-known-first
-enum-known-first c = search needs
-
-enum-told-3 : tie.Need-enum-told-3
-enum-told-3 c = search needs
-
 returns-3 : tie.Need-returns-3
 unfolding readLine
 returns-3 c =
     reads-as unreadable (rw (read1 (c .before .before .before .before .before .before .before), read2 (c .before .before .before), sym (c .before .before .read-number3 .ensures .says) ∙ ap (fieldOf (c .before .before .before .before .before .before .before .before .before .before .before .before .args .text .now)) (c .enum-told3 .given .1))) refl refl
-
-read-number-requires-4 : tie.Need-read-number-requires-4
-read-number-requires-4 c κs = search needs
-
-enum-known-last : tie.Need-enum-known-last
-enum-known-last c = search needs
-
-enum-told-4 : tie.Need-enum-told-4
-enum-told-4 c = search needs
 
 returns-4 : tie.Need-returns-4
 unfolding readLine
 returns-4 c =
     reads-as unreadable (rw (read1 (c .before .before .before .before .before .before .before .before .before .before .before), read2 (c .before .before .before .before .before .before .before), read3 (c .before .before .before), sym (c .before .before .read-number4 .ensures .says) ∙ ap (fieldOf (c .before .before .before .before .before .before .before .before .before .before .before .before .before .before .before .before .args .text .now)) (c .enum-told4 .given .1))) refl refl
 
-read-letter-requires : tie.Need-read-letter-requires
-read-letter-requires c κs = search needs
-
-enum-known-letter : tie.Need-enum-known-letter
-enum-known-letter c = search needs
-
-enum-told-5 : tie.Need-enum-told-5
-enum-told-5 c = search needs
-
 returns-5 : tie.Need-returns-5
 unfolding readLine readUrgency
 returns-5 c =
     reads-as unreadable (rw (read1 (c .before .before .before .before .before .before .before .before .before .before .before .before .before .before .before), read2 (c .before .before .before .before .before .before .before .before .before .before .before), read3 (c .before .before .before .before .before .before .before), read4 (c .before .before .before), sym (c .before .before .read-letter .ensures) ∙ ap (fieldOf (c .before .before .before .before .before .before .before .before .before .before .before .before .before .before .before .before .before .before .before .before .args .text .now)) (c .enum-told5 .given .1))) refl refl
-
-read-value-requires : tie.Need-read-value-requires
-read-value-requires c κs = search needs
-
-enum-known-urgency : tie.Need-enum-known-urgency
-enum-known-urgency c = search needs
-
-enum-told-6 : tie.Need-enum-told-6
-enum-told-6 c = search needs
 
 returns-6 : tie.Need-returns-6
 unfolding readLine readUrgency
@@ -136,28 +82,16 @@ pub read-line-spec : {M : Type 1} → statement M
 read-line-spec =
     tie.close
     (tie.spec
-    read-number-requires
-    enum-known-number
-    enum-told
+    (λ c κs. search needs) (λ c. search needs) (λ c. search needs)
     returns
-    read-number-requires-2
-    enum-known-candidate
-    enum-told-2
+    (λ c κs. search needs) (λ c. search needs) (λ c. search needs)
     returns-2
-    read-number-requires-3
-    enum-known-first
-    enum-told-3
+    (λ c κs. search needs) (λ c. search needs) (λ c. search needs)
     returns-3
-    read-number-requires-4
-    enum-known-last
-    enum-told-4
+    (λ c κs. search needs) (λ c. search needs) (λ c. search needs)
     returns-4
-    read-letter-requires
-    enum-known-letter
-    enum-told-5
+    (λ c κs. search needs) (λ c. search needs) (λ c. search needs)
     returns-5
-    read-value-requires
-    enum-known-urgency
-    enum-told-6
+    (λ c κs. search needs) (λ c. search needs) (λ c. search needs)
     returns-6
     returns-7)

@@ -13,15 +13,6 @@ use borrow.Author.Needs.{needs}
 use Rattle.register.proofs.read_value.Statement.{statement}
 use Rattle.register.proofs.read_value.Tie as tie
 
-read-number-requires : tie.Need-read-number-requires
-read-number-requires c κs = search needs
-
-enum-known-g : tie.Need-enum-known-g
-enum-known-g c = search needs
-
-enum-told : tie.Need-enum-told
-enum-told c = search needs
-
 returns : tie.Need-returns
 unfolding readValue
 returns c =
@@ -39,24 +30,12 @@ returns-2 c =
     (rw (eq-eqb _ _ (call .before .if1 .taken), sym (call .read-number .ensures .says) ∙ ap (fieldOf (a .text .now)) (v .1)))
     (ap (λ (n : ℕ). Value (Grade (v .0 .0)) n) (field-next (call .read-number .ensures) (v .1))) refl
 
-read-bits-requires : tie.Need-read-bits-requires
-read-bits-requires c κs = search needs
-
-enum-known-n : tie.Need-enum-known-n
-enum-known-n c = search needs
-
-enum-told-2 : tie.Need-enum-told-2
-enum-told-2 c = search needs
-
 returns-3 : tie.Need-returns-3
 unfolding readValue
 returns-3 c =
     let call = c .before .before in
     let a = c .before .before .before .before .before .args in
     reads-as unreadable (rw (ne-eqb _ _ (call .before .if1 .left), sym (call .read-bits .ensures .says) ∙ ap (bitsOf (a .text .now)) (c .enum-told2 .given .1))) refl refl
-
-reading-of-requires : tie.Need-reading-of-requires
-reading-of-requires c κs = search needs
 
 returns-4 : tie.Need-returns-4
 unfolding readValue
@@ -72,14 +51,10 @@ pub read-value-spec : {M : Type 1} → statement M
 read-value-spec =
     tie.close
     (tie.spec
-    read-number-requires
-    enum-known-g
-    enum-told
+    (λ c κs. search needs) (λ c. search needs) (λ c. search needs)
     returns
     returns-2
-    read-bits-requires
-    enum-known-n
-    enum-told-2
+    (λ c κs. search needs) (λ c. search needs) (λ c. search needs)
     returns-3
-    reading-of-requires
+    (λ c κs. search needs)
     returns-4)

@@ -4,12 +4,9 @@ use Rattle.register.specs.Answers.{readingOf}
 use Rattle.register.proofs.refuse.Statement.{statement}
 use Rattle.register.proofs.refuse.Tie as tie
 
-no-spell-requires : tie.Need-no-spell-requires
-no-spell-requires c κs = search needs
-
 returns : tie.Need-returns
 unfolding readingOf
 returns c = rw (c .no-spell .ensures)
 
 pub refuse-spec : {M : Type 1} → statement M
-refuse-spec = tie.close (tie.spec no-spell-requires returns)
+refuse-spec = tie.close (tie.spec (λ c κs. search needs) returns)

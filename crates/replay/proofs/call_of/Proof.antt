@@ -5,12 +5,6 @@ use borrow.Author.Needs.{needs}
 use Rattle.replay.proofs.call_of.Statement.{statement}
 use Rattle.replay.proofs.call_of.Tie as tie
 
-spell-of-requires : tie.Need-spell-of-requires
-spell-of-requires c κs = search needs
-
-spell-of-requires-2 : tie.Need-spell-of-requires-2
-spell-of-requires-2 c κs = search needs
-
 returns : tie.Need-returns
 unfolding callOf
 returns c = simp (c .before .match .keys1, ← c .spell-of .ensures)
@@ -71,8 +65,7 @@ pub call-of-spec : {M : Type 1} → statement M
 call-of-spec =
     tie.close
     (tie.spec
-    spell-of-requires
-    spell-of-requires-2
+    (λ c κs. search needs) (λ c κs. search needs)
     returns
     returns-2
     returns-3

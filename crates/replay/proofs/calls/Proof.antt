@@ -38,41 +38,11 @@ whole : (c : tie.In-loop Inv-loop μ-loop)
     → (10 * c .before .loop .made + 10 ≤ length (c .before .before .before .before .before .before .before .before .args .codes .now)) × (4 * c .before .loop .made + 4 ≤ length (c .before .before .before .before .before .before .before .before .args .results .now))
 whole c = whole-room _ _ _ (c .before .loop .made) (c .before .before .whole-of .ensures) (c .loop-test .taken)
 
-whole-of-requires : tie.Need-whole-of-requires Inv-loop μ-loop
-whole-of-requires c κs = search needs
-
 loop-holds : tie.Need-loop-holds Inv-loop μ-loop
 loop-holds c = starts _ _ _ _ _ _ _ _ (c .before .before .before .before .before .before .pre)
 
 code-at-requires : tie.Need-code-at-requires Inv-loop μ-loop
 code-at-requires c κs = whole c .0
-
-sub-next-of : tie.Need-sub-next-of Inv-loop μ-loop
-sub-next-of c = search needs
-
-sub-next-of-2 : tie.Need-sub-next-of-2 Inv-loop μ-loop
-sub-next-of-2 c = search needs
-
-sub-next-of-3 : tie.Need-sub-next-of-3 Inv-loop μ-loop
-sub-next-of-3 c = search needs
-
-next-of-requires : tie.Need-next-of-requires Inv-loop μ-loop
-next-of-requires c κs = search needs
-
-enum-known-call : tie.Need-enum-known-call Inv-loop μ-loop
-enum-known-call c = search needs
-
-enum-told : tie.Need-enum-told Inv-loop μ-loop
-enum-told c = search needs
-
-same-length : tie.Need-same-length Inv-loop μ-loop
-same-length c = search needs
-
-same-length-2 : tie.Need-same-length-2 Inv-loop μ-loop
-same-length-2 c = search needs
-
-same-length-3 : tie.Need-same-length-3 Inv-loop μ-loop
-same-length-3 c = search needs
 
 returns : tie.Need-returns Inv-loop μ-loop
 returns c =
@@ -123,9 +93,6 @@ part-step-start-3 c = omega (arith, fits (c .before .before .before .before .bef
 part-step-end-3 : tie.Need-part-step-end-3 Inv-loop μ-loop
 part-step-end-3 c = omega (arith, fits (c .before .before .before .before .before .before), c .before .before .before .before .before .before .before .before .before .before .before .before .before .before .before .before .before .before .before .good)
 
-step-requires : tie.Need-step-requires Inv-loop μ-loop
-step-requires c κs = search needs
-
 tell-requires : tie.Need-tell-requires Inv-loop μ-loop
 tell-requires c κs = omega (arith, whole (c .before .before .before .before .before .before .before .before .before .before .before .before .before .before .before .before .before .before), c .before .before .before .before .before .before .before .before .before .before .before .before .before .before .before .before .before .before .before .loop .inv .results-long)
 
@@ -158,15 +125,6 @@ loop-again c =
     (omega arith) (omega arith) (omega arith)
     (s .step .kept .1 .1 .1 .1 .0) (s .step .kept .1 .1 .1 .1 .1 .0) (s .step .ensures) (c .before .before .before .before .before .before .tell .ensures)
 
-same-length-4 : tie.Need-same-length-4 Inv-loop μ-loop
-same-length-4 c = search needs
-
-same-length-5 : tie.Need-same-length-5 Inv-loop μ-loop
-same-length-5 c = search needs
-
-same-length-6 : tie.Need-same-length-6 Inv-loop μ-loop
-same-length-6 c = search needs
-
 returns-2 : tie.Need-returns-2 Inv-loop μ-loop
 returns-2 c =
     rw (← c .before .before .whole-of .ensures) (ended-all _ _ _ _ _ _ _ _ _ _ _ _ _ _ _ _ _ (c .before .loop .inv) (c .loop-test .left))
@@ -177,18 +135,11 @@ calls-spec =
     (tie.spec
     Inv-loop
     μ-loop
-    whole-of-requires
+    (λ c κs. search needs)
     loop-holds
     code-at-requires
-    sub-next-of
-    sub-next-of-2
-    sub-next-of-3
-    next-of-requires
-    enum-known-call
-    enum-told
-    same-length
-    same-length-2
-    same-length-3
+    (λ c. search needs) (λ c. search needs) (λ c. search needs) (λ c κs. search needs) (λ c. search needs)
+    (λ c. search needs) (λ c. search needs) (λ c. search needs) (λ c. search needs)
     returns
     add-step
     mul-step
@@ -204,7 +155,7 @@ calls-spec =
     sub-step-3
     part-step-start-3
     part-step-end-3
-    step-requires
+    (λ c κs. search needs)
     tell-requires
     add-made
     add-d
@@ -212,7 +163,5 @@ calls-spec =
     add-t
     loop-less
     loop-again
-    same-length-4
-    same-length-5
-    same-length-6
+    (λ c. search needs) (λ c. search needs) (λ c. search needs)
     returns-2)

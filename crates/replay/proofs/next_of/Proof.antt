@@ -17,9 +17,6 @@ returns-3 : tie.Need-returns-3
 unfolding nextOf
 returns-3 c = simp (le-leb _ _ (c .before .before .before .before .if1 .left), le-leb _ _ (c .before .before .if2 .left), lt-leb _ _ (c .if3 .taken))
 
-call-of-requires : tie.Need-call-of-requires
-call-of-requires c κs = search needs
-
 returns-4 : tie.Need-returns-4
 unfolding nextOf
 returns-4 c =
@@ -27,4 +24,4 @@ returns-4 c =
     simp (le-leb _ _ (e .before .before .before .before .if1 .left), le-leb _ _ (e .before .before .if2 .left), le-leb _ _ (e .if3 .left)) (c .call-of .ensures)
 
 pub next-of-spec : {M : Type 1} → statement M
-next-of-spec = tie.close (tie.spec returns returns-2 returns-3 call-of-requires returns-4)
+next-of-spec = tie.close (tie.spec returns returns-2 returns-3 (λ c κs. search needs) returns-4)

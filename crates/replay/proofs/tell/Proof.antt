@@ -7,47 +7,14 @@ use borrow.Author.Needs.{needs}
 use Rattle.replay.proofs.tell.Statement.{statement}
 use Rattle.replay.proofs.tell.Tie as tie
 
-mul-at : tie.Need-mul-at
-mul-at c = search needs
-
-cast-results : tie.Need-cast-results
-cast-results c = search needs
-
-mul-results : tie.Need-mul-results
-mul-results c = search needs
-
-slice-write-results : tie.Need-slice-write-results
-slice-write-results c = search needs
-
-add-results : tie.Need-add-results
-add-results c = search needs
-
-mul-results-2 : tie.Need-mul-results-2
-mul-results-2 c = search needs
-
 slice-write-results-2 : tie.Need-slice-write-results-2
 slice-write-results-2 c = simp length-set (omega arith)
-
-add-results-2 : tie.Need-add-results-2
-add-results-2 c = search needs
-
-mul-results-3 : tie.Need-mul-results-3
-mul-results-3 c = search needs
 
 slice-write-results-3 : tie.Need-slice-write-results-3
 slice-write-results-3 c = simp length-set (omega arith)
 
-add-results-3 : tie.Need-add-results-3
-add-results-3 c = search needs
-
-mul-results-4 : tie.Need-mul-results-4
-mul-results-4 c = search needs
-
 slice-write-results-4 : tie.Need-slice-write-results-4
 slice-write-results-4 c = simp length-set (omega arith)
-
-same-length : tie.Need-same-length
-same-length c = search needs
 
 returns : tie.Need-returns
 returns c =
@@ -58,18 +25,12 @@ pub tell-spec : {M : Type 1} → statement M
 tell-spec =
     tie.close
     (tie.spec
-    mul-at
-    cast-results
-    mul-results
-    slice-write-results
-    add-results
-    mul-results-2
+    (λ c. search needs) (λ c. search needs) (λ c. search needs) (λ c. search needs) (λ c. search needs)
+    (λ c. search needs)
     slice-write-results-2
-    add-results-2
-    mul-results-3
+    (λ c. search needs) (λ c. search needs)
     slice-write-results-3
-    add-results-3
-    mul-results-4
+    (λ c. search needs) (λ c. search needs)
     slice-write-results-4
-    same-length
+    (λ c. search needs)
     returns)

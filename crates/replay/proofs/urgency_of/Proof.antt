@@ -4,21 +4,12 @@ use borrow.Author.Needs.{needs}
 use Rattle.replay.proofs.urgency_of.Statement.{statement}
 use Rattle.replay.proofs.urgency_of.Tie as tie
 
-low-requires : tie.Need-low-requires
-low-requires c κs = search needs
-
 returns : tie.Need-returns
 returns c = simp (eq-eqb _ 0 (c .before .if1 .taken), c .low .ensures)
-
-cast-reading-of : tie.Need-cast-reading-of
-cast-reading-of c = search needs
-
-reading-of-requires : tie.Need-reading-of-requires
-reading-of-requires c κs = search needs
 
 returns-2 : tie.Need-returns-2
 returns-2 c = simp (ne-eqb _ 0 (c .before .if1 .left), c .reading-of .ensures)
 
 pub urgency-of-spec : {M : Type 1} → statement M
 urgency-of-spec =
-    tie.close (tie.spec low-requires returns cast-reading-of reading-of-requires returns-2)
+    tie.close (tie.spec (λ c κs. search needs) returns (λ c. search needs) (λ c κs. search needs) returns-2)

@@ -26,12 +26,6 @@ known a =
     let t = tells a (pre .state) (pre .shows) in
     (t .few, t .comparisons-few)
 
-slice-aggregate-day : tie.Need-slice-aggregate-day
-slice-aggregate-day c = search needs
-
-day-requires : tie.Need-day-requires
-day-requires c κs = search needs
-
 array-share-prefix-numbers : tie.Need-array-share-prefix-numbers
 array-share-prefix-numbers c = omega (arith, known (c .before .before) .0)
 
@@ -47,9 +41,6 @@ sized c = search needs
 slice-aggregate-put-numbers : tie.Need-slice-aggregate-put-numbers
 slice-aggregate-put-numbers c = sym (full c)
 
-put-numbers-requires : tie.Need-put-numbers-requires
-put-numbers-requires c κs = search needs
-
 returns : tie.Need-returns
 returns c =
     let n = c .before .before in
@@ -60,17 +51,8 @@ returns c =
 cast-put-number : tie.Need-cast-put-number
 cast-put-number c = omega (arith, known (c .before .before .before .before .before .before))
 
-put-number-requires : tie.Need-put-number-requires
-put-number-requires c κs = search needs
-
 cast-put-number-2 : tie.Need-cast-put-number-2
 cast-put-number-2 c = omega (arith, known (c .before .before .before .before .before .before .before .before))
-
-put-number-requires-2 : tie.Need-put-number-requires-2
-put-number-requires-2 c κs = search needs
-
-put-number-requires-3 : tie.Need-put-number-requires-3
-put-number-requires-3 c κs = search needs
 
 returns-2 : tie.Need-returns-2
 returns-2 c =
@@ -88,15 +70,13 @@ pub day-line-spec : {M : Type 1} → statement M
 day-line-spec =
     tie.close
     (tie.spec
-    slice-aggregate-day
-    day-requires
+    (λ c. search needs) (λ c κs. search needs)
     array-share-prefix-numbers
     slice-aggregate-put-numbers
-    put-numbers-requires
+    (λ c κs. search needs)
     returns
     cast-put-number
-    put-number-requires
+    (λ c κs. search needs)
     cast-put-number-2
-    put-number-requires-2
-    put-number-requires-3
+    (λ c κs. search needs) (λ c κs. search needs)
     returns-2)

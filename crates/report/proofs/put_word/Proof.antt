@@ -16,18 +16,6 @@ abbrev μ-loop : tie.MeasureT-loop
 loop-holds : tie.Need-loop-holds Inv-loop μ-loop
 loop-holds c = tail-none _ _ _ (c .before .before .pre .0) (c .before .before .pre .1)
 
-sub-i : tie.Need-sub-i Inv-loop μ-loop
-sub-i c = search needs
-
-shared-slice-read-put-byte : tie.Need-shared-slice-read-put-byte Inv-loop μ-loop
-shared-slice-read-put-byte c = search needs
-
-put-byte-requires : tie.Need-put-byte-requires Inv-loop μ-loop
-put-byte-requires c κs = search needs
-
-loop-less : tie.Need-loop-less Inv-loop μ-loop
-loop-less c = search needs
-
 loop-again : tie.Need-loop-again Inv-loop μ-loop
 loop-again c =
     let p = c .before .before in
@@ -35,9 +23,6 @@ loop-again c =
     let l = t .before .loop in
     let s = t .before .before .before .before in
     tail-one (s .args .word .now) (s .args .buf .now) (s .args .at) (s .pre .0) (s .pre .1) _ _ (l .place) (l .i) _ (l .inv) (t .loop-test .taken) (p .put-byte .ensures)
-
-same-length : tie.Need-same-length Inv-loop μ-loop
-same-length c = search needs
 
 returns : tie.Need-returns Inv-loop μ-loop
 returns c =
@@ -53,10 +38,7 @@ put-word-spec =
     Inv-loop
     μ-loop
     loop-holds
-    sub-i
-    shared-slice-read-put-byte
-    put-byte-requires
-    loop-less
+    (λ c. search needs) (λ c. search needs) (λ c κs. search needs) (λ c. search needs)
     loop-again
-    same-length
+    (λ c. search needs)
     returns)

@@ -17,12 +17,6 @@ slice-aggregate-answer-2 c =
     let start = c .before .before .before .before .before in
     sym (length-take-le (start .args .m) (start .args .payload .now) (omega arith))
 
-answer-requires : tie.Need-answer-requires
-answer-requires c κs = search needs
-
-returns : tie.Need-returns
-returns c = search needs
-
 pub reply-spec : {M : Type 1} → statement M
 reply-spec =
-    tie.close (tie.spec slice-aggregate-answer slice-aggregate-answer-2 answer-requires returns)
+    tie.close (tie.spec slice-aggregate-answer slice-aggregate-answer-2 (λ c κs. search needs) (λ c. search needs))

@@ -4,14 +4,8 @@ use Rattle.service.proofs.Editing.{amend-changed}
 use Rattle.service.proofs.amend.Statement.{statement}
 use Rattle.service.proofs.amend.Tie as tie
 
-amend-requires : tie.Need-amend-requires
-amend-requires c κs = search needs
-
-edited-requires : tie.Need-edited-requires
-edited-requires c κs = search needs
-
 returns : tie.Need-returns
 returns c = rw (c .edited .ensures) (amend-changed _ _ _ (c .before .amend .ensures))
 
 pub amend-spec : {M : Type 1} → statement M
-amend-spec = tie.close (tie.spec amend-requires edited-requires returns)
+amend-spec = tie.close (tie.spec (λ c κs. search needs) (λ c κs. search needs) returns)

@@ -7,14 +7,8 @@ use Rattle.service.proofs.day.Tie as tie
 day-requires : tie.Need-day-requires
 day-requires c κs = published-built _ (c .before .before .pre)
 
-listed-requires : tie.Need-listed-requires
-listed-requires c κs = search needs
-
-same-length : tie.Need-same-length
-same-length c = search needs
-
 returns : tie.Need-returns
 returns c = λ days. day-asked _ days _ _ _ (c .listed .ensures) _ (c .before .before .before .before .before .before .args .d) (c .before .before .before .day .ensures)
 
 pub day-spec : {M : Type 1} → statement M
-day-spec = tie.close (tie.spec day-requires listed-requires same-length returns)
+day-spec = tie.close (tie.spec day-requires (λ c κs. search needs) (λ c. search needs) returns)

@@ -7,14 +7,8 @@ use Rattle.service.proofs.days.Tie as tie
 days-requires : tie.Need-days-requires
 days-requires c κs = published-built _ (c .before .before .before .pre)
 
-listed-requires : tie.Need-listed-requires
-listed-requires c κs = search needs
-
-same-length : tie.Need-same-length
-same-length c = search needs
-
 returns : tie.Need-returns
 returns c = days-asked _ _ _ _ _ (c .listed .ensures) _ (c .before .before .before .days .ensures)
 
 pub days-spec : {M : Type 1} → statement M
-days-spec = tie.close (tie.spec days-requires listed-requires same-length returns)
+days-spec = tie.close (tie.spec days-requires (λ c κs. search needs) (λ c. search needs) returns)

@@ -4,14 +4,8 @@ use Rattle.service.proofs.Editing.{enter-changed}
 use Rattle.service.proofs.enter.Statement.{statement}
 use Rattle.service.proofs.enter.Tie as tie
 
-enter-requires : tie.Need-enter-requires
-enter-requires c κs = search needs
-
-edited-requires : tie.Need-edited-requires
-edited-requires c κs = search needs
-
 returns : tie.Need-returns
 returns c = rw (c .edited .ensures) (enter-changed _ _ _ (c .before .enter .ensures))
 
 pub enter-spec : {M : Type 1} → statement M
-enter-spec = tie.close (tie.spec enter-requires edited-requires returns)
+enter-spec = tie.close (tie.spec (λ c κs. search needs) (λ c κs. search needs) returns)

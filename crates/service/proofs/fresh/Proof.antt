@@ -4,14 +4,8 @@ use Rattle.service.proofs.Beginning.{represents-fresh}
 use Rattle.service.proofs.fresh.Statement.{statement}
 use Rattle.service.proofs.fresh.Tie as tie
 
-no-rows-requires : tie.Need-no-rows-requires
-no-rows-requires c κs = search needs
-
-fresh-requires : tie.Need-fresh-requires
-fresh-requires c κs = search needs
-
 returns : tie.Need-returns
 returns c = represents-fresh _ _ (c .fresh .ensures) (c .before .no-rows .ensures)
 
 pub fresh-spec : {M : Type 1} → statement M
-fresh-spec = tie.close (tie.spec no-rows-requires fresh-requires returns)
+fresh-spec = tie.close (tie.spec (λ c κs. search needs) (λ c κs. search needs) returns)

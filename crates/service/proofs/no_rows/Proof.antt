@@ -4,11 +4,8 @@ use Rattle.service.proofs.Beginning.{no-rows}
 use Rattle.service.proofs.no_rows.Statement.{statement}
 use Rattle.service.proofs.no_rows.Tie as tie
 
-build-requires : tie.Need-build-requires
-build-requires c κs = search needs
-
 returns : tie.Need-returns
 returns c = no-rows _ _ _ _ (c .build .ensures)
 
 pub no-rows-spec : {M : Type 1} → statement M
-no-rows-spec = tie.close (tie.spec build-requires returns)
+no-rows-spec = tie.close (tie.spec (λ c κs. search needs) returns)

@@ -4,15 +4,6 @@ use Rattle.service.proofs.Beginning.{published}
 use Rattle.service.proofs.publish.Statement.{statement}
 use Rattle.service.proofs.publish.Tie as tie
 
-columns-requires : tie.Need-columns-requires
-columns-requires c κs = search needs
-
-build-requires : tie.Need-build-requires
-build-requires c κs = search needs
-
-done-requires : tie.Need-done-requires
-done-requires c κs = search needs
-
 returns : tie.Need-returns
 returns c =
     let k = c .before .before .before .before .before .before in
@@ -20,4 +11,4 @@ returns c =
     rw (c .done .ensures) (published _ (start .pre) _ _ _ _ _ _ _ (k .columns .ensures) _ _ _ (c .before .build .ensures))
 
 pub publish-spec : {M : Type 1} → statement M
-publish-spec = tie.close (tie.spec columns-requires build-requires done-requires returns)
+publish-spec = tie.close (tie.spec (λ c κs. search needs) (λ c κs. search needs) (λ c κs. search needs) returns)

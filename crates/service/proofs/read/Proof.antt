@@ -4,14 +4,8 @@ use Rattle.service.proofs.Beginning.{begins}
 use Rattle.service.proofs.read.Statement.{statement}
 use Rattle.service.proofs.read.Tie as tie
 
-no-rows-requires : tie.Need-no-rows-requires
-no-rows-requires c κs = search needs
-
-read-requires : tie.Need-read-requires
-read-requires c κs = search needs
-
 returns : tie.Need-returns
 returns c = begins _ _ _ (c .before .read .ensures) (c .before .before .no-rows .ensures)
 
 pub read-spec : {M : Type 1} → statement M
-read-spec = tie.close (tie.spec no-rows-requires read-requires returns)
+read-spec = tie.close (tie.spec (λ c κs. search needs) (λ c κs. search needs) returns)

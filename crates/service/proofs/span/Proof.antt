@@ -7,14 +7,8 @@ use Rattle.service.proofs.span.Tie as tie
 span-requires : tie.Need-span-requires
 span-requires c κs = published-built _ (c .before .before .pre)
 
-listed-requires : tie.Need-listed-requires
-listed-requires c κs = search needs
-
-same-length : tie.Need-same-length
-same-length c = search needs
-
 returns : tie.Need-returns
 returns c = λ days. span-asked _ days _ _ _ (c .listed .ensures) _ (c .before .before .before .before .before .before .args .a) (c .before .before .before .before .before .before .args .b) (c .before .before .before .span .ensures)
 
 pub span-spec : {M : Type 1} → statement M
-span-spec = tie.close (tie.spec span-requires listed-requires same-length returns)
+span-spec = tie.close (tie.spec span-requires (λ c κs. search needs) (λ c. search needs) returns)

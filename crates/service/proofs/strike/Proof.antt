@@ -4,14 +4,8 @@ use Rattle.service.proofs.Editing.{strike-changed}
 use Rattle.service.proofs.strike.Statement.{statement}
 use Rattle.service.proofs.strike.Tie as tie
 
-strike-requires : tie.Need-strike-requires
-strike-requires c κs = search needs
-
-edited-requires : tie.Need-edited-requires
-edited-requires c κs = search needs
-
 returns : tie.Need-returns
 returns c = rw (c .edited .ensures) (strike-changed _ _ _ (c .before .strike .ensures))
 
 pub strike-spec : {M : Type 1} → statement M
-strike-spec = tie.close (tie.spec strike-requires edited-requires returns)
+strike-spec = tie.close (tie.spec (λ c κs. search needs) (λ c κs. search needs) returns)

@@ -4,14 +4,8 @@ use Rattle.service.proofs.Editing.{back-changed}
 use Rattle.service.proofs.take_back.Statement.{statement}
 use Rattle.service.proofs.take_back.Tie as tie
 
-take-back-requires : tie.Need-take-back-requires
-take-back-requires c κs = search needs
-
-edited-requires : tie.Need-edited-requires
-edited-requires c κs = search needs
-
 returns : tie.Need-returns
 returns c = rw (c .edited .ensures) (back-changed _ _ (c .before .take-back .ensures))
 
 pub take-back-spec : {M : Type 1} → statement M
-take-back-spec = tie.close (tie.spec take-back-requires edited-requires returns)
+take-back-spec = tie.close (tie.spec (λ c κs. search needs) (λ c κs. search needs) returns)

@@ -19,8 +19,5 @@ returns c =
 float-from-bits-result : tie.Need-float-from-bits-result
 float-from-bits-result c = let n = c .before .args .n in rw (nanBits-above binary32 n ∙ le-ltb _ _ (c .if1 .left)) tt
 
-returns-2 : tie.Need-returns-2
-returns-2 c = search needs
-
 pub reading-of-spec : {M : Type 1} → statement M
-reading-of-spec = tie.close (tie.spec returns float-from-bits-result returns-2)
+reading-of-spec = tie.close (tie.spec returns float-from-bits-result (λ c. search needs))

@@ -26,16 +26,10 @@ returns c = simp (eq-eqb _ _ (c .if1 .taken))
 returns-2 : tie.Need-returns-2
 returns-2 c = simp (numbered (c .before .before), eq-eqb _ _ (c .if2 .taken))
 
-day-ok-requires : tie.Need-day-ok-requires
-day-ok-requires c κs = search needs
-
 returns-3 : tie.Need-returns-3
 returns-3 c =
     let e2 = c .before .before in
     simp (numbered (e2 .before .before), named e2, sym (c .before .day-ok .ensures), not-true (c .before .day-ok .result) (c .if3 .taken))
-
-day-ok-requires-2 : tie.Need-day-ok-requires-2
-day-ok-requires-2 c κs = search needs
 
 returns-4 : tie.Need-returns-4
 returns-4 c =
@@ -49,9 +43,6 @@ returns-5 c =
     let e3 = e4 .before .before in
     let e2 = e3 .before .before in
     simp (numbered (e2 .before .before), named e2, first-in e3, last-in e4, lt-ltb _ _ (c .if5 .taken))
-
-urgency-ok-requires : tie.Need-urgency-ok-requires
-urgency-ok-requires c κs = search needs
 
 returns-6 : tie.Need-returns-6
 returns-6 c =
@@ -75,11 +66,11 @@ refusal-of-spec =
     (tie.spec
     returns
     returns-2
-    day-ok-requires
+    (λ c κs. search needs)
     returns-3
-    day-ok-requires-2
+    (λ c κs. search needs)
     returns-4
     returns-5
-    urgency-ok-requires
+    (λ c κs. search needs)
     returns-6
     returns-7)

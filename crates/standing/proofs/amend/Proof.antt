@@ -41,18 +41,6 @@ there c =
     let st = start .args .t1 in
     place-in (listOf st) (st .count) (start .args .s .number) (found .find .result) (list-length st (start .pre)) (found .find .ensures) (amends (listOf st) (start .args .s) (passed c) .there)
 
-find-requires : tie.Need-find-requires
-find-requires c κs = search needs
-
-refusal-of-requires : tie.Need-refusal-of-requires
-refusal-of-requires c κs = search needs
-
-refusal-if-requires : tie.Need-refusal-if-requires
-refusal-if-requires c κs = search needs
-
-first-of-requires : tie.Need-first-of-requires
-first-of-requires c κs = search needs
-
 returns : tie.Need-returns
 returns c =
     let start = c .before .before .before .before .before in
@@ -73,9 +61,6 @@ inserted-requires c κs =
     let e1 = c .before .before in
     let found = e1 .before .before .before .before in
     amend-room (found .before .args .t1) (found .find .result) (c .removed-at .result) (found .before .pre) (there e1) (c .removed-at .ensures)
-
-pushed-requires : tie.Need-pushed-requires
-pushed-requires c κs = search needs
 
 places : (c : tie.After-pushed) → length (c .pushed .result .spells) ≡ 1024
 places c = search (unmapped, needs)
@@ -106,14 +91,11 @@ pub amend-spec : {M : Type 1} → statement M
 amend-spec =
     tie.close
     (tie.spec
-    find-requires
-    refusal-of-requires
-    refusal-if-requires
-    first-of-requires
+    (λ c κs. search needs) (λ c κs. search needs) (λ c κs. search needs) (λ c κs. search needs)
     returns
     mul-old
     element-copy-out-old
     removed-at-requires
     inserted-requires
-    pushed-requires
+    (λ c κs. search needs)
     returns-2)

@@ -38,24 +38,6 @@ checked c =
 passed : (c : tie.Else1) → let a = c .before .before .before .before .before .before .before .args in enterRefusal (listOf (a .st)) (a .s) ≡ accepted
 passed c = checked (c .before) ∙ c .if1 .left
 
-find-requires : tie.Need-find-requires
-find-requires c κs = search needs
-
-refusal-if-requires : tie.Need-refusal-if-requires
-refusal-if-requires c κs = search needs
-
-refusal-if-requires-2 : tie.Need-refusal-if-requires-2
-refusal-if-requires-2 c κs = search needs
-
-refusal-of-requires : tie.Need-refusal-of-requires
-refusal-of-requires c κs = search needs
-
-first-of-requires : tie.Need-first-of-requires
-first-of-requires c κs = search needs
-
-first-of-requires-2 : tie.Need-first-of-requires-2
-first-of-requires-2 c κs = search needs
-
 returns : tie.Need-returns
 returns c =
     let start = c .before .before .before .before .before .before .before in
@@ -67,9 +49,6 @@ inserted-requires c κs =
     let start = c .before .before .before .before .before .before .before in
     let st = start .args .st in
     omega (arith, list-length st (start .pre), enters (listOf st) (start .args .s) (passed c) .room)
-
-pushed-requires : tie.Need-pushed-requires
-pushed-requires c κs = search needs
 
 places : (c : tie.After-pushed) → length (c .pushed .result .spells) ≡ 1024
 places c = search (unmapped, needs)
@@ -95,13 +74,9 @@ pub enter-spec : {M : Type 1} → statement M
 enter-spec =
     tie.close
     (tie.spec
-    find-requires
-    refusal-if-requires
-    refusal-if-requires-2
-    refusal-of-requires
-    first-of-requires
-    first-of-requires-2
+    (λ c κs. search needs) (λ c κs. search needs) (λ c κs. search needs) (λ c κs. search needs)
+    (λ c κs. search needs) (λ c κs. search needs)
     returns
     inserted-requires
-    pushed-requires
+    (λ c κs. search needs)
     returns-2)

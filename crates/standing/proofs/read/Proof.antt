@@ -5,12 +5,6 @@ use Rattle.standing.proofs.Loading.{loads}
 use Rattle.standing.proofs.read.Statement.{statement}
 use Rattle.standing.proofs.read.Tie as tie
 
-read-requires : tie.Need-read-requires
-read-requires c κs = search needs
-
-fresh-requires : tie.Need-fresh-requires
-fresh-requires c κs = search needs
-
 returns : tie.Need-returns
 returns c =
     let f = c .before in
@@ -18,4 +12,4 @@ returns c =
     rw (r .read .ensures) (loads _ _ (f .fresh .ensures .wf .rooms) _ refl)
 
 pub read-spec : {M : Type 1} → statement M
-read-spec = tie.close (tie.spec read-requires fresh-requires returns)
+read-spec = tie.close (tie.spec (λ c κs. search needs) (λ c κs. search needs) returns)

@@ -11,12 +11,6 @@ use Rattle.standing.proofs.removed.Tie as tie
 whole : (c : tie.Start) → length (c .args .st .spells) ≡ 1024
 whole c = search (unmapped, needs)
 
-find-requires : tie.Need-find-requires
-find-requires c κs = search needs
-
-removed-at-requires : tie.Need-removed-at-requires
-removed-at-requires c κs = search needs
-
 returns : tie.Need-returns
 returns c =
     let found = c .before .before in
@@ -29,4 +23,4 @@ returns-2 c =
     removed-none st (start .args .k) (c .before .find .result) (length-take-le (st .count) (st .spells) (omega (arith, whole start))) (c .before .find .ensures) (c .if1 .left)
 
 pub removed-spec : {M : Type 1} → statement M
-removed-spec = tie.close (tie.spec find-requires removed-at-requires returns returns-2)
+removed-spec = tie.close (tie.spec (λ c κs. search needs) (λ c κs. search needs) returns returns-2)

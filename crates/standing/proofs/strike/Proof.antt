@@ -6,25 +6,10 @@ use Rattle.standing.proofs.Calls.{strike-unknown, strike-made}
 use Rattle.standing.proofs.strike.Statement.{statement}
 use Rattle.standing.proofs.strike.Tie as tie
 
-find-requires : tie.Need-find-requires
-find-requires c κs = search needs
-
 returns : tie.Need-returns
 returns c =
     let start = c .before .before in
     strike-unknown (start .args .t1) (start .pre) (start .args .number) (c .before .find .result) (c .before .find .ensures) (c .if1 .taken)
-
-mul-old : tie.Need-mul-old
-mul-old c = search needs
-
-element-copy-out-old : tie.Need-element-copy-out-old
-element-copy-out-old c = search needs
-
-removed-at-requires : tie.Need-removed-at-requires
-removed-at-requires c κs = search needs
-
-pushed-requires : tie.Need-pushed-requires
-pushed-requires c κs = search needs
 
 places : (c : tie.After-pushed) → length (c .pushed .result .spells) ≡ 1024
 places c = search (unmapped, needs)
@@ -48,10 +33,7 @@ pub strike-spec : {M : Type 1} → statement M
 strike-spec =
     tie.close
     (tie.spec
-    find-requires
+    (λ c κs. search needs)
     returns
-    mul-old
-    element-copy-out-old
-    removed-at-requires
-    pushed-requires
+    (λ c. search needs) (λ c. search needs) (λ c κs. search needs) (λ c κs. search needs)
     returns-2)

@@ -10,21 +10,6 @@ use Rattle.standing.proofs.take_back.Tie as tie
 returns : tie.Need-returns
 returns c = takes-none (c .before .args .t1) (c .before .pre) (c .if1 .taken)
 
-sub-e : tie.Need-sub-e
-sub-e c = search needs
-
-mul-e : tie.Need-mul-e
-mul-e c = search needs
-
-element-copy-out-e : tie.Need-element-copy-out-e
-element-copy-out-e c = search needs
-
-removed-requires : tie.Need-removed-requires
-removed-requires c κs = search needs
-
-sub-a : tie.Need-sub-a
-sub-a c = search needs
-
 places : (c : tie.After-removed) → length (c .removed .result .spells) ≡ 1024
 places c = search (unmapped, needs)
 
@@ -68,11 +53,7 @@ take-back-spec =
     tie.close
     (tie.spec
     returns
-    sub-e
-    mul-e
-    element-copy-out-e
-    removed-requires
-    sub-a
+    (λ c. search needs) (λ c. search needs) (λ c. search needs) (λ c κs. search needs) (λ c. search needs)
     returns-2
     inserted-requires
     returns-3)

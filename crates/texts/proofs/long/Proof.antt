@@ -9,14 +9,5 @@ use Rattle.texts.proofs.long.Tie as tie
 slice-aggregate-show : tie.Need-slice-aggregate-show
 slice-aggregate-show c = sym (length-take-le 65536 (c .before .before .before .args .text .now) (omega arith))
 
-show-requires : tie.Need-show-requires
-show-requires c κs = search needs
-
-show-requires-2 : tie.Need-show-requires-2
-show-requires-2 c κs = search needs
-
-returns : tie.Need-returns
-returns c = search needs
-
 pub long-spec : {M : Type 1} → statement M
-long-spec = tie.close (tie.spec slice-aggregate-show show-requires show-requires-2 returns)
+long-spec = tie.close (tie.spec slice-aggregate-show (λ c κs. search needs) (λ c κs. search needs) (λ c. search needs))

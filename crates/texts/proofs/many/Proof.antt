@@ -35,9 +35,6 @@ loop-less c = omega arith
 loop-again : tie.Need-loop-again Inv-loop μ-loop
 loop-again c = omega arith
 
-returns : tie.Need-returns Inv-loop μ-loop
-returns c = search needs
-
 pub many-spec : {M : Type 1} → statement M
 many-spec =
     tie.close
@@ -52,4 +49,4 @@ many-spec =
     add-i
     loop-less
     loop-again
-    returns)
+    (λ c. search needs))

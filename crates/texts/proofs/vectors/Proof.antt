@@ -18,20 +18,11 @@ loop-holds c = (omega arith, omega arith)
 sub-if1 : tie.Need-sub-if1 Inv-loop μ-loop
 sub-if1 c = omega arith
 
-returns : tie.Need-returns Inv-loop μ-loop
-returns c = search needs
-
 ends-requires : tie.Need-ends-requires Inv-loop μ-loop
 ends-requires c κs = tt
 
 sub-vector : tie.Need-sub-vector Inv-loop μ-loop
 sub-vector c = omega arith
-
-part-vector-start : tie.Need-part-vector-start Inv-loop μ-loop
-part-vector-start c = search needs
-
-part-vector-end : tie.Need-part-vector-end Inv-loop μ-loop
-part-vector-end c = search needs
 
 vector-requires : tie.Need-vector-requires Inv-loop μ-loop
 vector-requires c κs = tt
@@ -54,9 +45,6 @@ loop-less-2 c = omega arith
 loop-again-2 : tie.Need-loop-again-2 Inv-loop μ-loop
 loop-again-2 c = (omega arith, omega arith)
 
-returns-2 : tie.Need-returns-2 Inv-loop μ-loop
-returns-2 c = search needs
-
 pub vectors-spec : {M : Type 1} → statement M
 vectors-spec =
     tie.close
@@ -65,11 +53,10 @@ vectors-spec =
     μ-loop
     loop-holds
     sub-if1
-    returns
+    (λ c. search needs)
     ends-requires
     sub-vector
-    part-vector-start
-    part-vector-end
+    (λ c. search needs) (λ c. search needs)
     vector-requires
     add-at
     loop-less
@@ -77,4 +64,4 @@ vectors-spec =
     add-at-2
     loop-less-2
     loop-again-2
-    returns-2)
+    (λ c. search needs))

@@ -6,12 +6,6 @@ use Rattle.wire.proofs.Serving.{room-fits, served}
 use Rattle.wire.proofs.answer.Statement.{statement}
 use Rattle.wire.proofs.answer.Tie as tie
 
-parse-requires : tie.Need-parse-requires
-parse-requires c κs = search needs
-
-room-of-requires : tie.Need-room-of-requires
-room-of-requires c κs = search needs
-
 turn-requires : tie.Need-turn-requires
 turn-requires c κs =
     let clamped = c .before .before .before .before .before in
@@ -31,4 +25,4 @@ returns c =
     (omega (arith, start .good)) (parsed .parse .ensures) (rw (clamped .room-of .ensures) at (c .turn .ensures))
 
 pub answer-spec : {M : Type 1} → statement M
-answer-spec = tie.close (tie.spec parse-requires room-of-requires turn-requires returns)
+answer-spec = tie.close (tie.spec (λ c κs. search needs) (λ c κs. search needs) turn-requires returns)

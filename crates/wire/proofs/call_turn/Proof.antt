@@ -6,21 +6,12 @@ use Rattle.wire.proofs.Replying.{fits, called}
 use Rattle.wire.proofs.call_turn.Statement.{statement}
 use Rattle.wire.proofs.call_turn.Tie as tie
 
-step-requires : tie.Need-step-requires
-step-requires c κs = search needs
-
 put-reply-requires : tie.Need-put-reply-requires
 put-reply-requires c κs =
     let stepped = c .before .before .before .before .before .before .before in
     let start = stepped .before .before .before .before .before .before .before in
     let a = start .args in
     fits _ _ (start .pre .0) (asking (a .call) (a .days .now) (a .numbers .now) (a .text .now)) _ _ _ _ (stepped .step .ensures)
-
-same-length : tie.Need-same-length
-same-length c = search needs
-
-same-length-2 : tie.Need-same-length-2
-same-length-2 c = search needs
 
 returns : tie.Need-returns
 returns c =
@@ -32,8 +23,7 @@ pub call-turn-spec : {M : Type 1} → statement M
 call-turn-spec =
     tie.close
     (tie.spec
-    step-requires
+    (λ c κs. search needs)
     put-reply-requires
-    same-length
-    same-length-2
+    (λ c. search needs) (λ c. search needs)
     returns)

@@ -17,21 +17,6 @@ returns-2 c =
     let a = c .before .before .before .before .args in
     puts-past _ (bytesText (a .text .now)) (a .out .now) (a .at) (c .before .if1 .left) (c .if2 .taken)
 
-sub-copy : tie.Need-sub-copy
-sub-copy c = search needs
-
-part-copy-start : tie.Need-part-copy-start
-part-copy-start c = search needs
-
-part-copy-end : tie.Need-part-copy-end
-part-copy-end c = search needs
-
-copy-requires : tie.Need-copy-requires
-copy-requires c κs = search needs
-
-same-length : tie.Need-same-length
-same-length c = search needs
-
 returns-3 : tie.Need-returns-3
 returns-3 c =
     let tests = c .before .before .before .before in
@@ -39,4 +24,4 @@ returns-3 c =
     put-copied (a .out .now) (a .text .now) (a .at) (omega arith) (omega arith) _ (c .before .before .copy .ensures .1)
 
 pub put-bytes-spec : {M : Type 1} → statement M
-put-bytes-spec = tie.close (tie.spec returns returns-2 sub-copy part-copy-start part-copy-end copy-requires same-length returns-3)
+put-bytes-spec = tie.close (tie.spec returns returns-2 (λ c. search needs) (λ c. search needs) (λ c. search needs) (λ c κs. search needs) (λ c. search needs) returns-3)

@@ -6,16 +6,10 @@ use Rattle.wire.proofs.Sending.{put-end, put-sends, on-bytes}
 use Rattle.wire.proofs.put_ok.Statement.{statement}
 use Rattle.wire.proofs.put_ok.Tie as tie
 
-slice-aggregate-put-bytes : tie.Need-slice-aggregate-put-bytes
-slice-aggregate-put-bytes c = search needs
-
-put-bytes-requires : tie.Need-put-bytes-requires
-put-bytes-requires c κs = search needs
-
 returns : tie.Need-returns
 returns c =
     let start = c .before .before .before in
     put-sends (on-bytes (put-end (start .args .out .now) 131072 (omega arith)) okText (omega arith) (c .put-bytes .ensures) .0)
 
 pub put-ok-spec : {M : Type 1} → statement M
-put-ok-spec = tie.close (tie.spec slice-aggregate-put-bytes put-bytes-requires returns)
+put-ok-spec = tie.close (tie.spec (λ c. search needs) (λ c κs. search needs) returns)

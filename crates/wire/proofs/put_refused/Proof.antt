@@ -6,15 +6,6 @@ use Rattle.wire.proofs.Sending.{put-end, put-sends, on-number, on-bytes
 use Rattle.wire.proofs.put_refused.Statement.{statement}
 use Rattle.wire.proofs.put_refused.Tie as tie
 
-put-number-requires : tie.Need-put-number-requires
-put-number-requires c κs = search needs
-
-slice-aggregate-put-bytes : tie.Need-slice-aggregate-put-bytes
-slice-aggregate-put-bytes c = search needs
-
-put-bytes-requires : tie.Need-put-bytes-requires
-put-bytes-requires c κs = search needs
-
 returns : tie.Need-returns
 unfolding refusedText
 returns c =
@@ -24,4 +15,4 @@ returns c =
     put-sends (on-bytes (p .0) refusedWord (omega (arith, p .1)) (c .put-bytes .ensures) .0)
 
 pub put-refused-spec : {M : Type 1} → statement M
-put-refused-spec = tie.close (tie.spec put-number-requires slice-aggregate-put-bytes put-bytes-requires returns)
+put-refused-spec = tie.close (tie.spec (λ c κs. search needs) (λ c. search needs) (λ c κs. search needs) returns)

@@ -8,50 +8,11 @@ use Rattle.wire.proofs.Replying.{sends-refused, sends-accepted}
 use Rattle.wire.proofs.put_reply.Statement.{statement}
 use Rattle.wire.proofs.put_reply.Tie as tie
 
-put-refused-requires : tie.Need-put-refused-requires
-put-refused-requires c κs = search needs
-
 returns : tie.Need-returns
 returns c =
     let start = c .before .before .before .before .before .before in
     let a = start .args in
     sends-refused (a .call) (a .o) (a .numbers .now) (a .text .now) _ _ _ (c .before .before .if1 .taken) (c .put-refused .ensures)
-
-enum-told : tie.Need-enum-told
-enum-told c = search needs
-
-put-ok-requires : tie.Need-put-ok-requires
-put-ok-requires c κs = search needs
-
-enum-told-2 : tie.Need-enum-told-2
-enum-told-2 c = search needs
-
-put-ok-requires-2 : tie.Need-put-ok-requires-2
-put-ok-requires-2 c κs = search needs
-
-enum-told-3 : tie.Need-enum-told-3
-enum-told-3 c = search needs
-
-put-ok-requires-3 : tie.Need-put-ok-requires-3
-put-ok-requires-3 c κs = search needs
-
-enum-told-4 : tie.Need-enum-told-4
-enum-told-4 c = search needs
-
-put-ok-requires-4 : tie.Need-put-ok-requires-4
-put-ok-requires-4 c κs = search needs
-
-enum-told-5 : tie.Need-enum-told-5
-enum-told-5 c = search needs
-
-put-ok-requires-5 : tie.Need-put-ok-requires-5
-put-ok-requires-5 c κs = search needs
-
-enum-told-6 : tie.Need-enum-told-6
-enum-told-6 c = search needs
-
-cast-put-written : tie.Need-cast-put-written
-cast-put-written c = search needs
 
 slice-aggregate-put-written : tie.Need-slice-aggregate-put-written
 slice-aggregate-put-written c =
@@ -62,30 +23,6 @@ put-written-requires : tie.Need-put-written-requires
 put-written-requires c κs =
     let start = c .before .before .before .before .before .before .before .before in
     omega (arith, length-take-le (start .args .o .length) (start .args .text .now) (start .pre .written), start .pre .bytes)
-
-enum-told-7 : tie.Need-enum-told-7
-enum-told-7 c = search needs
-
-put-found-requires : tie.Need-put-found-requires
-put-found-requires c κs = search needs
-
-enum-told-8 : tie.Need-enum-told-8
-enum-told-8 c = search needs
-
-put-found-requires-2 : tie.Need-put-found-requires-2
-put-found-requires-2 c κs = search needs
-
-enum-told-9 : tie.Need-enum-told-9
-enum-told-9 c = search needs
-
-put-found-requires-3 : tie.Need-put-found-requires-3
-put-found-requires-3 c κs = search needs
-
-enum-told-10 : tie.Need-enum-told-10
-enum-told-10 c = search needs
-
-cast-put-several : tie.Need-cast-put-several
-cast-put-several c = search needs
 
 slice-aggregate-put-several : tie.Need-slice-aggregate-put-several
 slice-aggregate-put-several c =
@@ -171,30 +108,15 @@ pub put-reply-spec : {M : Type 1} → statement M
 put-reply-spec =
     tie.close
     (tie.spec
-    put-refused-requires
+    (λ c κs. search needs)
     returns
-    enum-told
-    put-ok-requires
-    enum-told-2
-    put-ok-requires-2
-    enum-told-3
-    put-ok-requires-3
-    enum-told-4
-    put-ok-requires-4
-    enum-told-5
-    put-ok-requires-5
-    enum-told-6
-    cast-put-written
+    (λ c. search needs) (λ c κs. search needs) (λ c. search needs) (λ c κs. search needs) (λ c. search needs)
+    (λ c κs. search needs) (λ c. search needs) (λ c κs. search needs) (λ c. search needs)
+    (λ c κs. search needs) (λ c. search needs) (λ c. search needs)
     slice-aggregate-put-written
     put-written-requires
-    enum-told-7
-    put-found-requires
-    enum-told-8
-    put-found-requires-2
-    enum-told-9
-    put-found-requires-3
-    enum-told-10
-    cast-put-several
+    (λ c. search needs) (λ c κs. search needs) (λ c. search needs) (λ c κs. search needs) (λ c. search needs)
+    (λ c κs. search needs) (λ c. search needs) (λ c. search needs)
     slice-aggregate-put-several
     put-several-requires
     returns-2

@@ -6,27 +6,6 @@ use Rattle.wire.proofs.Sending.{put-end, put-sends, on-number, on-byte,
 use Rattle.wire.proofs.put_several.Statement.{statement}
 use Rattle.wire.proofs.put_several.Tie as tie
 
-end-before-requires : tie.Need-end-before-requires
-end-before-requires c κs = search needs
-
-put-numbers-requires : tie.Need-put-numbers-requires
-put-numbers-requires c κs = search needs
-
-put-byte-requires : tie.Need-put-byte-requires
-put-byte-requires c κs = search needs
-
-put-byte-requires-2 : tie.Need-put-byte-requires-2
-put-byte-requires-2 c κs = search needs
-
-put-number-requires : tie.Need-put-number-requires
-put-number-requires c κs = search needs
-
-slice-aggregate-put-bytes : tie.Need-slice-aggregate-put-bytes
-slice-aggregate-put-bytes c = search needs
-
-put-bytes-requires : tie.Need-put-bytes-requires
-put-bytes-requires c κs = search needs
-
 returns : tie.Need-returns
 unfolding severalText
 returns c =
@@ -43,4 +22,4 @@ returns c =
     put-sends (rw (end .end-before .ensures) at (on-bytes (r .0) listedWord (omega (arith, p .1, q .1, d .1, r .1)) (c .put-bytes .ensures) .0))
 
 pub put-several-spec : {M : Type 1} → statement M
-put-several-spec = tie.close (tie.spec end-before-requires put-numbers-requires put-byte-requires put-byte-requires-2 put-number-requires slice-aggregate-put-bytes put-bytes-requires returns)
+put-several-spec = tie.close (tie.spec (λ c κs. search needs) (λ c κs. search needs) (λ c κs. search needs) (λ c κs. search needs) (λ c κs. search needs) (λ c. search needs) (λ c κs. search needs) returns)

@@ -6,18 +6,6 @@ use Rattle.wire.proofs.Sending.{put-end, put-sends, on-number, on-bytes
 use Rattle.wire.proofs.put_stopped.Statement.{statement}
 use Rattle.wire.proofs.put_stopped.Tie as tie
 
-put-number-requires : tie.Need-put-number-requires
-put-number-requires c κs = search needs
-
-put-number-requires-2 : tie.Need-put-number-requires-2
-put-number-requires-2 c κs = search needs
-
-slice-aggregate-put-bytes : tie.Need-slice-aggregate-put-bytes
-slice-aggregate-put-bytes c = search needs
-
-put-bytes-requires : tie.Need-put-bytes-requires
-put-bytes-requires c κs = search needs
-
 returns : tie.Need-returns
 unfolding stoppedText
 returns c =
@@ -29,4 +17,4 @@ returns c =
     put-sends (on-bytes (q .0) refusedWord (omega (arith, p .1, q .1)) (c .put-bytes .ensures) .0)
 
 pub put-stopped-spec : {M : Type 1} → statement M
-put-stopped-spec = tie.close (tie.spec put-number-requires put-number-requires-2 slice-aggregate-put-bytes put-bytes-requires returns)
+put-stopped-spec = tie.close (tie.spec (λ c κs. search needs) (λ c κs. search needs) (λ c. search needs) (λ c κs. search needs) returns)

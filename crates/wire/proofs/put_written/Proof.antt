@@ -7,18 +7,6 @@ use Rattle.wire.proofs.Sending.{put-end, put-sends, on-number, on-bytes
 use Rattle.wire.proofs.put_written.Statement.{statement}
 use Rattle.wire.proofs.put_written.Tie as tie
 
-put-bytes-requires : tie.Need-put-bytes-requires
-put-bytes-requires c κs = search needs
-
-put-number-requires : tie.Need-put-number-requires
-put-number-requires c κs = search needs
-
-slice-aggregate-put-bytes : tie.Need-slice-aggregate-put-bytes
-slice-aggregate-put-bytes c = search needs
-
-put-bytes-requires-2 : tie.Need-put-bytes-requires-2
-put-bytes-requires-2 c κs = search needs
-
 returns : tie.Need-returns
 unfolding writtenText
 returns c =
@@ -30,4 +18,4 @@ returns c =
     put-sends (on-bytes (q .0) textWord (omega (arith, p .1, q .1)) (c .put-bytes2 .ensures) .0)
 
 pub put-written-spec : {M : Type 1} → statement M
-put-written-spec = tie.close (tie.spec put-bytes-requires put-number-requires slice-aggregate-put-bytes put-bytes-requires-2 returns)
+put-written-spec = tie.close (tie.spec (λ c κs. search needs) (λ c κs. search needs) (λ c. search needs) (λ c κs. search needs) returns)

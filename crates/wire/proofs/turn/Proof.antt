@@ -8,25 +8,16 @@ use Rattle.wire.proofs.Turns.{turn-call, turn-read, turn-room, turn-mal
 use Rattle.wire.proofs.turn.Statement.{statement}
 use Rattle.wire.proofs.turn.Tie as tie
 
-enum-known-request : tie.Need-enum-known-request
-enum-known-request c = search needs
-
 slice-aggregate-call-turn : tie.Need-slice-aggregate-call-turn
 slice-aggregate-call-turn c =
     let known = c .before .before .before in
     let start = known .before .before .before .before .before .before in
     sym (length-take-le (known .request .given .0 .1 .0) (start .args .days .now) (rw (known .request .given .1) at (start .pre .1 .0 .2)))
 
-slice-relend-prefix-call-turn : tie.Need-slice-relend-prefix-call-turn
-slice-relend-prefix-call-turn c = search needs
-
 slice-aggregate-call-turn-2 : tie.Need-slice-aggregate-call-turn-2
 slice-aggregate-call-turn-2 c =
     let start = c .before .before .before .before .before .before .before .before .before .before in
     sym (length-take-le (start .args .room) (start .args .numbers .now) (omega (arith, start .pre .1 .0 .0, start .pre .1 .1 .0)))
-
-slice-relend-prefix-call-turn-2 : tie.Need-slice-relend-prefix-call-turn-2
-slice-relend-prefix-call-turn-2 c = search needs
 
 slice-aggregate-call-turn-3 : tie.Need-slice-aggregate-call-turn-3
 slice-aggregate-call-turn-3 c =
@@ -38,30 +29,6 @@ call-turn-requires c κs =
     let start = c .before .before .before .before .before .before .before .before .before .before .before .before in
     let a = start .args in
     (start .pre .0, (start .pre .1 .0 .0, length-take-le (a .room) (a .numbers .now) (omega (arith, start .pre .1 .0 .0, start .pre .1 .1 .0)), length-take-le (a .room) (a .text .now) (omega (arith, start .pre .1 .0 .0, start .pre .1 .1 .1))))
-
-enum-known-request-2 : tie.Need-enum-known-request-2
-enum-known-request-2 c = search needs
-
-put-ok-requires : tie.Need-put-ok-requires
-put-ok-requires c κs = search needs
-
-enum-known-request-3 : tie.Need-enum-known-request-3
-enum-known-request-3 c = search needs
-
-restart-requires : tie.Need-restart-requires
-restart-requires c κs = search needs
-
-enum-told : tie.Need-enum-told
-enum-told c = search needs
-
-put-malformed-requires : tie.Need-put-malformed-requires
-put-malformed-requires c κs = search needs
-
-same-length : tie.Need-same-length
-same-length c = search needs
-
-same-length-2 : tie.Need-same-length-2
-same-length-2 c = search needs
 
 returns : tie.Need-returns
 returns c =
@@ -99,21 +66,15 @@ pub turn-spec : {M : Type 1} → statement M
 turn-spec =
     tie.close
     (tie.spec
-    enum-known-request
+    (λ c. search needs)
     slice-aggregate-call-turn
-    slice-relend-prefix-call-turn
+    (λ c. search needs)
     slice-aggregate-call-turn-2
-    slice-relend-prefix-call-turn-2
+    (λ c. search needs)
     slice-aggregate-call-turn-3
     call-turn-requires
-    enum-known-request-2
-    put-ok-requires
-    enum-known-request-3
-    restart-requires
-    enum-told
-    put-malformed-requires
-    same-length
-    same-length-2
+    (λ c. search needs) (λ c κs. search needs) (λ c. search needs) (λ c κs. search needs) (λ c. search needs)
+    (λ c κs. search needs) (λ c. search needs) (λ c. search needs)
     returns
     returns-2
     returns-3

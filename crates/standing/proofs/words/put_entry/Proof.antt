@@ -9,29 +9,8 @@ use borrow.Author.Needs.{needs}
 use Rattle.standing.proofs.words.put_entry.Statement.{statement}
 use Rattle.standing.proofs.words.put_entry.Tie as tie
 
-mul-out : tie.Need-mul-out
-mul-out c = search needs
-
-slice-write-out : tie.Need-slice-write-out
-slice-write-out c = search needs
-
-cast-out : tie.Need-cast-out
-cast-out c = search needs
-
-add-out : tie.Need-add-out
-add-out c = search needs
-
-mul-out-2 : tie.Need-mul-out-2
-mul-out-2 c = search needs
-
 slice-write-out-2 : tie.Need-slice-write-out-2
 slice-write-out-2 c = simp length-set (omega arith)
-
-add-put-spell : tie.Need-add-put-spell
-add-put-spell c = search needs
-
-put-spell-requires : tie.Need-put-spell-requires
-put-spell-requires c κs = search needs
 
 same-length : tie.Need-same-length
 same-length c =
@@ -51,13 +30,8 @@ pub put-entry-spec : {M : Type 1} → statement M
 put-entry-spec =
     tie.close
     (tie.spec
-    mul-out
-    slice-write-out
-    cast-out
-    add-out
-    mul-out-2
+    (λ c. search needs) (λ c. search needs) (λ c. search needs) (λ c. search needs) (λ c. search needs)
     slice-write-out-2
-    add-put-spell
-    put-spell-requires
+    (λ c. search needs) (λ c κs. search needs)
     same-length
     returns)

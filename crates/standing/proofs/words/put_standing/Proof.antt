@@ -8,30 +8,6 @@ use borrow.Author.Needs.{needs}
 use Rattle.standing.proofs.words.put_standing.Statement.{statement}
 use Rattle.standing.proofs.words.put_standing.Tie as tie
 
-put-spells-requires : tie.Need-put-spells-requires
-put-spells-requires c κs = search needs
-
-sub-put-journal : tie.Need-sub-put-journal
-sub-put-journal c = search needs
-
-part-put-journal-start : tie.Need-part-put-journal-start
-part-put-journal-start c = search needs
-
-part-put-journal-end : tie.Need-part-put-journal-end
-part-put-journal-end c = search needs
-
-put-journal-requires : tie.Need-put-journal-requires
-put-journal-requires c κs = search needs
-
-cast-out : tie.Need-cast-out
-cast-out c = search needs
-
-slice-write-out : tie.Need-slice-write-out
-slice-write-out c = search needs
-
-cast-out-2 : tie.Need-cast-out-2
-cast-out-2 c = search needs
-
 slice-write-out-2 : tie.Need-slice-write-out-2
 slice-write-out-2 c = simp length-set (omega arith)
 
@@ -52,14 +28,8 @@ pub put-standing-spec : {M : Type 1} → statement M
 put-standing-spec =
     tie.close
     (tie.spec
-    put-spells-requires
-    sub-put-journal
-    part-put-journal-start
-    part-put-journal-end
-    put-journal-requires
-    cast-out
-    slice-write-out
-    cast-out-2
+    (λ c κs. search needs) (λ c. search needs) (λ c. search needs) (λ c. search needs) (λ c κs. search needs)
+    (λ c. search needs) (λ c. search needs) (λ c. search needs)
     slice-write-out-2
     same-length
     returns)
