@@ -12,6 +12,8 @@ use borrow.Rule.Slice.PartMut.{putMid, postOf}
 use borrow.Author.Tests.{lt-ltb, le-ltb, ltb-true}
 use Rattle.stabbing.specs.Tree.{keep, fits, start, latest, formula}
 use Rattle.stabbing.specs.Index.{Built, numbers, firsts, lasts}
+use Rattle.buffer.specs.Buffer.{overlaid}
+use Rattle.buffer.proofs.Overlaid.{overlaid-all}
 use Rattle.stabbing.specs.declared.Listed.{Listed}
 use Rattle.stabbing.specs.Answer.{Outcome, Gave, refused, give, question, calendar, calendars, risingFrom, containsAny, dayIn, daysOf}
 use Rattle.stabbing.proofs.Marks.{both}
@@ -129,11 +131,11 @@ module _ (ix : List ℕ) (d m : ℕ) (answer : List ℕ) (q : AddAsks ix d m ans
     rest-count : r .count - at ≡ length (dayFrom ix m d)
     rest-count = sym new-count ∙ ap length new
 
-    pub fits-in : length (take (r .count - at) (drop at xs)) ≤ length answer
+    fits-in : length (take (r .count - at) (drop at xs)) ≤ length answer
     fits-in = rw rest-is (omega (arith, length-map (keep (from m (fits fs ls d d)) (length fs)) (λ (p : ℕ). getD ix p 0), keep-from (fits fs ls d d) m (length fs) (q .within), q .room))
 
-    pub adds : (after : List ℕ) → after ≡ take (r .count - at) (drop at xs) ++ drop (length (take (r .count - at) (drop at xs))) answer → Added (dayFrom ix m d) answer after (r .count - at)
-    adds after y = record { count = rest-count; places = y ∙ rw (rest-is, ← rest-count) }
+    pub adds : (after : List ℕ) → after ≡ overlaid (take (r .count - at) (drop at xs)) answer → Added (dayFrom ix m d) answer after (r .count - at)
+    adds after y = record { count = rest-count; places = y ∙ overlaid-all (take (r .count - at) (drop at xs)) answer fits-in ∙ rw (rest-is, ← rest-count) }
 
 -- ---- What several days add
 
@@ -377,18 +379,15 @@ module _ (ix ds : List ℕ) (b : Built ix) (d : calendars ds ≡ true) (r : risi
     part-count = counted ∙ ap length (sym written)
 
     module _ (out : List ℕ) where
-      pub part-in : k ≤ length out → length (take k after) ≤ length out
-      part-in h = omega (arith, part-count)
-
       is : daysOf (numbers ix) js es ds out ≡ give names 0 out
       is = days-in (numbers ix) js es ds out d r
 
       pub too-many : length out < k → (l : Listed) → l ≡ record { refusal = 11; count = 0; comparisons = 0 } → Gave l out (daysOf (numbers ix) js es ds out)
       too-many h = refusal 11 out (daysOf (numbers ix) js es ds out) (is ∙ give-none names 0 out (rw counted at h))
 
-      pub all-written : k ≤ length out → (end : List ℕ) → end ≡ take k after ++ drop (length (take k after)) out
+      pub all-written : k ≤ length out → (end : List ℕ) → end ≡ overlaid (take k after) out
           → Gave (record { refusal = 0; count = k; comparisons = 0 }) end (daysOf (numbers ix) js es ds out)
       all-written h end e = rw (is ∙ give-all names 0 out (rw counted at h)) (record {
         result = ap (λ (n : ℕ). record { refusal = 0; count = n; comparisons = 0 }) counted;
-        out = e ∙ ap (λ (xs : List ℕ). xs ++ drop (length xs) out) written;
+        out = e ∙ overlaid-all (take k after) out (omega (arith, part-count)) ∙ ap (λ (xs : List ℕ). xs ++ drop (length xs) out) written;
       })

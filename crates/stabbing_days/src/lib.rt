@@ -1,9 +1,8 @@
 // The question of several days over the published index. Each day is asked by itself, and what it adds to the days before it goes
 // into an answer of the question's own, which goes to the caller's list once its count is known.
 ghost use mathlib.Core.Path.{_≡_};
-ghost use Prim.Native.Nat.{_≤_, _<_};
-ghost use mathlib.Core.List.{_++_};
-ghost use lib.ListN.{length, getD, drop};
+ghost use Prim.Native.Nat.{_<_};
+ghost use lib.ListN.{length, getD};
 ghost use Rattle.stabbing.specs.Index.{Built};
 ghost use Rattle.stabbing.specs.Answer.{Gave, daysIn, calendars, risingFrom};
 ghost use Rattle.stabbing_days.specs.Code.{Skips, dayFrom, daysFrom, AddAsks, GatherAsks, Added};
@@ -69,18 +68,6 @@ fn skip(index: &[u16; INDEX], found: &[u16], m: usize) -> usize
     i
 }
 
-// Puts the numbers into the first places of a list.
-fn put(numbers: &[u16], to: &mut [u16])
-    requires { ⌜ length (now numbers) ≤ length (now to) ⌝ }
-    ensures { λ _. ⌜ now (to .exit) ≡ now (numbers .entry) ++ drop (length (now (numbers .entry))) (now (to .entry)) ⌝ }
-{
-    let mut i = 0;
-    while i < numbers.len() {
-        to[i] = numbers[i];
-        i += 1;
-    }
-}
-
 // What the first of the days still to come adds to the days before it, by the last of which m rows begin: of these m, the ones that
 // contain it contain that day too. A day's finds are in the order, so that they come first and are skipped. The table by number tells
 // a row's place in the order, since no two rows have one number.
@@ -94,7 +81,7 @@ fn add(index: &[u16; INDEX], days: &[u16], m: usize, found: &mut [u16], answer: 
     let listed = stabbing_query::day(index, days[0], found);
     let k = listed.count;
     let at = skip(index, &found[..k], m);
-    put(&found[at..k], answer);
+    buffer::put(&found[at..k], answer);
     k - at
 }
 
@@ -133,7 +120,7 @@ pub fn days(index: &[u16; INDEX], days: &[u16], out: &mut [u16]) -> Listed
     if out.len() < n {
         return refuse(SHORT_BUFFER);
     }
-    put(&answer[..n], out);
+    buffer::put(&answer[..n], out);
     Listed {
         refusal: 0,
         count: n,

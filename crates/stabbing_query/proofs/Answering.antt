@@ -9,6 +9,8 @@ use lib.Dec.{leb}
 use lib.ListN.{length, getD, take, drop, length-map, drop-of-length-le}
 use lib.Seq.{take-all}
 use borrow.Author.Tests.{le-leb, lt-leb, leb-true}
+use Rattle.buffer.specs.Buffer.{overlaid}
+use Rattle.buffer.proofs.Overlaid.{overlaid-all}
 use Rattle.stabbing.specs.declared.Listed.{Listed}
 use Rattle.stabbing.specs.Tree.{Found, nothing, keep, day, fits, start, latest, spanStart, walk, climb}
 use Rattle.stabbing.proofs.Marks.{by-test, both, below-is, keep-hit, keep-miss}
@@ -85,11 +87,11 @@ module _ (ix xs : List ℕ) (s : ℕ) (f : Found) (g : Now ix xs s f) (out : Lis
       let z : drop (s / 65536) xs ≡ ns = rw at-is (g .list) in
       rw z (take-all (1024 - s / 65536) ns (omega (arith, k-is)))
 
-  pub all-given : 1024 - s / 65536 ≤ length out → (after : List ℕ) → after ≡ take (1024 - s / 65536) (drop (s / 65536) xs) ++ drop (1024 - s / 65536) out
+  pub all-given : 1024 - s / 65536 ≤ length out → (after : List ℕ) → after ≡ overlaid (take (1024 - s / 65536) (drop (s / 65536) xs)) out
       → Gave (toldOf s) after (give ns (f .comparisons) out)
   all-given h after e =
       let c : s % 65536 ≡ f .comparisons = comparisons-is s (length (f .list)) (f .comparisons) (g .fits) (g .few) (g .is) in
-      rw (give-all ns (f .comparisons) out (omega (arith, k-is))) (record { result = told-all s at-in ∙ rw (k-is, c); out = e ∙ rw (there, k-is) })
+      rw (give-all ns (f .comparisons) out (omega (arith, k-is))) (record { result = told-all s at-in ∙ rw (k-is, c); out = e ∙ rw there (overlaid-all ns out (omega (arith, k-is))) })
 
 -- what is listed, by its numbers
 pub keep-map : (f g : ℕ → ℕ) (t : ℕ → Bool) (k : ℕ) → ((p : ℕ) → p < k → f p ≡ g p) → map f (keep t k) ≡ map g (keep t k)

@@ -7,12 +7,6 @@ use Rattle.stabbing_days.proofs.Several as Steps
 use Rattle.stabbing_days.proofs.add.Statement.{statement}
 use Rattle.stabbing_days.proofs.add.Tie as tie
 
-shared-slice-read-day : tie.Need-shared-slice-read-day
-shared-slice-read-day c = search needs
-
-day-requires : tie.Need-day-requires
-day-requires c κs = search needs
-
 slice-reshare-prefix-skip : tie.Need-slice-reshare-prefix-skip
 slice-reshare-prefix-skip c =
     let s = c .before .before .before .before .before .before .before .before in
@@ -25,9 +19,6 @@ slice-aggregate-skip c =
     let s = c .before .before .before .before .before .before .before .before .before in
     let g = s .args in
     sym (length-take-le _ _ (let n = Steps.count-in (g .index .now) (getD (g .days .now) 0 0) (g .m) (g .answer .now) (s .pre .1 .0) (g .found .now) _ (s .pre .1 .1) _ (c .before .before .before .day .ensures) in search needs))
-
-skip-requires : tie.Need-skip-requires
-skip-requires c κs = search needs
 
 mul-put : tie.Need-mul-put
 mul-put c =
@@ -56,23 +47,11 @@ part-put-end c =
     let n = Steps.count-in (g .index .now) (getD (g .days .now) 0 0) (g .m) (g .answer .now) (s .pre .1 .0) (g .found .now) _ (s .pre .1 .1) _ (c .before .before .before .before .before .day .ensures) in
     search needs
 
-put-requires : tie.Need-put-requires
-put-requires c κs =
-    let s = c .before .before .before .before .before .before .before .before .before .before .before .before .before in
-    let g = s .args in
-    Steps.fits-in (g .index .now) (getD (g .days .now) 0 0) (g .m) (g .answer .now) (s .pre .1 .0) (g .found .now) _ (s .pre .1 .1) _ (c .before .before .before .before .before .before .before .day .ensures) _ (c .before .before .before .skip .ensures)
-
 sub-result : tie.Need-sub-result
 sub-result c =
     let s = c .before .before .before .before .before .before .before .before .before .before .before .before .before .before .before .before in
     let g = s .args in
     Steps.at-in (g .index .now) (getD (g .days .now) 0 0) (g .m) (g .answer .now) (s .pre .1 .0) (g .found .now) _ (s .pre .1 .1) _ (c .before .before .before .before .before .before .before .before .before .before .day .ensures) _ (c .before .before .before .before .before .before .skip .ensures)
-
-same-length : tie.Need-same-length
-same-length c = search needs
-
-same-length-2 : tie.Need-same-length-2
-same-length-2 c = search needs
 
 returns : tie.Need-returns
 returns c =
@@ -84,17 +63,15 @@ pub add-spec : {M : Type 1} → statement M
 add-spec =
     tie.close
     (tie.spec
-    shared-slice-read-day
-    day-requires
+    (λ c. search needs) (λ c κs. search needs)
     slice-reshare-prefix-skip
     slice-aggregate-skip
-    skip-requires
+    (λ c κs. search needs)
     mul-put
     sub-put
     part-put-start
     part-put-end
-    put-requires
+    (λ c κs. search needs)
     sub-result
-    same-length
-    same-length-2
+    (λ c. search needs) (λ c. search needs)
     returns)

@@ -8,33 +8,15 @@ use Rattle.stabbing_days.proofs.Several as Steps
 use Rattle.stabbing_days.proofs.days.Statement.{statement}
 use Rattle.stabbing_days.proofs.days.Tie as tie
 
-on-calendar-requires : tie.Need-on-calendar-requires
-on-calendar-requires c κs = search needs
-
-refuse-requires : tie.Need-refuse-requires
-refuse-requires c κs = search needs
-
 returns : tie.Need-returns
 returns c =
     let g = c .before .before .before .before .before .args in
     Answers.refusal 3 _ _ (Steps.days-off (numbers (g .index .now)) (firsts (g .index .now)) (lasts (g .index .now)) (g .days .now) (g .out .now) (sym (c .before .before .on-calendar .ensures) ∙ not-true _ (c .before .if1 .taken))) _ (c .refuse .ensures)
 
-in-order-requires : tie.Need-in-order-requires
-in-order-requires c κs = search needs
-
-refuse-requires-2 : tie.Need-refuse-requires-2
-refuse-requires-2 c κs = search needs
-
 returns-2 : tie.Need-returns-2
 returns-2 c =
     let g = c .before .before .before .before .before .before .before .args in
     Answers.refusal 10 _ _ (Steps.days-back (numbers (g .index .now)) (firsts (g .index .now)) (lasts (g .index .now)) (g .days .now) (g .out .now) (sym (c .before .before .before .before .on-calendar .ensures) ∙ not-false _ (c .before .before .before .if1 .left)) (sym (c .before .before .in-order .ensures) ∙ not-true _ (c .before .if2 .taken))) _ (c .refuse2 .ensures)
-
-slice-aggregate-gather : tie.Need-slice-aggregate-gather
-slice-aggregate-gather c = search needs
-
-slice-aggregate-gather-2 : tie.Need-slice-aggregate-gather-2
-slice-aggregate-gather-2 c = search needs
 
 gather-requires : tie.Need-gather-requires
 gather-requires c κs =
@@ -43,9 +25,6 @@ gather-requires c κs =
     let d = sym (c .before .before .before .before .before .on-calendar .ensures) ∙ not-false _ (c .before .before .before .before .if1 .left) in
     let r = sym (c .before .before .before .in-order .ensures) ∙ not-false _ (c .before .before .if2 .left) in
     (Steps.asks-gather (g .index .now) (g .days .now) (s .pre) d r _ (search needs), search needs)
-
-refuse-requires-3 : tie.Need-refuse-requires-3
-refuse-requires-3 c κs = search needs
 
 returns-3 : tie.Need-returns-3
 returns-3 c =
@@ -72,17 +51,6 @@ slice-aggregate-put c =
     let r = sym (c .before .before .before .before .before .before .before .before .in-order .ensures) ∙ not-false _ (c .before .before .before .before .before .before .before .if2 .left) in
     Steps.part-count (g .index .now) (g .days .now) (s .pre) d r _ _ _ (c .before .before .before .before .gather .ensures)
 
-put-requires : tie.Need-put-requires
-put-requires c κs =
-    let s = c .before .before .before .before .before .before .before .before .before .before .before .before .before .before in
-    let g = s .args in
-    let d = sym (c .before .before .before .before .before .before .before .before .before .before .before .on-calendar .ensures) ∙ not-false _ (c .before .before .before .before .before .before .before .before .before .before .if1 .left) in
-    let r = sym (c .before .before .before .before .before .before .before .before .before .in-order .ensures) ∙ not-false _ (c .before .before .before .before .before .before .before .before .if2 .left) in
-    Steps.part-in (g .index .now) (g .days .now) (s .pre) d r _ _ _ (c .before .before .before .before .before .gather .ensures) (g .out .now) (c .before .before .if3 .left)
-
-same-length : tie.Need-same-length
-same-length c = search needs
-
 returns-4 : tie.Need-returns-4
 returns-4 c =
     let s = c .before .before .before .before .before .before .before .before .before .before .before .before .before .before .before .before .before in
@@ -95,19 +63,15 @@ pub days-spec : {M : Type 1} → statement M
 days-spec =
     tie.close
     (tie.spec
-    on-calendar-requires
-    refuse-requires
+    (λ c κs. search needs) (λ c κs. search needs)
     returns
-    in-order-requires
-    refuse-requires-2
+    (λ c κs. search needs) (λ c κs. search needs)
     returns-2
-    slice-aggregate-gather
-    slice-aggregate-gather-2
+    (λ c. search needs) (λ c. search needs)
     gather-requires
-    refuse-requires-3
+    (λ c κs. search needs)
     returns-3
     array-share-prefix-answer
     slice-aggregate-put
-    put-requires
-    same-length
+    (λ c κs. search needs) (λ c. search needs)
     returns-4)

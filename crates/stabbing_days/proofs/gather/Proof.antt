@@ -18,30 +18,6 @@ abbrev μ-loop : tie.MeasureT-loop
 loop-holds : tie.Need-loop-holds Inv-loop μ-loop
 loop-holds c = (search needs, zero-le, search needs)
 
-mul-add : tie.Need-mul-add Inv-loop μ-loop
-mul-add c = search needs
-
-sub-add : tie.Need-sub-add Inv-loop μ-loop
-sub-add c = search needs
-
-part-add-start : tie.Need-part-add-start Inv-loop μ-loop
-part-add-start c = search needs
-
-part-add-end : tie.Need-part-add-end Inv-loop μ-loop
-part-add-end c = search needs
-
-mul-add-2 : tie.Need-mul-add-2 Inv-loop μ-loop
-mul-add-2 c = search needs
-
-sub-add-2 : tie.Need-sub-add-2 Inv-loop μ-loop
-sub-add-2 c = search needs
-
-part-add-start-2 : tie.Need-part-add-start-2 Inv-loop μ-loop
-part-add-start-2 c = search needs
-
-part-add-end-2 : tie.Need-part-add-end-2 Inv-loop μ-loop
-part-add-end-2 c = search needs
-
 add-requires : tie.Need-add-requires Inv-loop μ-loop
 add-requires c κs =
     let a = c .before .before .before .before .loop in
@@ -56,33 +32,6 @@ add-at c =
     let t = c .before .before .before .before .before .before .before .before .loop-test .taken in
     record { fits = omega (arith, Steps.small (g .index .now) (g .days .now) (g .answer .now) (a .answer) (a .begun) (a .at) (a .i) (a .inv .2) t _ refl _ _ (c .before .before .before .before .add .ensures .0)) }
 
-mul-wide : tie.Need-mul-wide Inv-loop μ-loop
-mul-wide c = search needs
-
-shared-slice-read-wide : tie.Need-shared-slice-read-wide Inv-loop μ-loop
-shared-slice-read-wide c = search needs
-
-wide-requires : tie.Need-wide-requires Inv-loop μ-loop
-wide-requires c κs = search needs
-
-add-wide : tie.Need-add-wide Inv-loop μ-loop
-add-wide c = search needs
-
-mul-wide-2 : tie.Need-mul-wide-2 Inv-loop μ-loop
-mul-wide-2 c = search needs
-
-element-copy-out-wide : tie.Need-element-copy-out-wide Inv-loop μ-loop
-element-copy-out-wide c = search needs
-
-wide-requires-2 : tie.Need-wide-requires-2 Inv-loop μ-loop
-wide-requires-2 c κs = search needs
-
-add-i : tie.Need-add-i Inv-loop μ-loop
-add-i c = search needs
-
-loop-less : tie.Need-loop-less Inv-loop μ-loop
-loop-less c = search needs
-
 loop-again : tie.Need-loop-again Inv-loop μ-loop
 loop-again c =
     let a = c .before .before .before .before .before .before .before .before .before .before .before .before .before .loop in
@@ -90,12 +39,6 @@ loop-again c =
     let t = c .before .before .before .before .before .before .before .before .before .before .before .before .loop-test .taken in
     let e = Steps.begun-stored (g .index .now) (Steps.asks-day (g .index .now) (g .days .now) (g .answer .now) (a .answer) (a .begun) (a .at) (a .i) (a .inv .2) t .built) _ _ _ (Steps.late (g .index .now) (g .days .now) (g .answer .now) (a .answer) (a .begun) (a .at) (a .i) (a .inv .2) t) (c .before .before .wide .ensures .0) (c .wide2 .ensures .0) in
     (c .before .before .before .before .before .before .before .before .add .ensures .1, omega arith, Steps.goes-on (g .index .now) (g .days .now) (g .answer .now) (a .answer) (a .begun) (a .at) (a .i) (a .inv .2) t _ e _ _ (c .before .before .before .before .before .before .before .before .add .ensures .0))
-
-same-length : tie.Need-same-length Inv-loop μ-loop
-same-length c = search needs
-
-same-length-2 : tie.Need-same-length-2 Inv-loop μ-loop
-same-length-2 c = search needs
 
 returns : tie.Need-returns Inv-loop μ-loop
 returns c =
@@ -110,26 +53,12 @@ gather-spec =
     Inv-loop
     μ-loop
     loop-holds
-    mul-add
-    sub-add
-    part-add-start
-    part-add-end
-    mul-add-2
-    sub-add-2
-    part-add-start-2
-    part-add-end-2
+    (λ c. search needs) (λ c. search needs) (λ c. search needs) (λ c. search needs) (λ c. search needs)
+    (λ c. search needs) (λ c. search needs) (λ c. search needs)
     add-requires
     add-at
-    mul-wide
-    shared-slice-read-wide
-    wide-requires
-    add-wide
-    mul-wide-2
-    element-copy-out-wide
-    wide-requires-2
-    add-i
-    loop-less
+    (λ c. search needs) (λ c. search needs) (λ c κs. search needs) (λ c. search needs) (λ c. search needs)
+    (λ c. search needs) (λ c κs. search needs) (λ c. search needs) (λ c. search needs)
     loop-again
-    same-length
-    same-length-2
+    (λ c. search needs) (λ c. search needs)
     returns)

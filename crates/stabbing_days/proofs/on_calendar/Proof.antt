@@ -19,26 +19,11 @@ abbrev μ-loop : tie.MeasureT-loop
 loop-holds : tie.Need-loop-holds Inv-loop μ-loop
 loop-holds c = (search needs, refl)
 
-mul-is-day : tie.Need-mul-is-day Inv-loop μ-loop
-mul-is-day c = search needs
-
-shared-slice-read-is-day : tie.Need-shared-slice-read-is-day Inv-loop μ-loop
-shared-slice-read-is-day c = search needs
-
-is-day-requires : tie.Need-is-day-requires Inv-loop μ-loop
-is-day-requires c κs = search needs
-
 returns : tie.Need-returns Inv-loop μ-loop
 returns c =
     let a = c .before .before .before .before in
     let d = c .before .before .before .loop-test .taken in
     sym (Steps.off (a .before .before .args .days .now) (a .loop .i) d (sym (c .before .is-day .ensures) ∙ not-true _ (c .if1 .taken))) ∙ a .loop .inv .1
-
-add-i : tie.Need-add-i Inv-loop μ-loop
-add-i c = search needs
-
-loop-less : tie.Need-loop-less Inv-loop μ-loop
-loop-less c = search needs
 
 loop-again : tie.Need-loop-again Inv-loop μ-loop
 loop-again c =
@@ -58,11 +43,8 @@ on-calendar-spec =
     Inv-loop
     μ-loop
     loop-holds
-    mul-is-day
-    shared-slice-read-is-day
-    is-day-requires
+    (λ c. search needs) (λ c. search needs) (λ c κs. search needs)
     returns
-    add-i
-    loop-less
+    (λ c. search needs) (λ c. search needs)
     loop-again
     returns-2)
