@@ -1,10 +1,12 @@
 -- Words laid into a block from a place on. Assumes nothing.
-use Prim.Native.Nat.{ℕ, _+_, _≤_, _<_}
+use Prim.Native.Nat.{ℕ, _+_, _-_, _≤_, _<_}
 use native.Mathlib.Omega.{arith}
-use mathlib.Core.List.{List, _++_, append-assoc}
-use mathlib.Core.Path.{_≡_, refl, sym, ap, _∙_}
-use lib.ListN.{length, getD, take, drop, set, length-set, length-drop}
-use lib.Seq.{getD-set-same, getD-set-other, getD-take, getD-drop, take-add, take-take, take-at, length-take-le, ext-getD}
+use mathlib.Core.List.{List, _++_, append-assoc, append-nil}
+use mathlib.Core.Path.{_≡_, refl, sym, ap, subst, _∙_}
+use lib.ListN.{length, getD, take, drop, set, length-set, length-drop, length-append, drop-of-length-le}
+use lib.Seq.{getD-set-same, getD-set-other, getD-take, getD-drop, take-add, take-take, take-at, take-all, take-append-add, take-append-seam, length-take-le, ext-getD}
+use Rattle.buffer.specs.Buffer.{overlaid}
+use Rattle.buffer.proofs.Overlaid.{overlaid-all}
 use Rattle.stabbing.specs.Index.{column}
 use Rattle.stabbing.proofs.Marks.{by-eq}
 use Rattle.stabbing.proofs.Columns.{column-only, column-at, column-length}
@@ -42,6 +44,20 @@ module _ {entry : List ℕ} {base : ℕ} {f : ℕ → ℕ} where
       let cells : take size (drop base now) ≡ column size f = column-only size f (take size (drop base now)) (length-take-le size (drop base now) d)
       (λ j g. getD-take size (drop base now) j 0 g ∙ getD-drop base now j 0 ∙ i .words j (omega arith)) in
       record { size = i .size; front = rw (t, take-add base size now, before, cells) }
+
+-- words put into the part from base on
+pub laid-part : (entry words after : List ℕ) (base size : ℕ) → base + length words ≤ length entry → size ≡ length entry - base
+    → after ≡ overlaid words (take size (drop base entry))
+    → Laid entry base (base + length words) words (take base entry ++ (after ++ drop size (drop base entry)))
+laid-part entry words after base size h e p =
+    let rest = drop (length words) (drop base entry) in
+    let l : length (take base entry) ≡ base = length-take-le base entry (omega arith) in
+    let d : length (drop base entry) ≡ length entry - base = length-drop base entry in
+    let put : after ≡ words ++ rest = p ∙ rw (take-all size (drop base entry) (omega arith)) (overlaid-all words (drop base entry) (omega arith)) in
+    rw (put, drop-of-length-le (drop base entry) {i = size} (omega arith), append-nil) (record {
+      size = length-append (take base entry) (words ++ rest) ∙ omega (arith, l, d, length-append words rest, length-drop (length words) (drop base entry));
+      front = rw (ap (λ (n : ℕ). take (n + length words) (take base entry ++ (words ++ rest))) (sym l) ∙ take-append-add (take base entry) (words ++ rest) (length words), take-append-seam words rest);
+    })
 
 -- one column after another
 pub laid-more : {a b c : ℕ} {e m x us vs : List ℕ} → Laid e a b us m → Laid m b c vs x → Laid e a c (us ++ vs) x

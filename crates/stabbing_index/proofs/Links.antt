@@ -1,21 +1,23 @@
 -- The steps of the builder over what it reads and has written, apart from the code. Assumes nothing.
 use Prim.Native.Nat.{ℕ, zero, suc, _+_, _-_, _≤_, _<_}
+use native.Mathlib.Nat.{le-refl}
 use native.Mathlib.Omega.{arith}
 use native.Mathlib.Numerals.{add-one}
 use mathlib.Core.Bool.{Bool, true, false}
-use mathlib.Core.List.{List}
+use mathlib.Core.List.{List, []}
 use mathlib.Core.Logic.{_≢_}
 use mathlib.Core.Path.{_≡_, refl, sym, ap, _∙_}
-use lib.Dec.{eqb, leb}
-use lib.ListN.{length, getD, set, length-set}
+use lib.Dec.{eqb, leb, ltb}
+use lib.ListN.{length, getD, set, replicate, length-set, length-replicate, getD-replicate, List·getD-eq-default}
 use lib.Seq.{getD-set-same, getD-set-other}
-use borrow.Author.Tests.{eqb-true, eqb-false, eq-eqb, ne-eqb, le-leb, lt-leb}
+use borrow.Author.Tests.{eqb-true, eqb-false, eq-eqb, ne-eqb, le-leb, lt-leb, ltb-true, ltb-false, lt-ltb}
 use Rattle.stabbing_index.specs.declared.Way.{Way}
-use Rattle.stabbing.specs.Tree.{below, day, head, parent, child, leftSibling, nearest}
+use Rattle.stabbing.specs.Tree.{below, day, head, next, parent, child, leftSibling, nearest}
+use Rattle.stabbing.specs.Index.{headLink, rowLink}
 use Rattle.stabbing.proofs.Marks.{by-test, by-mark, by-eq, below-hit, below-miss, clash}
 use Rattle.stabbing.proofs.Links.{Head, bottom, bottom-is, parent-is, child-is, left-is}
 use Rattle.stabbing_index.proofs.Parents.{parent-nearest, left-passed, child-next, child-same}
-use Rattle.stabbing_index.specs.Passes.{passed, Columns, Linked, headAt, ClimbAt, Climbed, HeadAt}
+use Rattle.stabbing_index.specs.Passes.{passed, Columns, Held, Linked, Chained, headAt, ClimbAt, Climbed, HeadAt}
 
 -- a head by its column
 pub head-is : {xs ys fs ls : List ℕ} {n : ℕ} (k : ℕ) → Columns xs ys fs ls n → k < n → headAt xs n k ≡ head fs ls k
@@ -109,42 +111,79 @@ module _ {xs ys fs ls : List ℕ} {n : ℕ} {ps : List ℕ} {m : ℕ} (l k : ℕ
             left = g .left ∙ ap (λ (x : ℕ). passed fs ls l (length fs) j x) z ∙ ap (λ (x : ℕ). passed fs ls l (length fs) x (suc v)) j-is ∙ sym (t .1) ∙ ap (λ (x : ℕ). passed fs ls l (length fs) x k) (sym z);
           }
 
+-- ---- a column, one word more
+held-none : {f : ℕ → ℕ} (size : ℕ) → size ≡ 1024 → Held (replicate size 0) f 0
+held-none size e = record {
+  size = length-replicate {A = ℕ} size 0 ∙ e;
+  words = λ v h. absurd (omega arith);
+  rest = λ v _. by-test (ltb v size)
+      (λ h. getD-replicate size v 0 0 (ltb-true v size h))
+      (λ h. List·getD-eq-default (replicate size 0) 0 {n = v} (omega (arith, length-replicate {A = ℕ} size 0, ltb-false v size h)));
+}
+
+module _ {ws : List ℕ} {f : ℕ → ℕ} {k : ℕ} (q : Held ws f k) where
+  held-skip : f k ≡ 0 → Held ws f (suc k)
+  held-skip z = record {
+    size = q .size;
+    words = λ v h. by-eq v k (omega arith) (λ e. rw e (q .rest k (le-refl k) ∙ sym z)) (q .words v);
+    rest = λ v h. q .rest v (omega arith);
+  }
+
+  held-set : (x : ℕ) → k < 1024 → x ≡ f k → Held (set ws k x) f (suc k)
+  held-set x h z = record {
+    size = length-set ws k x ∙ q .size;
+    words = λ v g. by-eq v k (omega arith)
+        (λ e. rw e (getD-set-same ws k x 0 (omega (arith, q .size)) ∙ z))
+        (λ lt. getD-set-other ws k v x 0 (λ e. omega arith) ∙ q .words v lt);
+    rest = λ v g. getD-set-other ws k v x 0 (λ e. omega arith) ∙ q .rest v (omega arith);
+  }
+
+  -- every word of it, where f too is 0 from k on
+  pub held-at : ((v : ℕ) → k ≤ v → f v ≡ 0) → (v : ℕ) → getD ws v 0 ≡ f v
+  held-at z v = by-test (ltb v k) (λ e. q .words v (ltb-true v k e)) (λ e. q .rest v (ltb-false v k e) ∙ sym (z v (ltb-false v k e)))
+
 -- ---- one position more
 child-none : (fs ls : List ℕ) (k : ℕ) → child fs ls (suc k) (suc k) ≡ 0
 child-none fs ls k = by-mark (child fs ls (suc k) (suc k)) (λ z. z) (λ b z.
     let c = child-is fs ls (suc k) (suc k) in
     absurd (omega (arith, c .within, c .hit b z .1, parent-is fs ls b .within)))
 
-pub none-yet : {fs ls ps qs cs : List ℕ} → length ps ≡ 1024 → length qs ≡ 1024 → length cs ≡ 1024 → Linked fs ls ps qs cs 0
-none-yet a b c = record {
-  parents-size = a;
-  lefts-size = b;
-  children-size = c;
-  parents = λ v h _. absurd (omega arith);
-  lefts = λ v h _. absurd (omega arith);
-  children = λ v h _. absurd (omega arith);
-}
+module _ (fs ls : List ℕ) where
+  -- a link of a head, and of what is none
+  pub link-head : (link : ℕ → ℕ) (p : ℕ) → p < length fs → Head fs ls p → headLink [] fs ls link p ≡ link p
+  link-head link p h e = rw (lt-ltb p (length fs) h, e)
 
--- a position that is no head
-module _ (fs ls ps qs cs : List ℕ) (k : ℕ) (q : Linked fs ls ps qs cs k) (np : head fs ls k ≡ false) where
-  earlier : (v : ℕ) → v < suc k → Head fs ls v → v < k
-  earlier v h hv = by-eq v k (omega arith) (λ z. absurd (clash hv (rw z np))) (λ lt. lt)
+  link-none : (link : ℕ → ℕ) (p : ℕ) → head fs ls p ≡ false → headLink [] fs ls link p ≡ 0
+  link-none link p h = by-test (ltb p (length fs)) (λ e. rw (e, h)) (λ e. rw e)
 
-  pub skipped : Linked fs ls ps qs cs (suc k)
-  skipped = record {
-    parents-size = q .parents-size;
-    lefts-size = q .lefts-size;
-    children-size = q .children-size;
-    parents = λ v h hv. q .parents v (earlier v h hv) hv;
-    lefts = λ v h hv. q .lefts v (earlier v h hv) hv;
-    children = λ v h hv. q .children v (earlier v h hv) hv ∙ sym (child-same fs ls (suc v) k (λ hk. absurd (clash hk np)));
-  }
+  -- the chain's link of the position above a head, and above what is none
+  next-none : (k : ℕ) → Head fs ls k → rowLink [] fs ls (next fs ls) (suc k) ≡ 0
+  unfolding head next
+  next-none k h = by-test (ltb (suc k) (length fs))
+      (λ e.
+      let lt : suc k < length fs = ltb-true (suc k) (length fs) e in
+      by-test (eqb (day fs k) (day fs (suc k)))
+      (λ z. absurd (clash h (rw (ne-eqb (suc k) (length fs) (λ y. omega arith), z))))
+      (λ z. rw (e, z, next)))
+      (λ e. rw e)
 
-  pub bottom-kept : bottom fs ls (suc k) ≡ bottom fs ls k
-  bottom-kept = below-miss (head fs ls) k np
+  module _ (k : ℕ) (inside : k < length fs) (h : head fs ls k ≡ false) where
+    above : suc k < length fs
+    unfolding head
+    above = by-eq (suc k) (length fs) inside (λ e. absurd (clash (rw (eq-eqb (suc k) (length fs) e)) h)) (λ lt. lt)
 
-pub bottom-next : (fs ls : List ℕ) (k : ℕ) → Head fs ls k → bottom fs ls (suc k) ≡ suc k
-bottom-next fs ls k h = below-hit (head fs ls) k h
+    next-same : suc k ≡ rowLink [] fs ls (next fs ls) (suc k)
+    unfolding head next
+    next-same = by-test (eqb (day fs k) (day fs (suc k)))
+        (λ z. sym (rw (lt-ltb (suc k) (length fs) above, z, next)))
+        (λ z. absurd (clash (rw (ne-eqb (suc k) (length fs) (λ y. omega (arith, above)), z)) h))
+
+pub none-yet : {fs ls : List ℕ} (size : ℕ) → size ≡ 1024 → Linked fs ls (replicate size 0) (replicate size 0) (replicate size 0) 0 × Chained fs ls (replicate size 0) 0
+unfolding next
+none-yet {fs} size e = (
+  record { parents = held-none size e; lefts = held-none size e; children = held-none size e },
+  held-skip (held-none size e) (by-test (ltb 0 (length fs)) (λ z. rw z) (λ z. rw z)),
+)
 
 -- a head
 module _ {xs ys fs ls : List ℕ} {n k prev : ℕ} {ps qs cs : List ℕ} (q : HeadAt xs ys fs ls n k prev ps qs cs) where
@@ -161,7 +200,7 @@ module _ {xs ys fs ls : List ℕ} {n k prev : ℕ} {ps qs cs : List ℕ} (q : He
         columns = q .columns;
         within = omega (arith, q .before, i .within, q .inside);
         at-head = λ v z. i .hit v (sym (q .before) ∙ z);
-        parents = λ v a hv. q .links .parents v (omega (arith, q .before, i .within)) hv;
+        parents = λ v a hv. q .links .parents .words v (omega (arith, q .before, i .within)) ∙ link-head fs ls (parent fs ls) v (omega (arith, q .before, i .within, in-list)) hv;
       }
 
   module _ (l : ℕ) (e : l ≡ getD ys k 0) (w : Way) (g : Climbed fs ls l prev 0 w) where
@@ -181,47 +220,41 @@ module _ {xs ys fs ls : List ℕ} {n k prev : ℕ} {ps qs cs : List ℕ} (q : He
     left-small = rw (left-of ∙ left-is fs ls k) (child-is fs ls (parent fs ls k) k .within)
 
     -- the children's column, by what was written there
-    linked : (cs′ : List ℕ) → length cs′ ≡ 1024 → getD cs′ k 0 ≡ 0
-        → ((v : ℕ) → v < k → parent fs ls k ≡ suc v → getD cs′ v 0 ≡ suc k)
-        → ((v : ℕ) → v < k → parent fs ls k ≢ suc v → getD cs′ v 0 ≡ getD cs v 0)
+    linked : (cs′ : List ℕ) → length cs′ ≡ 1024
+        → ((v : ℕ) → parent fs ls k ≡ suc v → getD cs′ v 0 ≡ suc k)
+        → ((v : ℕ) → parent fs ls k ≢ suc v → getD cs′ v 0 ≡ getD cs v 0)
         → Linked fs ls (set ps k (w .parent)) (set qs k (w .left)) cs′ (suc k)
-    linked cs′ s c₀ c₁ c₂ = record {
-      parents-size = length-set ps k _ ∙ q .links .parents-size;
-      lefts-size = length-set qs k _ ∙ q .links .lefts-size;
-      children-size = s;
-      parents = λ v a hv. by-eq v k (omega arith)
-          (λ z. rw z (getD-set-same ps k (w .parent) 0 (omega (arith, q .links .parents-size, room)) ∙ parent-of))
-          (λ lt. getD-set-other ps k v (w .parent) 0 (λ z. omega arith) ∙ q .links .parents v lt hv);
-      lefts = λ v a hv. by-eq v k (omega arith)
-          (λ z. rw z (getD-set-same qs k (w .left) 0 (omega (arith, q .links .lefts-size, room)) ∙ left-of))
-          (λ lt. getD-set-other qs k v (w .left) 0 (λ z. omega arith) ∙ q .links .lefts v lt hv);
-      children = λ v a hv. by-eq v k (omega arith)
-          (λ z. rw z (c₀ ∙ sym (child-none fs ls k)))
-          (λ lt. by-test (eqb (parent fs ls k) (suc v))
-          (λ t. let y : parent fs ls k ≡ suc v = eqb-true _ _ t in c₁ v lt y ∙ sym (child-next fs ls (suc v) k (q .top) y))
-          (λ t. let y : parent fs ls k ≢ suc v = eqb-false _ _ t in c₂ v lt y ∙ q .links .children v lt hv ∙ sym (child-same fs ls (suc v) k (λ _. y))));
-    }
-
-    in-cs : k < length cs
-    in-cs = omega (arith, q .links .children-size, room)
+    linked cs′ s c₁ c₂ =
+        let i = parent-is fs ls k in
+        record {
+          parents = held-set (q .links .parents) (w .parent) room (parent-of ∙ sym (link-head fs ls (parent fs ls) k in-list (q .top)));
+          lefts = held-set (q .links .lefts) (w .left) room (left-of ∙ sym (link-head fs ls (leftSibling fs ls) k in-list (q .top)));
+          children = record {
+            size = s;
+            words = λ v a. by-test (eqb (parent fs ls k) (suc v))
+                (λ t.
+                let y : parent fs ls k ≡ suc v = eqb-true _ _ t in
+                c₁ v y ∙ sym (link-head fs ls (λ u. child fs ls (suc u) (suc k)) v (omega (arith, in-list)) (i .hit v y .0) ∙ child-next fs ls (suc v) k (q .top) y))
+                (λ t.
+                let y : parent fs ls k ≢ suc v = eqb-false _ _ t in
+                c₂ v y ∙ by-eq v k (omega arith)
+                (λ z. rw z (q .links .children .rest k (le-refl k) ∙ sym (link-head fs ls (λ u. child fs ls (suc u) (suc k)) k in-list (q .top) ∙ child-none fs ls k)))
+                (λ lt. q .links .children .words v lt ∙ rw (child-same fs ls (suc v) k (λ _. y))));
+            rest = λ v a. c₂ v (λ y. omega (arith, i .within)) ∙ q .links .children .rest v (omega arith);
+          };
+        }
 
     -- no parent
-    pub linked-root : w .parent ≡ 0 → Linked fs ls (set ps k (w .parent)) (set qs k (w .left)) (set cs k 0) (suc k)
-    linked-root z = linked (set cs k 0) (length-set cs k 0 ∙ q .links .children-size) (getD-set-same cs k 0 0 in-cs)
-        (λ v a y. absurd (omega (arith, parent-of)))
-        (λ v a y. getD-set-other cs k v 0 0 (λ x. omega arith))
+    pub linked-root : w .parent ≡ 0 → Linked fs ls (set ps k (w .parent)) (set qs k (w .left)) cs (suc k)
+    linked-root z = linked cs (q .links .children .size) (λ v y. absurd (omega (arith, parent-of))) (λ v y. refl)
 
     -- a parent: k is its last child so far
-    pub linked-child : w .parent ≢ 0 → Linked fs ls (set ps k (w .parent)) (set qs k (w .left)) (set (set cs k 0) (w .parent - 1) (k + 1)) (suc k)
+    pub linked-child : w .parent ≢ 0 → Linked fs ls (set ps k (w .parent)) (set qs k (w .left)) (set cs (w .parent - 1) (k + 1)) (suc k)
     linked-child z =
-        let c : List ℕ = set cs k 0 in
         let u : ℕ = w .parent - 1 in
-        let below-k : u < k = omega (arith, parent-small) in
-        let n₁ : length c ≡ 1024 = length-set cs k 0 ∙ q .links .children-size in
-        linked (set c u (k + 1)) (length-set c u _ ∙ n₁)
-        (getD-set-other c u k (k + 1) 0 (λ x. omega arith) ∙ getD-set-same cs k 0 0 in-cs)
-        (λ v a y. let x : u ≡ v = omega (arith, parent-of) in rw (← x) (getD-set-same c u (k + 1) 0 (omega (arith, room)) ∙ omega arith))
-        (λ v a y. getD-set-other c u v (k + 1) 0 (λ x. y (omega (arith, parent-of))) ∙ getD-set-other cs k v 0 0 (λ x. omega arith))
+        linked (set cs u (k + 1)) (length-set cs u _ ∙ q .links .children .size)
+        (λ v y. let x : u ≡ v = omega (arith, parent-of) in rw (← x) (getD-set-same cs u (k + 1) 0 (omega (arith, parent-small, room, q .links .children .size)) ∙ omega arith))
+        (λ v y. getD-set-other cs u v (k + 1) 0 (λ x. y (omega (arith, parent-of))))
 
 -- the ways of `is_head`, as the code adds 1
 module _ (xs : List ℕ) (n k : ℕ) where
@@ -239,23 +272,38 @@ module _ (xs : List ℕ) (n k : ℕ) where
     head-yes h = sym (rw (other, ne-eqb (getD xs k 0) (getD xs (suc k) 0) (rw add-one at h)))
 
 -- a turn of `link`
-module _ {xs ys fs ls : List ℕ} {n k prev : ℕ} {ps qs cs : List ℕ} (q : Columns xs ys fs ls n) (inside : k < n) (before : prev ≡ bottom fs ls k) (links : Linked fs ls ps qs cs k) {r : Bool} (e : r ≡ headAt xs n k) where
+module _ {xs ys fs ls : List ℕ} {n k prev : ℕ} {ps qs cs ns : List ℕ} (q : Columns xs ys fs ls n) (inside : k < n) (before : prev ≡ bottom fs ls k) (links : Linked fs ls ps qs cs k) (chains : Chained fs ls ns k) {r : Bool} (e : r ≡ headAt xs n k) where
   pub asks-head : r ≡ true → HeadAt xs ys fs ls n k prev ps qs cs
   asks-head z = record { columns = q; inside = inside; top = sym (e ∙ head-is k q inside) ∙ z; before = before; links = links }
 
-  -- no head
-  pub turn-skip : r ≡ false → Linked fs ls ps qs cs (k + 1) × (prev ≡ bottom fs ls (k + 1))
-  turn-skip z =
-      let np : head fs ls k ≡ false = sym (e ∙ head-is k q inside) ∙ z in
-      rw (add-one k) (skipped fs ls ps qs cs k links np, before ∙ sym (bottom-kept fs ls ps qs cs k links np))
-
   -- a head
-  pub turn-head : r ≡ true → (ps′ qs′ cs′ : List ℕ) → Linked fs ls ps′ qs′ cs′ (suc k) → Linked fs ls ps′ qs′ cs′ (k + 1) × (k + 1 ≡ bottom fs ls (k + 1))
-  turn-head z ps′ qs′ cs′ g = rw (add-one k) (g, sym (bottom-next fs ls k (sym (e ∙ head-is k q inside) ∙ z)))
+  pub turn-head : r ≡ true → (ps′ qs′ cs′ : List ℕ) → Linked fs ls ps′ qs′ cs′ (suc k) → Linked fs ls ps′ qs′ cs′ (k + 1) × (k + 1 ≡ bottom fs ls (k + 1)) × Chained fs ls ns (k + 1)
+  turn-head z ps′ qs′ cs′ g =
+      let h : Head fs ls k = sym (e ∙ head-is k q inside) ∙ z in
+      rw (add-one k) (g, sym (below-hit (head fs ls) k h), held-skip chains (next-none fs ls k h))
+
+  -- no head
+  module _ (z : r ≡ false) where
+    np : head fs ls k ≡ false
+    np = sym (e ∙ head-is k q inside) ∙ z
+
+    pub goes-on : k + 1 < 1024
+    goes-on = omega (arith, above fs ls k (rw (q .count) inside) np, q .count, q .few)
+
+    pub turn-skip : Linked fs ls ps qs cs (k + 1) × (prev ≡ bottom fs ls (k + 1)) × Chained fs ls (set ns (k + 1) (k + 1)) (k + 1)
+    turn-skip =
+        let c = held-skip (links .children) (link-none fs ls (λ v. child fs ls (suc v) k) k np) in
+        let same : (v : ℕ) → child fs ls (suc v) (suc k) ≡ child fs ls (suc v) k = λ v. child-same fs ls (suc v) k (λ hk. absurd (clash hk np)) in
+        rw (add-one k) (
+          record {
+            parents = held-skip (links .parents) (link-none fs ls (parent fs ls) k np);
+            lefts = held-skip (links .lefts) (link-none fs ls (leftSibling fs ls) k np);
+            children = record { size = c .size; words = λ v h. c .words v h ∙ rw (same v); rest = c .rest };
+          },
+          before ∙ sym (below-miss (head fs ls) k np),
+          held-set chains (suc k) (omega (arith, goes-on)) (next-same fs ls k (rw (q .count) inside) np),
+        )
 
 pub bottom-zero : (fs ls : List ℕ) → 0 ≡ bottom fs ls 0
 unfolding below
 bottom-zero fs ls = refl
-
-pub all-linked : {fs ls ps qs cs : List ℕ} {k n : ℕ} → k ≡ n → Linked fs ls ps qs cs k → Linked fs ls ps qs cs n
-all-linked e q = rw e at q

@@ -1,46 +1,20 @@
--- The words of the columns, case by case. Assumes nothing.
+-- The table by number. Assumes nothing.
 use Prim.Native.Nat.{ℕ, suc, _+_, _≤_, _<_}
 use native.Mathlib.Omega.{arith}
 use native.Mathlib.Numerals.{add-one}
-use mathlib.Core.Bool.{Bool, true, false}
+use mathlib.Core.Bool.{Bool}
 use mathlib.Core.List.{List}
 use mathlib.Core.Path.{_≡_, refl, sym, ap, _∙_}
 use lib.Dec.{eqb}
 use lib.ListN.{length, getD, set, length-set}
 use lib.Seq.{getD-set-same, getD-set-other}
-use borrow.Author.Tests.{lt-ltb, le-ltb, eqb-true, eqb-false}
+use borrow.Author.Tests.{eqb-true, eqb-false}
 use Rattle.stabbing.specs.Tree.{below}
 use Rattle.stabbing.proofs.Marks.{by-test, below-hit, below-miss}
-use Rattle.stabbing_index.specs.Passes.{headAt, nextOf}
-use Rattle.stabbing_index.specs.Words.{rowWord, headWord, nextWord, nameWord}
+use Rattle.stabbing_index.specs.Words.{nameWord}
 use Rattle.stabbing_index.proofs.Laying.{Laying}
 
-module _ (xs : List ℕ) (n p : ℕ) where
-  pub row-past : n ≤ p → 0 ≡ rowWord xs n p
-  row-past h = sym (simp (le-ltb p n h))
-
-  pub row-here : p < n → getD xs p 0 ≡ rowWord xs n p
-  row-here h = sym (simp (lt-ltb p n h))
-
-  module _ (first : List ℕ) where
-    pub head-past : n ≤ p → 0 ≡ headWord first n xs p
-    head-past h = sym (simp (le-ltb p n h))
-
-    module _ (h : p < n) (r : Bool) (e : r ≡ headAt first n p) where
-      pub head-here : r ≡ true → getD xs p 0 ≡ headWord first n xs p
-      head-here z = sym (rw (lt-ltb p n h, sym e ∙ z))
-
-      pub head-not : r ≡ false → 0 ≡ headWord first n xs p
-      head-not z = sym (rw (lt-ltb p n h, sym e ∙ z))
-
-module _ (xs : List ℕ) (n p : ℕ) where
-  pub next-past : n ≤ p → 0 ≡ nextWord xs n p
-  next-past h = sym (simp (le-ltb p n h))
-
-  pub next-here : p < n → (r : ℕ) → r ≡ nextOf xs n p → r ≡ nextWord xs n p
-  next-here h r e = e ∙ sym (simp (lt-ltb p n h))
-
--- ---- the table by number: nobody yet, and one row more
+-- nobody yet, and one row more
 pub nobody : (entry xs : List ℕ) (base size : ℕ) → ((x : ℕ) → x < size → getD entry (base + x) 0 ≡ 0) → Laying entry base size (nameWord xs 0) entry
 unfolding below
 nobody entry xs base size f = record { size = refl; kept = λ j h. refl; words = f }

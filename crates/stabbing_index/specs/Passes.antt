@@ -10,6 +10,7 @@ use lib.Dec.{eqb, leb}
 use lib.ListN.{length, getD, take}
 use Rattle.stabbing_index.specs.declared.Way.{Way}
 use Rattle.stabbing.specs.Tree.{Sorted, day, next, parent, child, leftSibling, nearest, start, latest}
+use Rattle.stabbing.specs.Index.{headLink, rowLink}
 use Rattle.stabbing.proofs.Links.{Head, bottom}
 
 -- ---- The columns
@@ -28,10 +29,6 @@ ColumnsOf xs ys n = Columns xs ys (take n xs) (take n ys) n
 -- is the position k of n, by the column of first days, a head?
 abbrev pub headAt : List ℕ → ℕ → ℕ → Bool
 headAt xs n k = eqb (suc k) n || not (eqb (getD xs k 0) (getD xs (suc k) 0))
-
--- the next in the chain of the position k of n, which the first days alone show
-abbrev pub nextOf : List ℕ → ℕ → ℕ → ℕ
-nextOf xs n k = next (take n xs) [] k
 
 -- ---- The way from the mark m up to the nearest that lasts to l
 
@@ -61,17 +58,27 @@ ClimbGives xs ys n l m k w = Climbed (take n xs) (take n ys) l m k w
 
 -- ---- The links
 
+-- the words of a column below k are those of f, and from k on they are 0
+pub record Held (ws : List ℕ) (f : ℕ → ℕ) (k : ℕ) : Type 0 where
+  pub size : length ws ≡ 1024
+  pub words : (v : ℕ) → v < k → getD ws v 0 ≡ f v
+  pub rest : (v : ℕ) → k ≤ v → getD ws v 0 ≡ 0
+
 -- the columns ps, qs and cs hold the links of the heads below k: parents, left siblings, and of the children those below k
 pub record Linked (fs ls ps qs cs : List ℕ) (k : ℕ) : Type 0 where
-  pub parents-size : length ps ≡ 1024
-  pub lefts-size : length qs ≡ 1024
-  pub children-size : length cs ≡ 1024
-  pub parents : (v : ℕ) → v < k → Head fs ls v → getD ps v 0 ≡ parent fs ls v
-  pub lefts : (v : ℕ) → v < k → Head fs ls v → getD qs v 0 ≡ leftSibling fs ls v
-  pub children : (v : ℕ) → v < k → Head fs ls v → getD cs v 0 ≡ child fs ls (suc v) k
+  pub parents : Held ps (headLink [] fs ls (parent fs ls)) k
+  pub lefts : Held qs (headLink [] fs ls (leftSibling fs ls)) k
+  pub children : Held cs (headLink [] fs ls (λ v. child fs ls (suc v) k)) k
 
 abbrev pub LinkedOf : List ℕ → List ℕ → ℕ → List ℕ → List ℕ → List ℕ → ℕ → Type 0
 LinkedOf xs ys n ps qs cs k = Linked (take n xs) (take n ys) ps qs cs k
+
+-- the column ns holds the links of the chains, up to the position k
+abbrev pub Chained : List ℕ → List ℕ → List ℕ → ℕ → Type 0
+Chained fs ls ns k = Held ns (rowLink [] fs ls (next fs ls)) (suc k)
+
+abbrev pub ChainedOf : List ℕ → List ℕ → ℕ → List ℕ → ℕ → Type 0
+ChainedOf xs ys n ns k = Chained (take n xs) (take n ys) ns k
 
 -- the head k after those below it, the latest of which has the mark prev
 pub record HeadAt (xs ys fs ls : List ℕ) (n k prev : ℕ) (ps qs cs : List ℕ) : Type 0 where

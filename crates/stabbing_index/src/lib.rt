@@ -1,5 +1,5 @@
-// The builder of the index: rows that can be published become the block that the questions read. It finds the links of the
-// heads in one sweep, the tables by day in another, and then lays the block column by column.
+// The builder of the index: rows that can be published become the block that the questions read. It finds the links in one
+// sweep, the tables by day in another, and lays the block column by column.
 use stabbing::BEGUN;
 use stabbing::BY_NUMBER;
 use stabbing::CHILD;
@@ -17,11 +17,12 @@ ghost use mathlib.Core.Path.{_≡_};
 ghost use mathlib.Core.Bool.{_&&_};
 ghost use mathlib.Core.List.{_++_};
 ghost use Prim.Native.Nat.{suc, _+_, _≤_, _<_};
-ghost use lib.ListN.{length, take, getD};
+ghost use lib.ListN.{length, take};
+ghost use Rattle.stabbing.specs.Tree.{day};
 ghost use Rattle.stabbing.specs.Index.{lastOf, rowOk, mayFollow, rowsOk, column, blockOf};
 ghost use Rattle.stabbing_index.specs.Build.{Builds};
-ghost use Rattle.stabbing_index.specs.Passes.{headAt, ColumnsOf, ClimbAsks, ClimbGives, HeadAsks, LinkedOf, nextOf, AdvanceAsks, latestIn, DaysAsks, DayAsks, startIn, DayedOf};
-ghost use Rattle.stabbing_index.specs.Words.{Laid, rowWord, headWord, nextWord, lastWord, nameWord, MarksIn, BlankFrom, linkWords, dayWords, RowsOf};
+ghost use Rattle.stabbing_index.specs.Passes.{headAt, ColumnsOf, ClimbAsks, ClimbGives, HeadAsks, LinkedOf, ChainedOf, AdvanceAsks, latestIn, DaysAsks, DayAsks, startIn, DayedOf};
+ghost use Rattle.stabbing_index.specs.Words.{Laid, nameWord, MarksIn, markWords, BlankFrom, linkWords, dayWords, RowsOf};
 
 // ---- rows that can be published
 
@@ -69,7 +70,7 @@ fn in_order(first: &[u16], last: &[u16], n: usize) -> bool
     true
 }
 
-// ---- the links of the heads
+// ---- the links
 
 // A head's parent and its left sibling, as marks.
 struct Way {
@@ -138,14 +139,14 @@ fn link_head(
     let up = w.parent;
     parent[k] = up as u16;
     left[k] = w.left as u16;
-    child[k] = 0;
     if up == 0 {
         return;
     }
     child[up - 1] = (k + 1) as u16;
 }
 
-// The links of every head, in one sweep.
+// The links of every head and of the chains, in one sweep over columns of 0. A position that is no head has the first day of the
+// one above it, and so is the next in that one's chain.
 fn link(
     first: &[u16; 1024],
     last: &[u16; 1024],
@@ -153,50 +154,26 @@ fn link(
     parent: &mut [u16; 1024],
     left: &mut [u16; 1024],
     child: &mut [u16; 1024],
+    next: &mut [u16; 1024],
 )
     requires { ⌜ ColumnsOf (now first) (now last) n ⌝ }
-    requires { ⌜ length (now parent) ≡ 1024 ⌝ }
-    requires { ⌜ length (now left) ≡ 1024 ⌝ }
-    requires { ⌜ length (now child) ≡ 1024 ⌝ }
+    requires { ⌜ LinkedOf (now first) (now last) n (now parent) (now left) (now child) 0 ⌝ }
+    requires { ⌜ ChainedOf (now first) (now last) n (now next) 0 ⌝ }
     ensures { λ _. ⌜ LinkedOf (now (first .entry)) (now (last .entry)) n (now (parent .exit)) (now (left .exit)) (now (child .exit)) n ⌝ }
+    ensures { λ _. ⌜ ChainedOf (now (first .entry)) (now (last .entry)) n (now (next .exit)) n ⌝ }
 {
     let mut prev = 0;
     let mut k = 0;
     while k < n {
+        let mark = k + 1;
         if is_head(first, n, k) {
             link_head(first, last, n, k, prev, parent, left, child);
-            prev = k + 1;
+            prev = mark;
+        } else {
+            next[mark] = mark as u16;
         }
-        k += 1;
+        k = mark;
     }
-}
-
-// ---- the chains, and the last day of the row that a link names
-
-// The last day of the row with the mark m; 0 where it names none.
-fn last_of(last: &[u16; 1024], m: usize) -> u16
-    requires { ⌜ m ≤ 1024 ⌝ }
-    ensures { λ r. ⌜ r ≡ lastOf (now (last .entry)) m ⌝ }
-{
-    if m == 0 {
-        return 0;
-    }
-    last[m - 1]
-}
-
-// The next in k's chain: one position down, where that has the same first day.
-fn next_of(first: &[u16; 1024], n: usize, k: usize) -> usize
-    requires { ⌜ k < n ⌝ }
-    requires { ⌜ n ≤ 1024 ⌝ }
-    ensures { λ r. ⌜ r ≡ nextOf (now (first .entry)) n k ⌝ }
-{
-    if k == 0 {
-        return 0;
-    }
-    if first[k - 1] == first[k] {
-        return k;
-    }
-    0
 }
 
 // ---- the tables by day
@@ -267,128 +244,59 @@ fn days(
 
 // ---- the columns, laid one after another
 
-// The word of a column at p, none past the rows.
-fn row_word(values: &[u16; 1024], n: usize, p: usize) -> u16
-    requires { ⌜ p < 1024 ⌝ }
-    ensures { λ r. ⌜ r ≡ rowWord (now (values .entry)) n p ⌝ }
+// The words of `values`, from `base` on.
+fn lay(index: &mut [u16], base: usize, values: &[u16])
+    requires { ⌜ base + length (now values) ≤ length (now index) ⌝ }
+    ensures { λ _. ⌜ Laid (now (index .entry)) base (base + length (now (values .entry))) (now (values .entry)) (now (index .exit)) ⌝ }
 {
-    if p < n {
-        return values[p];
-    }
-    0
+    buffer::put(values, &mut index[base..]);
 }
 
-// A column of the rows.
-fn lay_rows(index: &mut [u16], base: usize, values: &[u16; 1024], n: usize)
-    requires { ⌜ base + 1024 ≤ length (now index) ⌝ }
-    ensures { λ _. ⌜ Laid (now (index .entry)) base (base + 1024) (column 1024 (rowWord (now (values .entry)) n)) (now (index .exit)) ⌝ }
+// As many words of 0 as `size` says, from `base` on.
+fn clear(index: &mut [u16], base: usize, size: usize)
+    requires { ⌜ base + size ≤ length (now index) ⌝ }
+    ensures { λ _. ⌜ Laid (now (index .entry)) base (base + size) (column size (λ _. 0)) (now (index .exit)) ⌝ }
 {
     let mut k = 0;
-    while k < 1024 {
-        index[base + k] = row_word(values, n, k);
+    while k < size {
+        index[base + k] = 0;
         k += 1;
     }
 }
 
-// The word of a column of links at p, none where p is no head.
-fn head_word(first: &[u16; 1024], n: usize, links: &[u16; 1024], p: usize) -> u16
+// A column of the rows, 0 past them.
+fn lay_rows(index: &mut [u16], base: usize, values: &[u16], n: usize)
     requires { ⌜ n ≤ 1024 ⌝ }
-    requires { ⌜ p < 1024 ⌝ }
-    ensures { λ r. ⌜ r ≡ headWord (now (first .entry)) n (now (links .entry)) p ⌝ }
+    requires { ⌜ n ≤ length (now values) ⌝ }
+    requires { ⌜ base + 1024 ≤ length (now index) ⌝ }
+    ensures { λ _. ⌜ Laid (now (index .entry)) base (base + 1024) (column 1024 (day (take n (now (values .entry))))) (now (index .exit)) ⌝ }
 {
-    if n <= p {
+    lay(index, base, &values[..n]);
+    clear(index, base + n, 1024 - n);
+}
+
+// The last day of the row with the mark m; 0 where it names none.
+fn last_of(last: &[u16; 1024], m: usize) -> u16
+    requires { ⌜ m ≤ 1024 ⌝ }
+    ensures { λ r. ⌜ r ≡ lastOf (now (last .entry)) m ⌝ }
+{
+    if m == 0 {
         return 0;
     }
-    if is_head(first, n, p) {
-        return links[p];
-    }
-    0
+    last[m - 1]
 }
 
-// A column of links of heads.
-fn lay_heads(index: &mut [u16], base: usize, first: &[u16; 1024], n: usize, links: &[u16; 1024])
-    requires { ⌜ n ≤ 1024 ⌝ }
-    requires { ⌜ base + 1024 ≤ length (now index) ⌝ }
-    ensures { λ _. ⌜ Laid (now (index .entry)) base (base + 1024) (column 1024 (headWord (now (first .entry)) n (now (links .entry)))) (now (index .exit)) ⌝ }
+// A column of marks, and beside it the last days of the rows that they name.
+fn lay_marks(index: &mut [u16], base: usize, marks: &[u16; 1024], last: &[u16; 1024])
+    requires { ⌜ base + 2048 ≤ length (now index) ⌝ }
+    requires { ⌜ MarksIn (now marks) ⌝ }
+    ensures { λ _. ⌜ Laid (now (index .entry)) base (base + 2048) (markWords (now (last .entry)) (now (marks .entry))) (now (index .exit)) ⌝ }
 {
+    lay(index, base, marks);
+    let beside = base + 1024;
     let mut k = 0;
     while k < 1024 {
-        index[base + k] = head_word(first, n, links, k);
-        k += 1;
-    }
-}
-
-// The mark of the next in p's chain, none past the rows.
-fn next_word(first: &[u16; 1024], n: usize, p: usize) -> u16
-    requires { ⌜ n ≤ 1024 ⌝ }
-    ensures { λ r. ⌜ r ≡ nextWord (now (first .entry)) n p ⌝ }
-{
-    if n <= p {
-        return 0;
-    }
-    next_of(first, n, p) as u16
-}
-
-// The links of the chains.
-fn lay_nexts(index: &mut [u16], base: usize, first: &[u16; 1024], n: usize)
-    requires { ⌜ n ≤ 1024 ⌝ }
-    requires { ⌜ base + 1024 ≤ length (now index) ⌝ }
-    ensures { λ _. ⌜ Laid (now (index .entry)) base (base + 1024) (column 1024 (nextWord (now (first .entry)) n)) (now (index .exit)) ⌝ }
-{
-    let mut k = 0;
-    while k < 1024 {
-        index[base + k] = next_word(first, n, k);
-        k += 1;
-    }
-}
-
-// Beside a column of marks, the last days of the rows that they name.
-fn lay_lasts(index: &mut [u16], marks: usize, last: &[u16; 1024])
-    requires { ⌜ marks + 2048 ≤ length (now index) ⌝ }
-    requires { ⌜ MarksIn (now index) marks ⌝ }
-    ensures { λ _. ⌜ Laid (now (index .entry)) (marks + 1024) (marks + 2048) (column 1024 (lastWord (now (last .entry)) (now (index .entry)) marks)) (now (index .exit)) ⌝ }
-{
-    let base = marks + 1024;
-    let mut k = 0;
-    while k < 1024 {
-        let m = wide(index[marks + k]);
-        index[base + k] = last_of(last, m);
-        k += 1;
-    }
-}
-
-// The links, each but the parents with the last days of the rows that they name.
-fn lay_links(
-    index: &mut [u16],
-    first: &[u16; 1024],
-    last: &[u16; 1024],
-    n: usize,
-    parent: &[u16; 1024],
-    left: &[u16; 1024],
-    child: &[u16; 1024],
-)
-    requires { ⌜ ColumnsOf (now first) (now last) n ⌝ }
-    requires { ⌜ LinkedOf (now first) (now last) n (now parent) (now left) (now child) n ⌝ }
-    requires { ⌜ length (now index) ≡ 83779 ⌝ }
-    ensures { λ _. ⌜ Laid (now (index .entry)) 3072 10240 (linkWords (take n (now (first .entry))) (take n (now (last .entry)))) (now (index .exit)) ⌝ }
-{
-    lay_heads(index, PARENT, first, n, parent);
-    lay_heads(index, LEFT, first, n, left);
-    lay_lasts(index, LEFT, last);
-    lay_heads(index, CHILD, first, n, child);
-    lay_lasts(index, CHILD, last);
-    lay_nexts(index, NEXT, first, n);
-    lay_lasts(index, NEXT, last);
-}
-
-// A table by day.
-fn lay_table(index: &mut [u16], base: usize, table: &[u16; 4001])
-    requires { ⌜ base + 4001 ≤ length (now index) ⌝ }
-    ensures { λ _. ⌜ Laid (now (index .entry)) base (base + 4001) (column 4001 (λ d. getD (now (table .entry)) d 0)) (now (index .exit)) ⌝ }
-{
-    let mut k = 0;
-    while k < 4001 {
-        index[base + k] = table[k];
+        index[beside + k] = last_of(last, wide(marks[k]));
         k += 1;
     }
 }
@@ -408,8 +316,8 @@ fn lay_days(
     let mut start = [0u16; 4001];
     let mut begun = [0u16; 4001];
     days(first, last, n, parent, &mut start, &mut begun);
-    lay_table(index, START, &start);
-    lay_table(index, BEGUN, &begun);
+    lay(index, START, &start);
+    lay(index, BEGUN, &begun);
 }
 
 // The links and the tables by day.
@@ -421,24 +329,24 @@ fn lay_tree(index: &mut [u16], first: &[u16; 1024], last: &[u16; 1024], n: usize
     let mut parent = [0u16; 1024];
     let mut left = [0u16; 1024];
     let mut child = [0u16; 1024];
-    link(first, last, n, &mut parent, &mut left, &mut child);
-    lay_links(index, first, last, n, &parent, &left, &child);
+    let mut next = [0u16; 1024];
+    link(
+        first,
+        last,
+        n,
+        &mut parent,
+        &mut left,
+        &mut child,
+        &mut next,
+    );
+    lay(index, PARENT, &parent);
+    lay_marks(index, LEFT, &left, last);
+    lay_marks(index, CHILD, &child, last);
+    lay_marks(index, NEXT, &next, last);
     lay_days(index, first, last, n, &parent);
 }
 
 // ---- the table by spell number
-
-// No number is named.
-fn clear(index: &mut [u16])
-    requires { ⌜ length (now index) ≡ 83779 ⌝ }
-    ensures { λ _. ⌜ Laid (now (index .entry)) 18242 83778 (column 65536 (λ _. 0)) (now (index .exit)) ⌝ }
-{
-    let mut k = 0;
-    while k < 65536 {
-        index[BY_NUMBER + k] = 0;
-        k += 1;
-    }
-}
 
 // The mark of every row under its number, in the order: of two with one number, the latest stays.
 fn name_rows(index: &mut [u16], number: &[u16; 1024], n: usize)
@@ -460,7 +368,7 @@ fn lay_names(index: &mut [u16], number: &[u16; 1024], n: usize)
     requires { ⌜ length (now index) ≡ 83779 ⌝ }
     ensures { λ _. ⌜ Laid (now (index .entry)) 18242 83778 (column 65536 (nameWord (now (number .entry)) n)) (now (index .exit)) ⌝ }
 {
-    clear(index);
+    clear(index, BY_NUMBER, 65536);
     name_rows(index, number, n);
 }
 

@@ -8,9 +8,6 @@ use Rattle.stabbing_index.proofs.build.Tie as tie
 returns : tie.Need-returns
 returns c = let g = c .before .args in Assemble.too-many (g .number .now) (g .first .now) (g .last .now) (g .n) (g .index .now) (c .if1 .taken)
 
-in-order-requires : tie.Need-in-order-requires
-in-order-requires c κs = search needs
-
 returns-2 : tie.Need-returns-2
 returns-2 c =
     let g = c .before .before .before .before .before .args in
@@ -27,4 +24,4 @@ returns-3 c =
     Assemble.built (g .number .now) (g .first .now) (g .last .now) (g .n) (g .index .now) (c .before .before .before .before .before .before .if1 .left) _ (c .before .before .before .in-order .ensures) (not-false _ (c .before .before .if2 .left)) _ (c .fill .ensures)
 
 pub build-spec : {M : Type 1} → statement M
-build-spec = tie.close (tie.spec returns in-order-requires returns-2 fill-requires returns-3)
+build-spec = tie.close (tie.spec returns (λ c κs. search needs) returns-2 fill-requires returns-3)

@@ -8,28 +8,13 @@ use Rattle.stabbing_index.proofs.clear.Statement.{statement}
 use Rattle.stabbing_index.proofs.clear.Tie as tie
 
 abbrev Inv-loop : tie.InvT-loop
-Inv-loop index₀ k₀ index k = Steps.Laying index₀ 18242 k (λ _. 0) index × (k ≤ 65536)
+Inv-loop index₀ base size k₀ index k = Steps.Laying index₀ base k (λ _. 0) index × (k ≤ size)
 
 abbrev μ-loop : tie.MeasureT-loop
-μ-loop index₀ k₀ index k = 65536 - k
+μ-loop index₀ base size k₀ index k = size - k
 
 loop-holds : tie.Need-loop-holds Inv-loop μ-loop
 loop-holds c = (Steps.laying-none, zero-le)
-
-add-index : tie.Need-add-index Inv-loop μ-loop
-add-index c = search needs
-
-mul-index : tie.Need-mul-index Inv-loop μ-loop
-mul-index c = search needs
-
-slice-write-index : tie.Need-slice-write-index Inv-loop μ-loop
-slice-write-index c = search needs
-
-add-k : tie.Need-add-k Inv-loop μ-loop
-add-k c = search needs
-
-loop-less : tie.Need-loop-less Inv-loop μ-loop
-loop-less c = search needs
 
 loop-again : tie.Need-loop-again Inv-loop μ-loop
 loop-again c =
@@ -54,11 +39,7 @@ clear-spec =
     Inv-loop
     μ-loop
     loop-holds
-    add-index
-    mul-index
-    slice-write-index
-    add-k
-    loop-less
+    (λ c. search needs) (λ c. search needs) (λ c. search needs) (λ c. search needs) (λ c. search needs)
     loop-again
     same-length
     returns)

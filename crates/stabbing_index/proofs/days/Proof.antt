@@ -16,20 +16,11 @@ Inv-loop first last n parent start₀ begun₀ d₀ m₀ s₀ start begun d m s 
 abbrev μ-loop : tie.MeasureT-loop
 μ-loop first last n parent start₀ begun₀ d₀ m₀ s₀ start begun d m s = 4000 - d
 
-element-write-start : tie.Need-element-write-start Inv-loop μ-loop
-element-write-start c = search needs
-
-element-write-begun : tie.Need-element-write-begun Inv-loop μ-loop
-element-write-begun c = search needs
-
 loop-holds : tie.Need-loop-holds Inv-loop μ-loop
 loop-holds c =
     let g = c .args in
     let q = c .pre in
     (Steps.first-day (q .0) (g .start .now) (g .begun .now) (q .1 .0) (q .1 .1), Steps.latest-zero (q .0), Steps.start-zero (q .0), zero-le)
-
-add-advance : tie.Need-add-advance Inv-loop μ-loop
-add-advance c = search needs
 
 advance-requires : tie.Need-advance-requires Inv-loop μ-loop
 advance-requires c κs =
@@ -41,33 +32,15 @@ start-after-requires c κs =
     let q = c .before .before .before .pre in
     Steps.asks-day (q .0) (c .before .before .loop .d) (c .before .before .loop .inv .0) (c .before .loop-test .taken) (c .before .before .loop .inv .1) (c .before .before .loop .inv .2) (c .advance .ensures)
 
-add-d : tie.Need-add-d Inv-loop μ-loop
-add-d c = search needs
-
 cast-start : tie.Need-cast-start Inv-loop μ-loop
 cast-start c =
     let q = c .before .before .before .before .pre in
     record { fits = omega (arith, Steps.start-small (q .0) (c .before .before .before .loop .d) (c .before .before .before .loop .inv .0) (c .before .before .loop-test .taken) (c .before .before .before .loop .inv .1) (c .before .before .before .loop .inv .2) (c .before .advance .ensures) (c .start-after .ensures)) }
 
-mul-start : tie.Need-mul-start Inv-loop μ-loop
-mul-start c = search needs
-
-element-write-start-2 : tie.Need-element-write-start-2 Inv-loop μ-loop
-element-write-start-2 c = search needs
-
 cast-begun : tie.Need-cast-begun Inv-loop μ-loop
 cast-begun c =
     let q = c .before .before .before .before .pre in
     record { fits = omega (arith, Steps.latest-small (q .0) (c .before .before .before .loop .d) (c .before .before .before .loop .inv .0) (c .before .before .loop-test .taken) (c .before .before .before .loop .inv .1) (c .before .before .before .loop .inv .2) (c .before .advance .ensures)) }
-
-mul-begun : tie.Need-mul-begun Inv-loop μ-loop
-mul-begun c = search needs
-
-element-write-begun-2 : tie.Need-element-write-begun-2 Inv-loop μ-loop
-element-write-begun-2 c = search needs
-
-loop-less : tie.Need-loop-less Inv-loop μ-loop
-loop-less c = search needs
 
 loop-again : tie.Need-loop-again Inv-loop μ-loop
 loop-again c =
@@ -83,19 +56,15 @@ days-spec =
     (tie.spec
     Inv-loop
     μ-loop
-    element-write-start
-    element-write-begun
+    (λ c. search needs) (λ c. search needs)
     loop-holds
-    add-advance
+    (λ c. search needs)
     advance-requires
     start-after-requires
-    add-d
+    (λ c. search needs)
     cast-start
-    mul-start
-    element-write-start-2
+    (λ c. search needs) (λ c. search needs)
     cast-begun
-    mul-begun
-    element-write-begun-2
-    loop-less
+    (λ c. search needs) (λ c. search needs) (λ c. search needs)
     loop-again
     returns)

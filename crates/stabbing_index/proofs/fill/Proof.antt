@@ -4,49 +4,23 @@ use borrow.Author.Needs.{needs}
 use Rattle.stabbing_index.proofs.fill.Statement.{statement}
 use Rattle.stabbing_index.proofs.fill.Tie as tie
 
-lay-rows-requires : tie.Need-lay-rows-requires
-lay-rows-requires c κs = search needs
-
-lay-rows-requires-2 : tie.Need-lay-rows-requires-2
-lay-rows-requires-2 c κs = search needs
-
-lay-rows-requires-3 : tie.Need-lay-rows-requires-3
-lay-rows-requires-3 c κs = search needs
-
-lay-tree-requires : tie.Need-lay-tree-requires
-lay-tree-requires c κs = search needs
-
-lay-names-requires : tie.Need-lay-names-requires
-lay-names-requires c κs = search needs
-
-cast-index : tie.Need-cast-index
-cast-index c = search needs
-
-slice-write-index : tie.Need-slice-write-index
-slice-write-index c = search needs
-
 same-length : tie.Need-same-length
 same-length c =
-    let s = c .before .before .before .before .before .before .before .before .before .before .before .before .before .before .before .before .before .before .before .before .before in
+    let s = c .before .before .before .before .before .before .before .before .before .before .before .before .before .before .before .before .before .before .before .before .before .before .before .before in
     let g = s .args in
-    Assemble.filled-size (g .number .now) (g .first .now) (g .last .now) (g .n) (s .pre .0) (s .pre .1) (c .before .before .before .before .before .before .before .before .before .before .before .before .before .before .before .before .before .before .lay-rows .ensures) (c .before .before .before .before .before .before .before .before .before .before .before .before .before .before .lay-rows2 .ensures) (c .before .before .before .before .before .before .before .before .before .before .lay-rows3 .ensures) (c .before .before .before .before .before .before .lay-tree .ensures) (c .before .before .lay-names .ensures) _
+    Assemble.filled-size (g .number .now) (g .first .now) (g .last .now) (g .n) (s .pre .0) (s .pre .1) (c .before .before .before .before .before .before .before .before .before .before .before .before .before .before .before .before .before .before .before .before .lay-rows .ensures) (c .before .before .before .before .before .before .before .before .before .before .before .before .before .before .before .lay-rows2 .ensures) (c .before .before .before .before .before .before .before .before .before .before .lay-rows3 .ensures) (c .before .before .before .before .before .before .lay-tree .ensures) (c .before .before .lay-names .ensures) _
 
 returns : tie.Need-returns
 returns c =
-    let s = c .before .before .before .before .before .before .before .before .before .before .before .before .before .before .before .before .before .before .before .before .before in
+    let s = c .before .before .before .before .before .before .before .before .before .before .before .before .before .before .before .before .before .before .before .before .before .before .before .before in
     let g = s .args in
-    Assemble.filled (g .number .now) (g .first .now) (g .last .now) (g .n) (s .pre .0) (s .pre .1) (c .before .before .before .before .before .before .before .before .before .before .before .before .before .before .before .before .before .before .lay-rows .ensures) (c .before .before .before .before .before .before .before .before .before .before .before .before .before .before .lay-rows2 .ensures) (c .before .before .before .before .before .before .before .before .before .before .lay-rows3 .ensures) (c .before .before .before .before .before .before .lay-tree .ensures) (c .before .before .lay-names .ensures)
+    Assemble.filled (g .number .now) (g .first .now) (g .last .now) (g .n) (s .pre .0) (s .pre .1) (c .before .before .before .before .before .before .before .before .before .before .before .before .before .before .before .before .before .before .before .before .lay-rows .ensures) (c .before .before .before .before .before .before .before .before .before .before .before .before .before .before .before .lay-rows2 .ensures) (c .before .before .before .before .before .before .before .before .before .before .lay-rows3 .ensures) (c .before .before .before .before .before .before .lay-tree .ensures) (c .before .before .lay-names .ensures)
 
 pub fill-spec : {M : Type 1} → statement M
 fill-spec =
     tie.close
     (tie.spec
-    lay-rows-requires
-    lay-rows-requires-2
-    lay-rows-requires-3
-    lay-tree-requires
-    lay-names-requires
-    cast-index
-    slice-write-index
+    (λ c κs. search needs) (λ c κs. search needs) (λ c κs. search needs) (λ c κs. search needs)
+    (λ c κs. search needs) (λ c. search needs) (λ c. search needs)
     same-length
     returns)

@@ -4,28 +4,10 @@ use borrow.Author.Needs.{needs}
 use Rattle.stabbing_index.proofs.is_head.Statement.{statement}
 use Rattle.stabbing_index.proofs.is_head.Tie as tie
 
-add-if1 : tie.Need-add-if1
-add-if1 c = search needs
-
 returns : tie.Need-returns
 returns c =
     let g = c .before .args in
     Steps.head-last (g .first .now) (g .n) (g .k) (c .if1 .taken)
-
-mul-if2 : tie.Need-mul-if2
-mul-if2 c = search needs
-
-element-copy-out-if2 : tie.Need-element-copy-out-if2
-element-copy-out-if2 c = search needs
-
-add-if2 : tie.Need-add-if2
-add-if2 c = search needs
-
-mul-if2-2 : tie.Need-mul-if2-2
-mul-if2-2 c = search needs
-
-element-copy-out-if2-2 : tie.Need-element-copy-out-if2-2
-element-copy-out-if2-2 c = search needs
 
 returns-2 : tie.Need-returns-2
 returns-2 c =
@@ -41,12 +23,8 @@ pub is-head-spec : {M : Type 1} → statement M
 is-head-spec =
     tie.close
     (tie.spec
-    add-if1
+    (λ c. search needs)
     returns
-    mul-if2
-    element-copy-out-if2
-    add-if2
-    mul-if2-2
-    element-copy-out-if2-2
+    (λ c. search needs) (λ c. search needs) (λ c. search needs) (λ c. search needs) (λ c. search needs)
     returns-2
     returns-3)

@@ -5,22 +5,10 @@ use Rattle.stabbing_index.proofs.Chains as Steps
 use Rattle.stabbing_index.proofs.last_of.Statement.{statement}
 use Rattle.stabbing_index.proofs.last_of.Tie as tie
 
-returns : tie.Need-returns
-returns c = search needs
-
-sub-result : tie.Need-sub-result
-sub-result c = search needs
-
-mul-result : tie.Need-mul-result
-mul-result c = search needs
-
-element-copy-out-result : tie.Need-element-copy-out-result
-element-copy-out-result c = search needs
-
 returns-2 : tie.Need-returns-2
 returns-2 c =
     let g = c .before .before .args in
     Steps.last-some (g .last .now) (g .m) (omega (arith, c .before .if1 .left))
 
 pub last-of-spec : {M : Type 1} → statement M
-last-of-spec = tie.close (tie.spec returns sub-result mul-result element-copy-out-result returns-2)
+last-of-spec = tie.close (tie.spec (λ c. search needs) (λ c. search needs) (λ c. search needs) (λ c. search needs) returns-2)

@@ -4,22 +4,13 @@ use borrow.Author.Needs.{needs}
 use Rattle.stabbing_index.proofs.lay_days.Statement.{statement}
 use Rattle.stabbing_index.proofs.lay_days.Tie as tie
 
-days-requires : tie.Need-days-requires
-days-requires c κs = search needs
-
-lay-table-requires : tie.Need-lay-table-requires
-lay-table-requires c κs = search needs
-
-lay-table-requires-2 : tie.Need-lay-table-requires-2
-lay-table-requires-2 c κs = search needs
-
-same-length : tie.Need-same-length
-same-length c = search needs
-
 returns : tie.Need-returns
-returns c =
-    Assemble.days-laid (c .before .before .before .before .before .before .before .before .before .before .days .ensures) (c .before .before .before .before .before .before .before .lay-table .ensures) (c .before .before .lay-table2 .ensures)
+returns c = Assemble.days-laid (c .before .before .before .before .before .before .before .before .before .before .days .ensures) (c .before .before .before .before .before .before .before .lay .ensures) (c .before .before .lay2 .ensures)
 
 pub lay-days-spec : {M : Type 1} → statement M
 lay-days-spec =
-    tie.close (tie.spec days-requires lay-table-requires lay-table-requires-2 same-length returns)
+    tie.close
+    (tie.spec
+    (λ c κs. search needs) (λ c. search needs) (λ c κs. search needs) (λ c. search needs)
+    (λ c κs. search needs) (λ c. search needs)
+    returns)

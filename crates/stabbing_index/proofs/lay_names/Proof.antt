@@ -6,16 +6,10 @@ use native.Mathlib.Omega.{arith}
 use Rattle.stabbing_index.proofs.lay_names.Statement.{statement}
 use Rattle.stabbing_index.proofs.lay_names.Tie as tie
 
-clear-requires : tie.Need-clear-requires
-clear-requires c κs = search needs
-
 name-rows-requires : tie.Need-name-rows-requires
 name-rows-requires c κs =
     let s = c .before .before .before .before .before .before in
     (s .pre .0, (Assemble.laid-blank (c .before .before .before .clear .ensures) (omega (arith, s .pre .1)), omega (arith, s .pre .1, c .before .before .before .clear .ensures .size)))
-
-same-length : tie.Need-same-length
-same-length c = search needs
 
 returns : tie.Need-returns
 returns c =
@@ -23,4 +17,4 @@ returns c =
     laid-over (omega arith) (omega (arith, s .pre .1)) (c .before .before .before .before .before .before .clear .ensures) (c .before .before .name-rows .ensures)
 
 pub lay-names-spec : {M : Type 1} → statement M
-lay-names-spec = tie.close (tie.spec clear-requires name-rows-requires same-length returns)
+lay-names-spec = tie.close (tie.spec (λ c κs. search needs) name-rows-requires (λ c. search needs) returns)

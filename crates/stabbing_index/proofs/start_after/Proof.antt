@@ -9,12 +9,6 @@ returns c =
     let q = c .before .pre in
     Steps.begins-here q (c .if1 .taken)
 
-add-climb : tie.Need-add-climb
-add-climb c = search needs
-
-cast-climb : tie.Need-cast-climb
-cast-climb c = search needs
-
 climb-requires : tie.Need-climb-requires
 climb-requires c κs =
     let q = c .before .pre in
@@ -26,4 +20,4 @@ returns-2 c =
     Steps.from-before q (c .before .if1 .left) _ (c .climb .ensures)
 
 pub start-after-spec : {M : Type 1} → statement M
-start-after-spec = tie.close (tie.spec returns add-climb cast-climb climb-requires returns-2)
+start-after-spec = tie.close (tie.spec returns (λ c. search needs) (λ c. search needs) climb-requires returns-2)

@@ -1,0 +1,55 @@
+-- `stabbing_index::lay_marks` meets its contract: each need is a step of `proofs/Laying.antt`. Assumes nothing.
+use Prim.Native.Nat.{_-_, _≤_, zero-le}
+use native.Mathlib.Omega.{arith}
+use mathlib.Core.Path.{_≡_, ap, _∙_}
+use lib.ListN.{length, getD}
+use borrow.Author.Needs.{needs}
+use Rattle.stabbing.specs.Index.{lastOf}
+use Rattle.stabbing_index.proofs.Laying as Steps
+use Rattle.stabbing_index.proofs.lay_marks.Statement.{statement}
+use Rattle.stabbing_index.proofs.lay_marks.Tie as tie
+
+abbrev Inv-loop : tie.InvT-loop
+Inv-loop index₀ base marks last beside k₀ index k = Steps.Laying index₀ beside k (λ p. lastOf last (getD marks p 0)) index × (k ≤ 1024)
+
+abbrev μ-loop : tie.MeasureT-loop
+μ-loop index₀ base marks last beside k₀ index k = 1024 - k
+
+loop-holds : tie.Need-loop-holds Inv-loop μ-loop
+loop-holds c = (Steps.laying-none, zero-le)
+
+last-of-requires : tie.Need-last-of-requires Inv-loop μ-loop
+last-of-requires c κs = omega (arith, c .wide .ensures .0, c .before .before .before .before .before .before .before .before .before .before .pre .1 .small (c .before .before .before .loop .k) (c .before .before .loop-test .taken))
+
+loop-again : tie.Need-loop-again Inv-loop μ-loop
+loop-again c =
+    let s = c .before .before .before .before .before .before .before .before .before .before .before in
+    let l = c .before .before .before .before .loop in
+    let t = c .before .before .before .loop-test .taken in
+    (Steps.laying-next (l .inv .0) (omega (arith, t, s .pre .0, c .before .before .before .before .before .before .before .lay .ensures .size)) (c .last-of .ensures ∙ ap (lastOf (s .args .last .now)) (c .before .wide .ensures .0)), omega (arith, t))
+
+same-length : tie.Need-same-length Inv-loop μ-loop
+same-length c = c .before .loop .inv .0 .size ∙ c .before .before .before .before .lay .ensures .size
+
+returns : tie.Need-returns Inv-loop μ-loop
+returns c =
+    let s = c .before .before .before .before .before .before .before .before in
+    let l = c .before .loop in
+    let i = c .before .before .before .before .lay .ensures in
+    let n : length (s .args .marks .now) ≡ 1024 = search needs in
+    Steps.laid-more (rw n at i) (Steps.laying-all (l .inv .0) (omega (arith, l .inv .1, c .loop-test .left)) (omega arith) (omega (arith, s .pre .0, i .size)))
+
+pub lay-marks-spec : {M : Type 1} → statement M
+lay-marks-spec =
+    tie.close
+    (tie.spec
+    Inv-loop
+    μ-loop
+    (λ c κs. search needs) (λ c. search needs)
+    loop-holds
+    (λ c. search needs) (λ c. search needs) (λ c κs. search needs)
+    last-of-requires
+    (λ c. search needs) (λ c. search needs) (λ c. search needs) (λ c. search needs) (λ c. search needs)
+    loop-again
+    same-length
+    returns)
