@@ -1,7 +1,7 @@
 -- A request's line, its LF among its bytes, and what it asks (the protocol of `serve`, its table of requests). Assumes nothing.
 use Prim.Native.Nat.{ℕ, zero, suc}
 use mathlib.Core.Bool.{Bool, true, false, _&&_, cond}
-use mathlib.Core.List.{List, [], _∷_, _++_}
+use mathlib.Core.List.{List, [], _∷_}
 use lib.Dec.{leb, eqb}
 use lib.ListN.{length, drop}
 use Rattle.fields.specs.Fields.{Found, found, unreadable, onward, readLength, readNumber}
