@@ -18,7 +18,7 @@ use Rattle.stabbing.proofs.Starts.{latest-is, start-span, cover-latest}
 use Rattle.stabbing.proofs.Walk.{start-is, listing, comparisons-formula}
 use Rattle.stabbing.specs.Index.{Built, named, numbers, firsts, lasts}
 use Rattle.stabbing.proofs.Block.{Holds, built-holds}
-use Rattle.stabbing.specs.Answer.{Outcome, refused, give, question, calendar, dayOf, dayIn, Gave, spanOf, spanIn, covering, coverOf}
+use Rattle.stabbing.specs.Answer.{Outcome, refused, give, question, calendar, dayOf, dayIn, Gave, spanOf, spanIn, covering, coverOf, coverIn}
 use Rattle.stabbing_query.specs.Code.{Now, Does, ClimbAt, StartAt, WalkAsks, SpanAsks, numbered, toldOf, listedOf}
 use Rattle.stabbing_query.proofs.Keeping.{now-place, comparisons-is}
 
@@ -206,55 +206,56 @@ module _ (ix : List ℕ) (a b : ℕ) (out : List ℕ) where
     pub asks-span : Built ix → a ≤ b → SpanAsks ix a b
     asks-span built h = record { built = built; dated = dated a x .0; forward = h; late = dated b y .1 }
 
--- cover
-module _ (ix : List ℕ) (b : Built ix) (x y m : ℕ) (small : x < 65536) (e : y ≡ x) (z : m ≡ getD ix (y + 18242) 0) where
-  abbrev xs : List ℕ
-  xs = numbers ix
+-- cover: the row p of the published number x
+pub record RowOf (ix : List ℕ) (x p : ℕ) : Type 0 where
+  pub built : Built ix
+  pub is : named (numbers ix) (firsts ix) (lasts ix) x ≡ suc p
 
+module _ {ix : List ℕ} (b : Built ix) {x y m : ℕ} (small : x < 65536) (e : y ≡ x) (z : m ≡ getD ix (y + 18242) 0) where
+  named-is : named (numbers ix) (firsts ix) (lasts ix) x ≡ m
+  unfolding named
+  named-is = sym (z ∙ ap (λ (u : ℕ). getD ix (u + 18242) 0) e ∙ built-holds ix b .by-number x small)
+
+  pub cover-none : m ≡ 0 → (out : List ℕ) → coverIn ix x out ≡ refused 7 out
+  unfolding coverOf covering
+  cover-none k out = ap (λ (u : ℕ). covering (numbers ix) (firsts ix) (lasts ix) u out) (named-is ∙ k)
+
+  pub row-of : {p : ℕ} → m ≡ suc p → RowOf ix x p
+  row-of k = record { built = b; is = named-is ∙ k }
+
+module _ {ix : List ℕ} {x p : ℕ} (q : RowOf ix x p) where
   abbrev gs : List ℕ
   gs = firsts ix
 
   abbrev ks : List ℕ
   ks = lasts ix
 
-  held : Holds ix xs gs ks
-  held = built-holds ix b
+  held : Holds ix (numbers ix) gs ks
+  held = built-holds ix (q .built)
 
-  named-is : named xs gs ks x ≡ m
+  within : p < length gs
   unfolding named
-  named-is = sym (z ∙ ap (λ (u : ℕ). getD ix (u + 18242) 0) e ∙ held .by-number x small)
+  within = let w : named (numbers ix) gs ks x ≤ length gs = below-is _ (length gs) .within in omega (arith, q .is)
 
-  named-le : named xs gs ks x ≤ length gs
-  unfolding named
-  named-le = below-is _ (length gs) .within
+  pub row-small : p < 1024
+  row-small = omega (arith, within, held .few)
 
-  pub cover-none : m ≡ 0 → (out : List ℕ) → coverOf xs gs ks x out ≡ refused 7 out
-  unfolding coverOf covering
-  cover-none k out = ap (λ (u : ℕ). covering xs gs ks u out) (named-is ∙ k)
+  module _ {l f : ℕ} (e₁ : l ≡ getD ix (p + 2048) 0) (e₂ : f ≡ getD ix (p + 1024) 0) where
+    l-is : l ≡ day ks p
+    l-is = e₁ ∙ held .lasts p within
 
-  module _ (p : ℕ) (k : m ≡ suc p) where
-    pub cover-within : p < length gs
-    cover-within = let w : named xs gs ks x ≤ length gs = named-le in omega (arith, named-is)
+    f-is : f ≡ day gs p
+    f-is = e₂ ∙ held .firsts p within
 
-    pub cover-small : p < 1024
-    cover-small = omega (arith, cover-within, held .few)
+    pub cover-dated : 1 ≤ l
+    cover-dated = omega (arith, l-is, held .begins p within, held .forward p within)
 
-    module _ (l f : ℕ) (e₁ : l ≡ getD ix (p + 2048) 0) (e₂ : f ≡ getD ix (p + 1024) 0) where
-      l-is : l ≡ day ks p
-      l-is = e₁ ∙ held .lasts p cover-within
+    pub cover-first : f ≤ 4000
+    cover-first = omega (arith, f-is, held .ends p within, held .forward p within)
 
-      f-is : f ≡ day gs p
-      f-is = e₂ ∙ held .firsts p cover-within
+    pub cover-start : {s : ℕ} → s ≡ getD ix (f + 14241) 0 → s ≡ start gs ks f l
+    cover-start u = u ∙ held .begun f cover-first ∙ rw (f-is, l-is) (sym (cover-latest gs ks (held .sorted) p within))
 
-      pub cover-dated : 1 ≤ l
-      cover-dated = omega (arith, l-is, held .begins p cover-within, held .forward p cover-within)
-
-      pub cover-first : f ≤ 4000
-      cover-first = omega (arith, f-is, held .ends p cover-within, held .forward p cover-within)
-
-      pub cover-start : (s : ℕ) → s ≡ getD ix (f + 14241) 0 → s ≡ start gs ks f l
-      cover-start s u = u ∙ held .begun f cover-first ∙ rw (f-is, l-is) (sym (cover-latest gs ks (held .sorted) p cover-within))
-
-      pub cover-in : (out : List ℕ) → coverOf xs gs ks x out ≡ question xs gs ks f l out
-      unfolding coverOf covering
-      cover-in out = ap (λ (u : ℕ). covering xs gs ks u out) (named-is ∙ k) ∙ rw (f-is, l-is)
+    pub cover-in : (out : List ℕ) → coverIn ix x out ≡ question (numbers ix) gs ks f l out
+    unfolding coverOf covering
+    cover-in out = ap (λ (u : ℕ). covering (numbers ix) gs ks u out) (q .is) ∙ rw (f-is, l-is)

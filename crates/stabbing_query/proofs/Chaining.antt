@@ -20,7 +20,7 @@ chain-step ix ns fs ls b l zero f = sym (compare-none fs ls l 0 (chain fs ls l) 
 chain-step ix ns fs ls b l (suc p) f =
     compare-same fs ls l (next fs ls (suc p)) (λ _. chain fs ls l p) (chain fs ls l) (push (suc p) f) (λ x z t. ap (λ (y : ℕ). chain fs ls l y t) (next-only ix ns fs ls b p x z))
 
-module _ (ix ns fs ls : List ℕ) (l p : ℕ) (xs : List ℕ) (s : ℕ) (q : ChainAt ix ns fs ls l p xs s) where
+module _ {ix ns fs ls : List ℕ} {l p : ℕ} {xs : List ℕ} {s : ℕ} (q : ChainAt ix ns fs ls l p xs s) where
   b : Holds ix ns fs ls
   b = q .built
 
