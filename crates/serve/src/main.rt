@@ -1,13 +1,17 @@
 // The service that stays up: reads requests on standard input and writes one answer for each on standard output, until the input
 // ends. With a file's name it begins by reading that register.
 ghost use Prim.Native.Nat.{_≤_};
-ghost use lib.ListN.{length};
+ghost use lib.ListN.{length, take};
+ghost use Rattle.framing.specs.Advancing.{Fits, Advances};
 ghost use Rattle.service.specs.Service.{Given};
+use framing::Frame;
+use framing::Framed;
+use framing::LINE;
+use framing::TEXT;
 use input::Input;
 use libc::STDERR_FILENO;
 use libc::STDIN_FILENO;
 use libc::STDOUT_FILENO;
-use requests::Request;
 use service::Service;
 use stabbing::INDEX;
 use wire::Answered;
@@ -15,113 +19,102 @@ use wire::DAYS;
 use wire::OUT;
 use wire::ROOM;
 
-const LF: u8 = 10;
-
 const DASH: u8 = 45;
 
 // The bytes that one read may bring.
 const ARRIVED: usize = 65536;
 
-// One byte more than a request's line may have: what a longer line has beyond it is passed over.
-const LINE: usize = 65537;
-
 // One byte more than a register's text may have.
-const TEXT: usize = 65537;
+const FILE: usize = 65537;
 
 // ---- Input
 
-// The bytes from `start` to `end` have arrived and are not taken yet; none where the input has ended.
-struct Waiting {
-    start: usize,
-    end: usize,
+// Waits for input: how many bytes have arrived, none where it has ended.
+fn wait(arrived: &mut [u8]) -> usize
+    ensures { λ r. ⌜ r ≤ length (now (arrived .entry)) ⌝ }
+{
+    let got = libc::read(STDIN_FILENO, arrived);
+    if got < 0 {
+        os::fail(b"serve: standard input");
+    }
+    io::count(got, arrived)
 }
 
-// What is taken of the input: the first `length` bytes of the list that was lent, and whether that is all that was asked for or the
-// input ended before. The bytes from `start` to `end` have arrived and are not taken yet.
-struct Taken {
-    length: usize,
+// Goes on with a request by the bytes from `start` to `end`.
+fn advance(
+    frame: Frame,
+    arrived: &[u8],
+    start: usize,
+    end: usize,
+    line: &mut [u8; LINE],
+    payload: &mut [u8; TEXT],
+    days: &mut [u16; DAYS],
+) -> Framed
+    requires { ⌜ (Fits (frame .line) (frame .payload)) × (start ≤ end) × (end ≤ length (now arrived)) ⌝ }
+    ensures { λ r. ⌜ Advances frame (take end (now (arrived .entry))) start (now (line .entry)) (now (payload .entry)) r (now (line .exit)) (now (payload .exit)) ⌝ }
+{
+    framing::advance(frame, &arrived[..end], start, line, payload, days)
+}
+
+// ---- Requests
+
+// A request that is taken from the input: so many bytes of its line and of the text that follows it, or that the input ended before.
+// The bytes from `start` to `end` have arrived and are not taken yet.
+struct Incoming {
+    line: usize,
+    payload: usize,
     whole: bool,
     start: usize,
     end: usize,
 }
 
-// Waits for input where none is there: some bytes that have arrived, or none where it has ended.
-fn wait(arrived: &mut [u8], start: usize, end: usize) -> Waiting
-    requires { ⌜ end ≤ length (now arrived) ⌝ }
-    ensures { λ r. ⌜ r .end ≤ length (now (arrived .entry)) ⌝ }
+// Takes the next request, as soon as all of it has arrived. A proved loop has to end, so its turns are counted down, from a number
+// that no request uses up.
+fn next(
+    arrived: &mut [u8; ARRIVED],
+    start: usize,
+    end: usize,
+    line: &mut [u8; LINE],
+    payload: &mut [u8; TEXT],
+    days: &mut [u16; DAYS],
+) -> Incoming
+    requires { ⌜ (start ≤ end) × (end ≤ 65536) ⌝ }
+    ensures { λ r. ⌜ (r .line ≤ 65537) × (r .payload ≤ 65536) × (r .start ≤ r .end) × (r .end ≤ 65536) ⌝ }
 {
-    if start < end {
-        return Waiting { start, end };
-    }
-    let got = libc::read(STDIN_FILENO, arrived);
-    if got < 0 {
-        os::fail(b"serve: standard input");
-    }
-    let end = io::count(got, arrived);
-    Waiting { start: 0, end }
-}
-
-// The byte put at the place n, where there is one, and the next place.
-fn put(into: &mut [u8], n: usize, b: u8) -> usize
-    requires { ⌜ n ≤ length (now into) ⌝ }
-    ensures { λ r. ⌜ r ≤ length (now (into .entry)) ⌝ }
-{
-    if n < into.len() {
-        into[n] = b;
-        return n + 1;
-    }
-    n
-}
-
-// Takes `most` bytes, or those up to the next LF where a line is asked for. Bytes beyond the lent list's end are passed over.
-fn take(arrived: &mut [u8], from: usize, to: usize, most: u64, line: bool, into: &mut [u8]) -> Taken
-    requires { ⌜ to ≤ length (now arrived) ⌝ }
-    ensures { λ r. ⌜ r .end ≤ length (now (arrived .entry)) ⌝ }
-    ensures { λ r. ⌜ r .length ≤ length (now (into .entry)) ⌝ }
-{
-    let mut start = from;
-    let mut end = to;
-    let mut n = 0;
-    let mut left = most;
-    while left > 0 {
-        let r = wait(arrived, start, end);
-        start = r.start;
-        end = r.end;
-        if end <= start {
-            return Taken {
-                length: n,
-                whole: false,
-                start,
-                end,
-            };
+    let mut frame = framing::opened();
+    let mut at = start;
+    let mut to = end;
+    let mut turns = u64::MAX;
+    while turns > 0 {
+        let r = advance(frame, arrived, at, to, line, payload, days);
+        match r {
+            Framed::Whole(n, m, place) => {
+                return Incoming {
+                    line: n,
+                    payload: m,
+                    whole: true,
+                    start: place,
+                    end: to,
+                };
+            }
+            Framed::Part(f) => {
+                frame = f;
+            }
         }
-        let b = arrived[start];
-        start += 1;
-        n = put(into, n, b);
-        left -= 1;
-        if line && b == LF {
-            left = 0;
+        at = 0;
+        to = wait(arrived);
+        if to == 0 {
+            turns = 0;
+        } else {
+            turns -= 1;
         }
     }
-    Taken {
-        length: n,
-        whole: true,
-        start,
-        end,
-    }
-}
-
-// ---- Requests
-
-// How many bytes follow a request's line.
-fn payload_length(line: &[u8], n: usize, days: &mut [u16]) -> u64
-    requires { ⌜ n ≤ length (now line) ⌝ }
-{
-    match requests::parse(&line[..n], days) {
-        Request::Call(_, _) => 0,
-        Request::Room(_) => 0,
-        Request::Read(n) => n,
-        Request::Malformed => 0,
+    Incoming {
+        line: 0,
+        payload: 0,
+        whole: false,
+        start: 0,
+        end: 0,
     }
 }
 
@@ -136,39 +129,6 @@ fn write_from(out: &[u8], at: usize) -> bool {
 // Sends the answer that ends the list.
 fn send(out: &[u8; OUT], at: usize) -> bool {
     write_from(out, at)
-}
-
-// A request that is taken from the input: so many bytes of its line and so many that follow it, or that the input ended before.
-struct Framed {
-    line: usize,
-    payload: usize,
-    whole: bool,
-    start: usize,
-    end: usize,
-}
-
-// Takes the next request, as soon as all of it has arrived.
-fn next(
-    arrived: &mut [u8; ARRIVED],
-    start: usize,
-    end: usize,
-    line: &mut [u8; LINE],
-    payload: &mut [u8; ROOM],
-    days: &mut [u16; DAYS],
-) -> Framed
-    requires { ⌜ end ≤ 65536 ⌝ }
-    ensures { λ r. ⌜ (r .line ≤ 65537) × (r .payload ≤ 65536) × (r .end ≤ 65536) ⌝ }
-{
-    let l = take(arrived, start, end, u64::MAX, true, line);
-    let most = payload_length(line, l.length, days);
-    let p = take(arrived, l.start, l.end, most, false, payload);
-    Framed {
-        line: l.length,
-        payload: p.length,
-        whole: l.whole && p.whole,
-        start: p.start,
-        end: p.end,
-    }
 }
 
 // Carries a request out: the first n bytes of the line, and the first m of what follows it.
@@ -227,9 +187,9 @@ fn turn(
     out: &mut [u8; OUT],
 ) -> Session
     requires { ⌜ Given service (now index) ⌝ }
-    requires { ⌜ end ≤ 65536 ⌝ }
+    requires { ⌜ (start ≤ end) × (end ≤ 65536) ⌝ }
     ensures { λ r. ⌜ Given (r .service) (now (index .exit)) ⌝ }
-    ensures { λ r. ⌜ r .end ≤ 65536 ⌝ }
+    ensures { λ r. ⌜ (r .start ≤ r .end) × (r .end ≤ 65536) ⌝ }
 {
     let q = next(arrived, start, end, line, payload, days);
     if !q.whole {
@@ -339,7 +299,7 @@ fn serve_file(path: &[u8]) {
         report(path);
         return;
     }
-    let mut text = [0u8; TEXT];
+    let mut text = [0u8; FILE];
     let got = input::fill(fd, &mut text);
     match got {
         Input::Read(n) => {

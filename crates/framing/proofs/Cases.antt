@@ -1,0 +1,34 @@
+-- A stream, computed. Assumes nothing.
+use mathlib.Core.Path.{_≡_, refl}
+use mathlib.Core.List.{List, [], _∷_, _++_}
+use Prim.Native.Nat.{ℕ}
+use Rattle.fields.specs.Fields.{passed, readDigits, readDecimal}
+use Rattle.requests.specs.Requests.{begins, askedBy, askedOf}
+use Rattle.framing.specs.Stream.{begun, kept, following, wants, settled, lineFed, feed, onward, cutFrom, cut, leftBy, left, cutPieces}
+
+-- `publish`
+abbrev publishLine : List ℕ
+publishLine = 112 ∷ 117 ∷ 98 ∷ 108 ∷ 105 ∷ 115 ∷ 104 ∷ 10 ∷ []
+
+-- `read 3`
+abbrev readLine : List ℕ
+readLine = 114 ∷ 101 ∷ 97 ∷ 100 ∷ 9 ∷ 51 ∷ 10 ∷ []
+
+-- three bytes, LF among them
+abbrev three : List ℕ
+three = 97 ∷ 10 ∷ 99 ∷ []
+
+-- `da`, and no more
+abbrev rest : List ℕ
+rest = 100 ∷ 97 ∷ []
+
+-- two requests, the second with the bytes after it, and a third that is not whole
+pub stream-cut : cut (publishLine ++ readLine ++ three ++ rest) ≡ record { line = publishLine; payload = [] } ∷ record { line = readLine; payload = three } ∷ []
+unfolding kept following wants settled lineFed feed onward cutFrom begins askedBy askedOf passed readDigits readDecimal
+stream-cut = refl
+
+-- the same in three pieces, cut within a line and within a text
+pub pieces-cut : cutPieces begun ((112 ∷ 117 ∷ []) ∷ (98 ∷ 108 ∷ 105 ∷ 115 ∷ 104 ∷ 10 ∷ 114 ∷ 101 ∷ 97 ∷ 100 ∷ 9 ∷ 51 ∷ 10 ∷ 97 ∷ []) ∷ (10 ∷ 99 ∷ 100 ∷ 97 ∷ []) ∷ [])
+    ≡ record { line = publishLine; payload = [] } ∷ record { line = readLine; payload = three } ∷ []
+unfolding kept following wants settled lineFed feed onward cutFrom leftBy left cutPieces begins askedBy askedOf passed readDigits readDecimal
+pieces-cut = refl
