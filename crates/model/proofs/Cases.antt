@@ -11,10 +11,12 @@ use Rattle.spell.specs.Order.{earlierOf}
 use Rattle.spell.specs.Listing.{stands}
 use Rattle.stabbing.specs.Tree.{below, keep, count, head, next, parent, child, leftSibling, lastChild, fits, start, onPath, formula}
 use Rattle.model.specs.declared.Call.{Call}
-use Rattle.model.specs.declared.Call.the-variants.{Enter, Amend, Strike, TakeBack, Publish, Day, Span, Cover, Days}
+use Rattle.model.specs.declared.Call.the-variants.{Enter, Amend, Strike, TakeBack, Publish, Ask}
+use Rattle.model.specs.declared.Question.the-variants.{Day, Span, Cover, Days}
 use Rattle.model.specs.Edits.{insert, remove, enterRefusal, amendRefusal, strikeRefusal, remember}
 use Rattle.model.specs.Questions.{onAny, daysOk, rising, filter, comparisonsOf}
-use Rattle.model.specs.Model.{fresh, Request, Answer, takeBack, give, day, span, cover, days, stepOf, run}
+use Rattle.model.specs.Effects.{settle}
+use Rattle.model.specs.Model.{fresh, Request, Answer, takeBack, cover, ask, effectOf, run}
 
 -- ---- A call, and the part of its answer that a case names
 
@@ -50,15 +52,15 @@ entering = call (Enter (spell 15 7 7 12 (Reading (ofBits binary32 0))))
     ∷ []
 
 abbrev asking : List Request
-asking = call (Day 3)
-    ∷ call (Day 5)
-    ∷ call (Day 7)
-    ∷ call (Day 9)
-    ∷ call (Day 10)
-    ∷ call (Day 13)
-    ∷ call (Span 9 10)
-    ∷ call (Cover 14)
-    ∷ asked Days (4 ∷ 11 ∷ [])
+asking = call (Ask (Day 3))
+    ∷ call (Ask (Day 5))
+    ∷ call (Ask (Day 7))
+    ∷ call (Ask (Day 9))
+    ∷ call (Ask (Day 10))
+    ∷ call (Ask (Day 13))
+    ∷ call (Ask (Span 9 10))
+    ∷ call (Ask (Cover 14))
+    ∷ asked (Ask Days) (4 ∷ 11 ∷ [])
     ∷ []
 
 abbrev wanted : List (List ℕ)
@@ -79,10 +81,10 @@ abbrev plainly : ℕ → ℕ → ℕ → Request
 plainly n f l = call (Enter (spell n 1 f l (Grade 1)))
 
 abbrev M1 : List Request
-M1 = plainly 1 1 10 ∷ plainly 2 3 4 ∷ call Publish ∷ call (Span 6 7) ∷ []
+M1 = plainly 1 1 10 ∷ plainly 2 3 4 ∷ call Publish ∷ call (Ask (Span 6 7)) ∷ []
 
 abbrev M2 : List Request
-M2 = plainly 1 1 20 ∷ plainly 2 2 5 ∷ plainly 3 6 8 ∷ plainly 4 10 12 ∷ call Publish ∷ asked Days (3 ∷ 11 ∷ []) ∷ []
+M2 = plainly 1 1 20 ∷ plainly 2 2 5 ∷ plainly 3 6 8 ∷ plainly 4 10 12 ∷ call Publish ∷ asked (Ask Days) (3 ∷ 11 ∷ []) ∷ []
 
 -- ---- Document 01's cases, in one statement
 
@@ -94,7 +96,7 @@ pub document-cases : map answers ((entering ++ asking) ∷ M1 ∷ M2 ∷ [])
     ∷ (replicate 3 (plain 0) ++ ((0 ∷ 1 ∷ 0 ∷ 1 ∷ 99 ∷ 99 ∷ 99 ∷ 99 ∷ 99 ∷ []) ∷ []))
     ∷ (replicate 5 (plain 0) ++ ((0 ∷ 3 ∷ 0 ∷ 1 ∷ 2 ∷ 4 ∷ 99 ∷ 99 ∷ 99 ∷ []) ∷ []))
     ∷ []
-unfolding run stepOf day span cover days give enterRefusal insert remember earlierOf stands isNan toBits ofBits
+unfolding run settle effectOf ask cover enterRefusal insert remember earlierOf stands isNan toBits ofBits
     onAny daysOk rising filter comparisonsOf below keep count head next parent child leftSibling lastChild fits start onPath formula
 document-cases = refl
 
@@ -115,14 +117,14 @@ refusing = call TakeBack
     ∷ call (Amend (spell 12 7 1 10 (Grade 2)))
     ∷ call (Amend (spell 11 7 1 4001 (Grade 2)))
     ∷ call (Strike 12)
-    ∷ call (Cover 11)
+    ∷ call (Ask (Cover 11))
     ∷ call Publish
-    ∷ lent [] (Day 1)
-    ∷ lent (99 ∷ []) (Day 1)
-    ∷ call (Day 0)
-    ∷ call (Span 5 4)
-    ∷ asked Days (5 ∷ 5 ∷ [])
-    ∷ asked Days (5 ∷ 4 ∷ 4001 ∷ [])
+    ∷ lent [] (Ask (Day 1))
+    ∷ lent (99 ∷ []) (Ask (Day 1))
+    ∷ call (Ask (Day 0))
+    ∷ call (Ask (Span 5 4))
+    ∷ asked (Ask Days) (5 ∷ 5 ∷ [])
+    ∷ asked (Ask Days) (5 ∷ 4 ∷ 4001 ∷ [])
     ∷ call (Strike 11)
     ∷ call TakeBack
     ∷ call TakeBack
@@ -131,7 +133,7 @@ refusing = call TakeBack
 
 pub refusals : map (λ (a : Answer). a .refusal) (run fresh refusing)
     ≡ 9 ∷ 0 ∷ 6 ∷ 1 ∷ 7 ∷ 3 ∷ 7 ∷ 7 ∷ 0 ∷ 11 ∷ 0 ∷ 3 ∷ 4 ∷ 10 ∷ 3 ∷ 0 ∷ 0 ∷ 0 ∷ 9 ∷ []
-unfolding run stepOf day span cover days give takeBack enterRefusal amendRefusal strikeRefusal insert remove remember earlierOf stands isNan toBits
+unfolding run settle effectOf takeBack ask cover enterRefusal amendRefusal strikeRefusal insert remove remember earlierOf stands isNan toBits
     onAny daysOk rising filter comparisonsOf
 refusals = refl
 
@@ -143,5 +145,5 @@ abbrev longPast : List Request
 longPast = (call (Enter one) ∷ replicate 64 (call (Amend one))) ++ (replicate 65 (call TakeBack) ++ (call (Strike 11) ∷ call (Strike 11) ∷ []))
 
 pub past-64 : map (λ (a : Answer). a .refusal) (run fresh longPast) ≡ replicate 129 0 ++ (9 ∷ 0 ∷ 7 ∷ [])
-unfolding run stepOf takeBack enterRefusal amendRefusal strikeRefusal insert remove remember earlierOf stands
+unfolding run settle effectOf takeBack enterRefusal amendRefusal strikeRefusal insert remove remember earlierOf stands
 past-64 = refl

@@ -10,10 +10,12 @@ use Rattle.refusal.specs.Table.{accepted}
 use Rattle.spell.specs.declared.Spell.{Spell}
 use Rattle.spell.specs.Order.{ordered}
 use Rattle.spell.specs.Listing.{distinct}
-use Rattle.model.specs.declared.Call.the-variants.{Publish, Day, Span, Cover, Days}
+use Rattle.model.specs.declared.Call.the-variants.{Publish, Ask}
+use Rattle.model.specs.declared.Question.the-variants.{Day, Span, Cover, Days}
 use Rattle.model.specs.Questions.{onDay, onSpan, covers, onAny, filter, listed, comparisonsOf}
-use Rattle.model.specs.Model.{State, Request, Answer, After, refuse, done, stepOf, step}
-use Rattle.model.proofs.Account.{reads, gave, every, reads-every, day-every, span-every, cover-every, days-every}
+use Rattle.model.specs.Effects.{State, Request, Answer, After, Effect, refused, done, gives, writes, refuse, gave, settle}
+use Rattle.model.specs.Model.{ask, effectOf, stepOf, step}
+use Rattle.model.proofs.Account.{Comes, settles, reads, Refusing, reads-every, every, day-does, span-does, cover-does, days-does}
 use Rattle.model.proofs.Filter.{filter-in, in-filter, filter-ordered, filter-distinct}
 use Rattle.model.proofs.Bridge.{comparisons-le}
 
@@ -24,22 +26,27 @@ module _ (m : State) (q : Request) where
   abbrev Fair : After → Type 0
   Fair x = (x .answer .refusal ≡ accepted) ⊎ (x ≡ refuse (x .answer .refusal) m q)
 
-  fair : Fair (step m q)
-  fair = every Fair m q (record { refused = λ n _. inr refl; asked = λ h l. inl refl; several = inl refl; written = inl refl }) (λ m′. inl refl)
+  fair-effect : (e : Effect) → Comes Fair m q e
+  fair-effect (refused n) = inr refl
+  fair-effect (done m′) = inl refl
+  fair-effect (gives ns c) = inl refl
+  fair-effect (writes t) = inl refl
 
   -- A REFUSED CALL changes nothing: its count, looks and length are 0, and its lent lists keep every place
   pub refused-keeps : (step m q .answer .refusal ≡ accepted → ⊥) → step m q ≡ refuse (step m q .answer .refusal) m q
-  refused-keeps h = elim fair [ inl e ↦ absurd (h e) | inr e ↦ e ]
+  refused-keeps h =
+      let e : Effect = effectOf (q .call) (q .days) m in
+      elim (settles Fair m q (inr refl) e (fair-effect e)) [ inl e ↦ absurd (h e) | inr e ↦ e ]
 
   -- ---- What a call leaves as it is
 
   -- QUESTIONS AND WRITING leave the state as it is
   pub reads-keep : reads (q .call) ≡ true → step m q .state ≡ m
-  reads-keep = reads-every (λ x. x .state ≡ m) m q (record { refused = λ n _. refl; asked = λ h l. refl; several = refl; written = refl })
+  reads-keep = reads-every (λ x. x .state ≡ m) m q (record { refusing = λ n _. refl; asked = λ h l. refl; several = refl }) refl
 
   -- PUBLISH is never refused, and leaves the standing list and the past as they are
-  pub publish-keeps-past : stepOf Publish m q ≡ done (record { standing = m .standing; past = m .past; published = m .standing }) q
-  unfolding stepOf
+  pub publish-keeps-past : stepOf Publish m q ≡ refuse accepted (record { standing = m .standing; past = m .past; published = m .standing }) q
+  unfolding effectOf settle
   publish-keeps-past = refl
 
   -- ---- The looks
@@ -47,8 +54,8 @@ module _ (m : State) (q : Request) where
   -- THE LOOKS of any call are at most three times its count
   pub comparisons-few : step m q .answer .comparisons ≤ 3 * step m q .answer .count
   comparisons-few = every (λ x. x .answer .comparisons ≤ 3 * x .answer .count) m q
-      (record { refused = λ n _. omega arith; asked = λ h l. comparisons-le h l (m .published); several = omega arith; written = omega arith })
-      (λ m′. omega arith)
+      (record { refusing = λ n _. omega arith; asked = λ h l. comparisons-le h l (m .published); several = omega arith })
+      (omega arith) (λ m′. omega arith)
 
   -- ---- The answer of a question
 
@@ -59,23 +66,31 @@ module _ (m : State) (q : Request) where
     pub comparisons : a .comparisons ≡ c
     pub text : a .text ≡ q .text
 
-  abbrev Accepted : (Answer → Type 0) → After → Type 0
-  Accepted P x = x .answer .refusal ≡ accepted → P (x .answer)
-
   lists : (t : Spell → Bool) (c : ℕ) → Lists t c (gave (listed t (m .published)) c m q .answer)
   lists t c = record { count = refl; numbers = refl; comparisons = refl; text = refl }
 
+  -- P holds of the answer of an effect that is accepted
+  abbrev Accepted : (Answer → Type 0) → Effect → Type 0
+  Accepted P = Comes (λ x. x .answer .refusal ≡ accepted → P (x .answer)) m q
+
+  accepting : (P : Answer → Type 0) (e : Effect) → (Refusing (Accepted P) → Accepted P e) → settle e m q .answer .refusal ≡ accepted → P (settle e m q .answer)
+  accepting P e f = settles (λ x. x .answer .refusal ≡ accepted → P (x .answer)) m q (λ r. absurd (omega arith)) e (f (λ n no r. absurd (no r)))
+
   -- AN ACCEPTED DAY lists the spells with first ≤ d ≤ last, its looks by the formula
-  pub day-lists : (d : ℕ) → stepOf (Day d) m q .answer .refusal ≡ accepted
-      → Lists (onDay d) (comparisonsOf d d (m .published)) (stepOf (Day d) m q .answer)
-  unfolding stepOf
-  day-lists d = day-every (Accepted (Lists (onDay d) _)) m q (λ n ne e. absurd (ne e)) d (λ _. lists (onDay d) _)
+  pub day-lists : (d : ℕ) → stepOf (Ask (Day d)) m q .answer .refusal ≡ accepted
+      → Lists (onDay d) (comparisonsOf d d (m .published)) (stepOf (Ask (Day d)) m q .answer)
+  unfolding effectOf
+  day-lists d =
+      let P : Answer → Type 0 = Lists (onDay d) (comparisonsOf d d (m .published)) in
+      accepting P _ (λ no. day-does (Accepted P) no (m .published) d (q .days) (λ _. lists (onDay d) _))
 
   -- AN ACCEPTED SPAN lists the spells with first ≤ b and last ≥ a, its looks by the formula
-  pub span-lists : (a b : ℕ) → stepOf (Span a b) m q .answer .refusal ≡ accepted
-      → Lists (onSpan a b) (comparisonsOf b a (m .published)) (stepOf (Span a b) m q .answer)
-  unfolding stepOf
-  span-lists a b = span-every (Accepted (Lists (onSpan a b) _)) m q (λ n ne e. absurd (ne e)) a b (λ _. lists (onSpan a b) _)
+  pub span-lists : (a b : ℕ) → stepOf (Ask (Span a b)) m q .answer .refusal ≡ accepted
+      → Lists (onSpan a b) (comparisonsOf b a (m .published)) (stepOf (Ask (Span a b)) m q .answer)
+  unfolding effectOf
+  span-lists a b =
+      let P : Answer → Type 0 = Lists (onSpan a b) (comparisonsOf b a (m .published)) in
+      accepting P _ (λ no. span-does (Accepted P) no (m .published) a b (q .days) (λ _. lists (onSpan a b) _))
 
   -- the cover of a published spell x with the number k
   pub record Covers (k : ℕ) (a : Answer) : Type 0 where
@@ -85,15 +100,18 @@ module _ (m : State) (q : Request) where
     pub lists : Lists (covers of) (comparisonsOf (of .first) (of .last) (m .published)) a
 
   -- AN ACCEPTED COVER lists the spells with first ≤ the first and last ≥ the last of a published spell of that number
-  pub cover-lists : (k : ℕ) → stepOf (Cover k) m q .answer .refusal ≡ accepted → Covers k (stepOf (Cover k) m q .answer)
-  unfolding stepOf
-  cover-lists k = cover-every (Accepted (Covers k)) m q (λ n ne e. absurd (ne e)) k (m .published)
-      (λ x i e _. record { of = x; published = i; number = e; lists = lists (covers x) _ })
+  pub cover-lists : (k : ℕ) → stepOf (Ask (Cover k)) m q .answer .refusal ≡ accepted → Covers k (stepOf (Ask (Cover k)) m q .answer)
+  unfolding effectOf ask
+  cover-lists k =
+      accepting (Covers k) _ (λ no. cover-does (Accepted (Covers k)) no (m .published) k (m .published)
+      (λ x i e _. record { of = x; published = i; number = e; lists = lists (covers x) _ }))
 
   -- ACCEPTED DAYS list the spells that contain at least one of them, and report no looks
-  pub days-lists : stepOf Days m q .answer .refusal ≡ accepted → Lists (onAny (q .days)) 0 (stepOf Days m q .answer)
-  unfolding stepOf
-  days-lists = days-every (Accepted (Lists (onAny (q .days)) 0)) m q (λ n ne e. absurd (ne e)) (λ _. lists (onAny (q .days)) 0)
+  pub days-lists : stepOf (Ask Days) m q .answer .refusal ≡ accepted → Lists (onAny (q .days)) 0 (stepOf (Ask Days) m q .answer)
+  unfolding effectOf
+  days-lists =
+      let P : Answer → Type 0 = Lists (onAny (q .days)) 0 in
+      accepting P _ (λ no. days-does (Accepted P) no (m .published) (q .days) (λ _. lists (onAny (q .days)) 0))
 
 -- ---- What is listed
 

@@ -1,3 +1,4 @@
 pub mod Edits
 pub mod Questions
+pub mod Effects
 pub mod Model

@@ -1,6 +1,14 @@
 // The plain account of document 01: its calls, and as definitions in specs/ its state and what each call does to it.
 use spell::Spell;
 
+// A question of the published list. The days of `Days` stand beside it.
+pub enum Question {
+    Day(u16),
+    Span(u16, u16),
+    Cover(u16),
+    Days,
+}
+
 // A call of the account. The lists that a call is lent stand beside it.
 pub enum Call {
     Enter(Spell),
@@ -9,8 +17,5 @@ pub enum Call {
     TakeBack,
     Publish,
     Write,
-    Day(u16),
-    Span(u16, u16),
-    Cover(u16),
-    Days,
+    Ask(Question),
 }

@@ -39,7 +39,7 @@ pub called-met : {words words′ ix ix′ numbers text : List ℕ} {q : Request}
 called-met (edited {ix = ix} {days} {numbers} {text} c r met) g = met (g .wf) .met ix days numbers text g
 called-met (published {days = days} {numbers} {text} r met) g = met (g .wf) .met days numbers text
 called-met (wrote {ix = ix} {days} {numbers} r met) g = met (g .wf) .met ix days numbers g
-called-met (asked {words} {text = text} c r met) g = met (g .published) .met (unpacked words) text g
+called-met (asked {words} {text = text} w r met) g = met (g .published) .met (unpacked words) text g
 
 -- so a list of them is a list of calls on that service
 pub hosted-made : {words words′ ix ix′ : List ℕ} {qs : List Request} {answers : List Answer} → Hosted words ix qs answers words′ ix′

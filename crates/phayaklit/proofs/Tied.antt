@@ -5,7 +5,8 @@ use mathlib.Core.List.{List}
 use contract.Lifetimes.{Lfts}
 use denote.Ref.{RefT, now}
 use Rattle.register.specs.Text.{readText}
-use Rattle.model.specs.declared.Call.the-variants.{Enter, Amend, Strike, TakeBack, Publish, Write, Day, Span, Cover, Days}
+use Rattle.model.specs.declared.Call.the-variants.{Enter, Amend, Strike, TakeBack, Publish, Write, Ask}
+use Rattle.model.specs.declared.Question.the-variants.{Day, Span, Cover, Days}
 use Rattle.model.specs.Model.{fresh}
 use Rattle.standing.specs.Packed.{unpacked}
 use Rattle.service.specs.Service.{asking, Represents, Begins}
@@ -73,19 +74,19 @@ module _ (κs : Lfts 2) (words : RefT (List ℕ)) (r : Reply) where
 
 module _ (κs : Lfts 2) (index numbers numbers′ : RefT (List ℕ)) (r : Reply) {words days text : List ℕ} where
   pub day-called : (d : ℕ) → (day-reads.Pre κs (index, (d, (numbers, tt))) → day-reads.Post κs (index, (d, (numbers, tt))) r (index, (d, (numbers′, tt))))
-      → Called words (now index) (asking (Day d) days (now numbers) text) r words (now index) (now numbers′) text
+      → Called words (now index) (asking (Ask (Day d)) days (now numbers) text) r words (now index) (now numbers′) text
   day-called d met = asked (Day d) r (λ p. met p days)
 
   pub span-called : (a b : ℕ)
       → (span-reads.Pre κs (index, (a, (b, (numbers, tt)))) → span-reads.Post κs (index, (a, (b, (numbers, tt)))) r (index, (a, (b, (numbers′, tt)))))
-      → Called words (now index) (asking (Span a b) days (now numbers) text) r words (now index) (now numbers′) text
+      → Called words (now index) (asking (Ask (Span a b)) days (now numbers) text) r words (now index) (now numbers′) text
   span-called a b met = asked (Span a b) r (λ p. met p days)
 
   pub cover-called : (n : ℕ) → (cover-reads.Pre κs (index, (n, (numbers, tt))) → cover-reads.Post κs (index, (n, (numbers, tt))) r (index, (n, (numbers′, tt))))
-      → Called words (now index) (asking (Cover n) days (now numbers) text) r words (now index) (now numbers′) text
+      → Called words (now index) (asking (Ask (Cover n)) days (now numbers) text) r words (now index) (now numbers′) text
   cover-called n met = asked (Cover n) r (λ p. met p days)
 
 pub days-called : (κs : Lfts 3) (index days numbers numbers′ : RefT (List ℕ)) (r : Reply) {words text : List ℕ}
     → (days-reads.Pre κs (index, (days, (numbers, tt))) → days-reads.Post κs (index, (days, (numbers, tt))) r (index, (days, (numbers′, tt))))
-    → Called words (now index) (asking Days (now days) (now numbers) text) r words (now index) (now numbers′) text
+    → Called words (now index) (asking (Ask Days) (now days) (now numbers) text) r words (now index) (now numbers′) text
 days-called κs index days numbers numbers′ r met = asked Days r met

@@ -2,7 +2,8 @@
 use Prim.Native.Nat.{ℕ}
 use mathlib.Core.List.{List, [], _∷_}
 use Rattle.model.specs.declared.Call.{Call}
-use Rattle.model.specs.declared.Call.the-variants.{Publish, Write}
+use Rattle.model.specs.declared.Call.the-variants.{Publish, Write, Ask}
+use Rattle.model.specs.declared.Question.{Question}
 use Rattle.model.specs.Model.{Request, Answer}
 use Rattle.standing.specs.Packed.{unpacked}
 use Rattle.service.specs.Service.{asking, answerOf, Published, Changed, Publishes, Asked, Wrote}
@@ -21,9 +22,9 @@ pub data Called : List ℕ → List ℕ → Request → Reply → List ℕ → L
   wrote : {words ix days numbers text text′ : List ℕ} (r : Reply)
       → (Held words → Wrote (unpacked words) text (outcomeOf r) text′)
       → Called words ix (asking Write days numbers text) r words ix numbers text′
-  asked : {words ix days numbers numbers′ text : List ℕ} (c : Call) (r : Reply)
-      → (Published ix → Asked ix c days numbers (outcomeOf r) numbers′)
-      → Called words ix (asking c days numbers text) r words ix numbers′ text
+  asked : {words ix days numbers numbers′ text : List ℕ} (w : Question) (r : Reply)
+      → (Published ix → Asked ix w days numbers (outcomeOf r) numbers′)
+      → Called words ix (asking (Ask w) days numbers text) r words ix numbers′ text
 
 -- A list of calls: the next one is made on the words and the index as this one left them, and nobody else writes them meanwhile
 pub data Hosted : List ℕ → List ℕ → List Request → List Answer → List ℕ → List ℕ → Type 0 where

@@ -10,6 +10,7 @@ ghost use Rattle.standing.specs.Packed.{unpacked};
 ghost use Rattle.service.specs.Service.{Represents, Published, Changed, Publishes, Asked, Wrote, Begins};
 ghost use Rattle.phayaklit.specs.Host.{Held, Laid, spellIn, outcomeOf, steppedOf, startedOf};
 use model::Call;
+use model::Question;
 use service::Outcome;
 use service::Stepped;
 use spell::Spell;
@@ -187,7 +188,7 @@ pub extern "C" fn phayaklit_write(words: &[u16; SERVICE], text: &mut [u8]) -> Re
 #[no_mangle]
 pub extern "C" fn phayaklit_day(index: &[u16; INDEX], d: u16, numbers: &mut [u16]) -> Reply
     requires { ⌜ Published (now index) ⌝ }
-    ensures { λ r. ⌜ ((days : List ℕ) → Asked (now (index .entry)) (Call.Day d) days (now (numbers .entry)) (outcomeOf r) (now (numbers .exit))) ⌝ }
+    ensures { λ r. ⌜ ((days : List ℕ) → Asked (now (index .entry)) (Question.Day d) days (now (numbers .entry)) (outcomeOf r) (now (numbers .exit))) ⌝ }
 {
     answered(service::day(index, d, numbers))
 }
@@ -196,7 +197,7 @@ pub extern "C" fn phayaklit_day(index: &[u16; INDEX], d: u16, numbers: &mut [u16
 #[no_mangle]
 pub extern "C" fn phayaklit_span(index: &[u16; INDEX], a: u16, b: u16, numbers: &mut [u16]) -> Reply
     requires { ⌜ Published (now index) ⌝ }
-    ensures { λ r. ⌜ ((days : List ℕ) → Asked (now (index .entry)) (Call.Span a b) days (now (numbers .entry)) (outcomeOf r) (now (numbers .exit))) ⌝ }
+    ensures { λ r. ⌜ ((days : List ℕ) → Asked (now (index .entry)) (Question.Span a b) days (now (numbers .entry)) (outcomeOf r) (now (numbers .exit))) ⌝ }
 {
     answered(service::span(index, a, b, numbers))
 }
@@ -205,7 +206,7 @@ pub extern "C" fn phayaklit_span(index: &[u16; INDEX], a: u16, b: u16, numbers: 
 #[no_mangle]
 pub extern "C" fn phayaklit_cover(index: &[u16; INDEX], number: u16, numbers: &mut [u16]) -> Reply
     requires { ⌜ Published (now index) ⌝ }
-    ensures { λ r. ⌜ ((days : List ℕ) → Asked (now (index .entry)) (Call.Cover number) days (now (numbers .entry)) (outcomeOf r) (now (numbers .exit))) ⌝ }
+    ensures { λ r. ⌜ ((days : List ℕ) → Asked (now (index .entry)) (Question.Cover number) days (now (numbers .entry)) (outcomeOf r) (now (numbers .exit))) ⌝ }
 {
     answered(service::cover(index, number, numbers))
 }
@@ -214,7 +215,7 @@ pub extern "C" fn phayaklit_cover(index: &[u16; INDEX], number: u16, numbers: &m
 #[no_mangle]
 pub extern "C" fn phayaklit_days(index: &[u16; INDEX], days: &[u16], numbers: &mut [u16]) -> Reply
     requires { ⌜ Published (now index) ⌝ }
-    ensures { λ r. ⌜ Asked (now (index .entry)) Call.Days (now (days .entry)) (now (numbers .entry)) (outcomeOf r) (now (numbers .exit)) ⌝ }
+    ensures { λ r. ⌜ Asked (now (index .entry)) Question.Days (now (days .entry)) (now (numbers .entry)) (outcomeOf r) (now (numbers .exit)) ⌝ }
 {
     answered(service::days(index, days, numbers))
 }

@@ -8,10 +8,12 @@ use Rattle.spell.specs.declared.Urgency.the-variants.{Grade, Reading}
 use Rattle.spell.specs.Order.{earlierOf}
 use Rattle.spell.specs.Listing.{stands}
 use Rattle.stabbing.specs.Tree.{below, keep, count, head, next, parent, child, leftSibling, lastChild, fits, start, onPath, formula}
-use Rattle.model.specs.declared.Call.the-variants.{Enter, Publish, Day, Days}
+use Rattle.model.specs.declared.Call.the-variants.{Enter, Publish, Ask}
+use Rattle.model.specs.declared.Question.the-variants.{Day, Days}
 use Rattle.model.specs.Edits.{insert, enterRefusal, remember}
 use Rattle.model.specs.Questions.{onAny, daysOk, rising, filter, comparisonsOf}
-use Rattle.model.specs.Model.{Request, fresh, give, day, days, stepOf, run}
+use Rattle.model.specs.Effects.{settle}
+use Rattle.model.specs.Model.{Request, fresh, ask, effectOf, run}
 use Rattle.replay.specs.Coded.{codeAt, callOf, nextOf, decodeFrom, decode, resultsOf, numbersOf, over}
 
 -- enter 11, with a word of more than 16 bits; enter 12, with a reading; publish; day 3, lent three places; days 1 and 4, lent
@@ -42,8 +44,8 @@ pub decoded : coded 24
     ≡ record { call = Enter (record { number = 11; candidate = 7; first = 1; last = 10; urgency = Grade 2 }); days = []; numbers = []; text = [] }
     ∷ record { call = Enter (record { number = 12; candidate = 8; first = 3; last = 4; urgency = Reading (ofBits binary32 0x3F80_0000) }); days = []; numbers = []; text = [] }
     ∷ record { call = Publish; days = []; numbers = []; text = [] }
-    ∷ record { call = Day 3; days = []; numbers = 91 ∷ 92 ∷ 93 ∷ []; text = [] }
-    ∷ record { call = Days; days = 1 ∷ 4 ∷ []; numbers = 94 ∷ 95 ∷ []; text = [] }
+    ∷ record { call = Ask (Day 3); days = []; numbers = 91 ∷ 92 ∷ 93 ∷ []; text = [] }
+    ∷ record { call = Ask Days; days = 1 ∷ 4 ∷ []; numbers = 94 ∷ 95 ∷ []; text = [] }
     ∷ []
 unfolding decodeFrom codeAt nextOf callOf
 decoded = refl
@@ -57,6 +59,6 @@ no-room = refl
 pub answered : (over (resultsOf (run fresh (coded 24))) (results 24)
     ≡ (0 ∷ 0 ∷ 0 ∷ 0 ∷ []) ++ (0 ∷ 0 ∷ 0 ∷ 0 ∷ []) ++ (0 ∷ 0 ∷ 0 ∷ 0 ∷ []) ++ (0 ∷ 2 ∷ 0 ∷ 0 ∷ []) ++ (0 ∷ 2 ∷ 0 ∷ 0 ∷ []) ++ (77 ∷ 77 ∷ 77 ∷ 77 ∷ []))
     × (over (numbersOf (run fresh (coded 24))) lentNumbers ≡ 11 ∷ 12 ∷ 93 ∷ 11 ∷ 12 ∷ 96 ∷ [])
-unfolding decodeFrom codeAt nextOf callOf resultsOf numbersOf run stepOf day days give enterRefusal insert remember earlierOf stands isNan toBits ofBits
+unfolding decodeFrom codeAt nextOf callOf resultsOf numbersOf run settle effectOf ask enterRefusal insert remember earlierOf stands isNan toBits ofBits
     onAny daysOk rising filter comparisonsOf below keep count head next parent child leftSibling lastChild fits start onPath formula
 answered = (refl, refl)

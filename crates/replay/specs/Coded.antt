@@ -11,7 +11,9 @@ use Rattle.spell.specs.declared.Urgency.{Urgency}
 use Rattle.spell.specs.declared.Urgency.the-variants.{Grade, Reading}
 use Rattle.spell.specs.declared.Spell.{Spell}
 use Rattle.register.specs.Text.{readText}
-use Rattle.model.specs.declared.Call.the-variants.{Enter, Amend, Strike, TakeBack, Publish, Write, Day, Span, Cover, Days}
+use Rattle.model.specs.declared.Call.the-variants.{Enter, Amend, Strike, TakeBack, Publish, Write, Ask}
+use Rattle.model.specs.declared.Question.the-variants.{Day, Span, Cover, Days}
+pub use Rattle.model.specs.Effects.{over}
 use Rattle.model.specs.Model.{State, fresh, begun, refusalIn, lineIn, Request, Answer, run}
 use Rattle.standing.specs.declared.Standing.{Standing}
 use Rattle.service.specs.declared.Outcome.{Outcome}
@@ -68,10 +70,10 @@ callOf c =
     (cond (eqb (c .op) 4) (Go TakeBack)
     (cond (eqb (c .op) 5) (Go Publish)
     (cond (eqb (c .op) 6) (Go Write)
-    (cond (eqb (c .op) 7) (Go (Day (c .first)))
-    (cond (eqb (c .op) 8) (Go (Span (c .first) (c .last)))
-    (cond (eqb (c .op) 9) (Go (Cover (c .number)))
-    (cond (eqb (c .op) 10) (Go Days) Stop)))))))))
+    (cond (eqb (c .op) 7) (Go (Ask (Day (c .first))))
+    (cond (eqb (c .op) 8) (Go (Ask (Span (c .first) (c .last))))
+    (cond (eqb (c .op) 9) (Go (Ask (Cover (c .number))))
+    (cond (eqb (c .op) 10) (Go (Ask Days)) Stop)))))))))
 
 -- none, too, where the lists of days, numbers and text have fewer places left than it is lent
 unfoldable pub nextOf : Code → ℕ → ℕ → ℕ → Next
@@ -126,10 +128,6 @@ numbersOf (a ∷ rest) = a .numbers ++ numbersOf rest
 unfoldable pub textsOf : List Answer → List ℕ
 textsOf [] = []
 textsOf (a ∷ rest) = a .text ++ textsOf rest
-
--- the list l with new in its first places, and the later places as before
-abbrev pub over : List ℕ → List ℕ → List ℕ
-over new l = new ++ drop (length new) l
 
 -- so many calls were made, and results, numbers and text hold these answers
 pub record Holds (answers : List Answer) (results numbers text : List ℕ) (made : ℕ) (results′ numbers′ text′ : List ℕ) : Type 0 where

@@ -5,6 +5,7 @@ ghost use lib.ListN.{length};
 ghost use Rattle.service.specs.Service.{Given};
 ghost use Rattle.replay.specs.Coded.{low16, urgencyOf, word, codeAt, spellOf, callOf, nextOf, tellAt, Answered, Replayed};
 use model::Call;
+use model::Question;
 use service::Outcome;
 use service::Service;
 use spell::Spell;
@@ -106,10 +107,10 @@ fn call_of(c: Code) -> Next
         4 => Next::Go(Call::TakeBack),
         5 => Next::Go(Call::Publish),
         6 => Next::Go(Call::Write),
-        7 => Next::Go(Call::Day(c.first)),
-        8 => Next::Go(Call::Span(c.first, c.last)),
-        9 => Next::Go(Call::Cover(c.number)),
-        10 => Next::Go(Call::Days),
+        7 => Next::Go(Call::Ask(Question::Day(c.first))),
+        8 => Next::Go(Call::Ask(Question::Span(c.first, c.last))),
+        9 => Next::Go(Call::Ask(Question::Cover(c.number))),
+        10 => Next::Go(Call::Ask(Question::Days)),
         _ => Next::Stop,
     }
 }

@@ -17,9 +17,11 @@ use Rattle.standing.specs.Standing.{Fresh}
 use Rattle.standing.proofs.Search.{blank}
 use Rattle.standing.proofs.Past.{blankEntry}
 use Rattle.standing.proofs.Calls.{fresh-is}
-use Rattle.model.specs.declared.Call.the-variants.{Day}
+use Rattle.model.specs.declared.Call.the-variants.{Ask}
+use Rattle.model.specs.declared.Question.the-variants.{Day}
 use Rattle.model.specs.Questions.{onDay, filter, listed, comparisonsOf}
-use Rattle.model.specs.Model.{State, Request, Answer, After, give, day, stepOf}
+use Rattle.model.specs.Effects.{State, Request, Answer, After, Effect, gives, settle}
+use Rattle.model.specs.Model.{ask, effectOf}
 use Rattle.model.proofs.Account.{by-cases}
 use Rattle.model.proofs.Bridge.{comparisons-le}
 use Rattle.service.specs.declared.Outcome.{Outcome}
@@ -72,8 +74,8 @@ module _ (m : State) (q : Request) (g : Good (m .published)) (room : 1024 ≤ le
   abbrev ToldBy : After → Type 0
   ToldBy x = Told p d (x .answer .count) (x .answer .comparisons) (x .answer .numbers)
 
-  told-on : ToldBy (give (listed (onDay d) p) (comparisonsOf d d p) m q)
-  unfolding give
+  told-on : ToldBy (settle (gives (listed (onDay d) p) (comparisonsOf d d p)) m q)
+  unfolding settle
   told-on =
       let few = listed-few (onDay d) p g in
       by-cases ToldBy (leb (length (listed (onDay d) p)) (length (q .numbers)))
@@ -86,10 +88,10 @@ module _ (m : State) (q : Request) (g : Good (m .published)) (room : 1024 ≤ le
       })
       (λ e. absurd (clash (le-leb (length (listed (onDay d) p)) (length (q .numbers)) (omega arith)) e))
 
-  told : ToldBy (day d m q)
-  unfolding day
+  told : ToldBy (settle (ask (Day d) (q .days) p) m q)
+  unfolding ask settle
   told =
-      by-cases ToldBy (dayOk d) (λ _. told-on) (λ off.
+      by-cases (λ (e : Effect). ToldBy (settle e m q)) (dayOk d) (λ _. told-on) (λ off.
       let none : listed (onDay d) p ≡ [] = ap (map (λ (s : Spell). s .number)) (filter-off d off p (g .each)) in
       record {
         count = rw none;
@@ -106,11 +108,11 @@ nobody = fresh-is (replicate 1024 blank) (replicate 64 blankEntry) (length-repli
 -- a question's answer does not go by what stands, so the state may be one in which nothing does
 pub day-tells : (ix : List ℕ) (m : State) (d : ℕ) (days ns : List ℕ) (o : Outcome) (ns′ : List ℕ) → 1024 ≤ length ns → Shows ix m
     → Asked ix (Day d) days ns o ns′ → Told (m .published) d (o .count) (o .comparisons) ns′
-unfolding stepOf
+unfolding effectOf
 day-tells ix m d days ns o ns′ room s a =
     let alone : State = record { standing = []; past = []; published = m .published } in
     let shown : Shows ix alone = record { good = s .good; index = s .index } in
     let met = a .met _ [] (record { wf = nobody .wf; published = record { state = alone; shows = shown } }) in
     let same = met .answer alone (record { wf = nobody .wf; standing = nobody .list; past = nobody .past; shows = shown }) in
     subst (λ (x : Answer). Told (m .published) d (x .count) (x .comparisons) (x .numbers)) (sym same)
-    (told alone (asking (Day d) days ns []) (s .good) room d)
+    (told alone (asking (Ask (Day d)) days ns []) (s .good) room d)

@@ -11,7 +11,8 @@ use Rattle.fields.specs.Fields.{Found, found, unreadable, readNumber, readLengt
 use Rattle.decimals.proofs.Decimals.{length-within}
 use Rattle.register.specs.Text.{readLine}
 use Rattle.model.specs.declared.Call.{Call}
-use Rattle.model.specs.declared.Call.the-variants.{Enter, Amend, Strike, TakeBack, Publish, Write, Day, Cover, Days}
+use Rattle.model.specs.declared.Call.the-variants.{Enter, Amend, Strike, TakeBack, Publish, Write, Ask}
+use Rattle.model.specs.declared.Question.the-variants.{Day, Cover, Days}
 use Rattle.requests.specs.declared.Word.{Word}
 use Rattle.requests.specs.declared.Word.the-variants.{Enter as EnterWord, Amend as AmendWord, Strike as StrikeWord, TakeBack as TakeBackWord, Publish as PublishWord, Write as WriteWord, Day as DayWord, Span as SpanWord, Cover as CoverWord, Days as DaysWord, NoDays as NoDaysWord, Room as RoomWord, Read as ReadWord, Unknown}
 use Rattle.requests.specs.declared.Request.{Request}
@@ -61,7 +62,7 @@ sound-days : (l : DayList) (n : ℕ) → length (l .days) ≤ n → Sound (askDa
 unfolding Sound
 sound-days l n h = go (l .whole)
   where
-    go : (b : Bool) → Sound (cond b (asksCall Days (l .days)) malformed) (l .days) n
+    go : (b : Bool) → Sound (cond b (asksCall (Ask Days) (l .days)) malformed) (l .days) n
     go true = (λ rest. take-at (l .days) rest (length (l .days)) refl, h)
     go false = tt
 
@@ -73,11 +74,11 @@ sound-by StrikeWord n s = sound-call (ended (readNumber 10 (drop 7 s))) Strike [
 sound-by TakeBackWord n s = sound-bare TakeBack (drop 10 s) [] n
 sound-by PublishWord n s = sound-bare Publish (drop 8 s) [] n
 sound-by WriteWord n s = sound-bare Write (drop 6 s) [] n
-sound-by DayWord n s = sound-call (ended (readNumber 10 (drop 4 s))) Day [] n
+sound-by DayWord n s = sound-call (ended (readNumber 10 (drop 4 s))) (λ d. Ask (Day d)) [] n
 sound-by SpanWord n s = sound-call (readSpan (drop 5 s)) (λ c. c) [] n
-sound-by CoverWord n s = sound-call (ended (readNumber 10 (drop 6 s))) Cover [] n
+sound-by CoverWord n s = sound-call (ended (readNumber 10 (drop 6 s))) (λ k. Ask (Cover k)) [] n
 sound-by DaysWord n s = sound-days (readDays n (drop 5 s)) n (days-few n (drop 5 s))
-sound-by NoDaysWord n s = sound-bare Days (drop 5 s) [] n
+sound-by NoDaysWord n s = sound-bare (Ask Days) (drop 5 s) [] n
 sound-by RoomWord n s = sound-room (readLength 65536 10 (drop 5 s)) [] n (λ k rest e. length-within 65536 10 (drop 5 s) k rest e)
 sound-by ReadWord n s = sound-read (ended (readLength 9999999999 10 (drop 5 s))) [] n
 sound-by Unknown n s = unfold Sound in tt

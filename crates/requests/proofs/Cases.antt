@@ -2,7 +2,8 @@
 use mathlib.Core.Path.{_≡_, refl}
 use mathlib.Core.List.{[], _∷_, map}
 use Rattle.fields.specs.Fields.{passed, readDigits, readDecimal}
-use Rattle.model.specs.declared.Call.the-variants.{Days}
+use Rattle.model.specs.declared.Call.the-variants.{Ask}
+use Rattle.model.specs.declared.Question.the-variants.{Days}
 use Rattle.requests.specs.Requests.{begins, asksCall, asksRoom, asksRead, malformed, readDays, askedBy, askedOf}
 
 -- two days; a tab with no day after it; none after the tab; the largest room; one more; ten digits; eleven; a leading zero; a tab after a bare word; no LF; a byte after the LF
@@ -18,6 +19,6 @@ pub edges : map (askedOf 10) (
     (112 ∷ 117 ∷ 98 ∷ 108 ∷ 105 ∷ 115 ∷ 104 ∷ 9 ∷ 10 ∷ []) ∷
     (112 ∷ 117 ∷ 98 ∷ 108 ∷ 105 ∷ 115 ∷ 104 ∷ []) ∷
     (100 ∷ 97 ∷ 121 ∷ 9 ∷ 53 ∷ 10 ∷ 120 ∷ []) ∷ [])
-    ≡ asksCall Days (4 ∷ 11 ∷ []) ∷ malformed ∷ malformed ∷ asksRoom 65536 ∷ malformed ∷ asksRead 9999999999 ∷ malformed ∷ malformed ∷ malformed ∷ malformed ∷ malformed ∷ []
+    ≡ asksCall (Ask Days) (4 ∷ 11 ∷ []) ∷ malformed ∷ malformed ∷ asksRoom 65536 ∷ malformed ∷ asksRead 9999999999 ∷ malformed ∷ malformed ∷ malformed ∷ malformed ∷ malformed ∷ []
 unfolding begins askedBy askedOf readDays passed readDigits readDecimal
 edges = refl

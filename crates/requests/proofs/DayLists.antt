@@ -8,7 +8,8 @@ use native.Mathlib.Omega.{arith}
 use lib.ListN.{length, take, drop, set, length-set, length-append, take-append-drop, drop-of-length-le}
 use lib.Seq.{length-take-le, take-all, take-suc-set, drop-set-lt, set-split, drop-drop}
 use Rattle.fields.specs.Fields.{Found, found, unreadable, readNumber}
-use Rattle.model.specs.declared.Call.the-variants.{Days}
+use Rattle.model.specs.declared.Call.the-variants.{Ask}
+use Rattle.model.specs.declared.Question.the-variants.{Days}
 use Rattle.requests.specs.declared.Request.{Request}
 use Rattle.requests.specs.declared.Request.the-variants.{Call as RequestCall, Malformed as RequestMalformed}
 use Rattle.requests.specs.Requests.{DayList, lastDay, ended, readDays}
@@ -28,12 +29,12 @@ module _ (days : List ℕ) (k : ℕ) (h : k < length days) where
       = rw (append-nil (take k days), length-take-le k days (omega arith)) (sym (take-append-drop k days)) in
       record { answer = rw e; places = rw e all; sized = refl }
 
-  pub last-one : (f : Found ℕ) (d : ℕ) (rest : List ℕ) → f ≡ found d rest → ReadsDays (after (take k days) (lastDay f)) days (RequestCall Days (k + 1)) (set days k d)
+  pub last-one : (f : Found ℕ) (d : ℕ) (rest : List ℕ) → f ≡ found d rest → ReadsDays (after (take k days) (lastDay f)) days (RequestCall (Ask Days) (k + 1)) (set days k d)
   last-one f d rest e =
       let long : length (take k days ++ (d ∷ [])) ≡ suc k = omega (arith, length-append (take k days) (d ∷ []), length-take-le k days (omega arith)) in
       let count : k + 1 ≡ length (take k days ++ (d ∷ [])) = omega arith in
       record {
-        answer = rw e (ap (λ (n : ℕ). RequestCall Days n) count);
+        answer = rw e (ap (λ (n : ℕ). RequestCall (Ask Days) n) count);
         places = rw e (rw long (set-split days k d h ∙ sym (append-assoc (take k days) (d ∷ []) (drop (suc k) days))));
         sized = length-set days k d;
       }

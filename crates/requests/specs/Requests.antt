@@ -7,7 +7,8 @@ use lib.ListN.{length, drop}
 use Rattle.fields.specs.Fields.{Found, found, unreadable, onward, readLength, readNumber}
 use Rattle.register.specs.Text.{tab, lf, readLine}
 use Rattle.model.specs.declared.Call.{Call}
-use Rattle.model.specs.declared.Call.the-variants.{Enter, Amend, Strike, TakeBack, Publish, Write, Day, Span, Cover, Days}
+use Rattle.model.specs.declared.Call.the-variants.{Enter, Amend, Strike, TakeBack, Publish, Write, Ask}
+use Rattle.model.specs.declared.Question.the-variants.{Day, Span, Cover, Days}
 use Rattle.requests.specs.declared.Word.{Word}
 use Rattle.requests.specs.declared.Word.the-variants.{Enter as EnterWord, Amend as AmendWord, Strike as StrikeWord, TakeBack as TakeBackWord, Publish as PublishWord, Write as WriteWord, Day as DayWord, Span as SpanWord, Cover as CoverWord, Days as DaysWord, NoDays as NoDaysWord, Room as RoomWord, Read as ReadWord, Unknown}
 
@@ -120,7 +121,7 @@ bare c (b ∷ rest) = malformed
 
 -- the two days of a span
 abbrev pub readSpan : List ℕ → Found Call
-readSpan s = onward (readNumber tab s) (λ a s1. onward (ended (readNumber lf s1)) (λ b. found (Span a b)))
+readSpan s = onward (readNumber tab s) (λ a s1. onward (ended (readNumber lf s1)) (λ b. found (Ask (Span a b))))
 
 -- ---- The days of a days question
 
@@ -150,7 +151,7 @@ readDays (suc room) s = nextDay (readNumber tab s) (readDays room) (lastDay (end
 
 -- what is asked by a list of days
 abbrev pub askDays : DayList → Asked
-askDays l = cond (l .whole) (asksCall Days (l .days)) malformed
+askDays l = cond (l .whole) (asksCall (Ask Days) (l .days)) malformed
 
 -- ---- The forms, by the word
 
@@ -163,11 +164,11 @@ askedBy StrikeWord room s = asking (ended (readNumber lf (drop 7 s))) (λ k. ask
 askedBy TakeBackWord room s = bare TakeBack (drop 10 s)
 askedBy PublishWord room s = bare Publish (drop 8 s)
 askedBy WriteWord room s = bare Write (drop 6 s)
-askedBy DayWord room s = asking (ended (readNumber lf (drop 4 s))) (λ d. asks (Day d))
+askedBy DayWord room s = asking (ended (readNumber lf (drop 4 s))) (λ d. asks (Ask (Day d)))
 askedBy SpanWord room s = asking (readSpan (drop 5 s)) asks
-askedBy CoverWord room s = asking (ended (readNumber lf (drop 6 s))) (λ k. asks (Cover k))
+askedBy CoverWord room s = asking (ended (readNumber lf (drop 6 s))) (λ k. asks (Ask (Cover k)))
 askedBy DaysWord room s = askDays (readDays room (drop 5 s))
-askedBy NoDaysWord room s = bare Days (drop 5 s)
+askedBy NoDaysWord room s = bare (Ask Days) (drop 5 s)
 askedBy RoomWord room s = asking (ended (readLength 65536 lf (drop 5 s))) asksRoom
 askedBy ReadWord room s = asking (ended (readLength 9999999999 lf (drop 5 s))) asksRead
 askedBy Unknown room s = malformed

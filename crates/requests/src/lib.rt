@@ -12,6 +12,7 @@ ghost use Rattle.requests.specs.Parsing.{requestOf, lineAsked, numberAsk
 use fields::Field;
 use fields::Length;
 use model::Call;
+use model::Question;
 use register::Line;
 
 const TAB: u8 = 9;
@@ -166,19 +167,19 @@ fn strike_asked(f: Field) -> Request
 }
 
 fn day_asked(f: Field) -> Request
-    ensures { λ r. ⌜ r ≡ numberAsked Call.Day f ⌝ }
+    ensures { λ r. ⌜ r ≡ numberAsked (λ d. Call.Ask (Question.Day d)) f ⌝ }
 {
     match f {
-        Field::Value(d, _) => Request::Call(Call::Day(d), 0),
+        Field::Value(d, _) => Request::Call(Call::Ask(Question::Day(d)), 0),
         Field::Malformed => Request::Malformed,
     }
 }
 
 fn cover_asked(f: Field) -> Request
-    ensures { λ r. ⌜ r ≡ numberAsked Call.Cover f ⌝ }
+    ensures { λ r. ⌜ r ≡ numberAsked (λ n. Call.Ask (Question.Cover n)) f ⌝ }
 {
     match f {
-        Field::Value(n, _) => Request::Call(Call::Cover(n), 0),
+        Field::Value(n, _) => Request::Call(Call::Ask(Question::Cover(n)), 0),
         Field::Malformed => Request::Malformed,
     }
 }
@@ -210,7 +211,7 @@ fn span_asked(line: &[u8]) -> Request
     let Field::Value(b, _) = last_number(line, next) else {
         return Request::Malformed;
     };
-    Request::Call(Call::Span(a, b), 0)
+    Request::Call(Call::Ask(Question::Span(a, b)), 0)
 }
 
 // A call whose word is the whole line, up to `end`.
@@ -232,7 +233,7 @@ fn last_day(line: &[u8], at: usize, days: &mut [u16], k: usize) -> Request
         return Request::Malformed;
     };
     days[k] = d;
-    Request::Call(Call::Days, k + 1)
+    Request::Call(Call::Ask(Question::Days), k + 1)
 }
 
 // The days from `start` on, each into its place.
@@ -271,7 +272,7 @@ pub fn parse(line: &[u8], days: &mut [u16]) -> Request
         Word::Span => span_asked(line),
         Word::Cover => cover_asked(last_number(line, 6)),
         Word::Days => read_days(line, 5, days),
-        Word::NoDays => bare(line, 5, Call::Days),
+        Word::NoDays => bare(line, 5, Call::Ask(Question::Days)),
         Word::Room => room_asked(last_length(line, 5, LARGEST_ROOM)),
         Word::Read => read_asked(last_length(line, 5, LARGEST_LENGTH)),
         Word::Unknown => Request::Malformed,

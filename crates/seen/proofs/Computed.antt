@@ -14,7 +14,8 @@ use Rattle.register.specs.Text.{lineText, textOnto}
 use Rattle.stabbing.specs.Tree.{below, keep, count, head, next, parent, child, leftSibling, lastChild, fits, start, onPath, formula}
 use Rattle.model.specs.Edits.{insert, enterRefusal, remember}
 use Rattle.model.specs.Questions.{filter, comparisonsOf}
-use Rattle.model.specs.Model.{Answer, fresh, takeBack, giveText, give, day, stepOf, run}
+use Rattle.model.specs.Effects.{settle}
+use Rattle.model.specs.Model.{Answer, fresh, takeBack, ask, effectOf, run}
 use Rattle.replay.specs.Coded.{codeAt, callOf, nextOf, decodeFrom, decode, resultsOf, numbersOf, textsOf, over}
 
 -- ---- The program's lists before the calls
@@ -68,7 +69,7 @@ pub record Seen : Type 0 where
   pub written : over (textsOf answers) text ≡ line ++ (7 ∷ 7 ∷ 7 ∷ [])
 
 pub seen : Seen
-unfolding decodeFrom codeAt nextOf callOf resultsOf numbersOf textsOf run stepOf takeBack giveText day give enterRefusal insert remember earlierOf stands isNan toBits ofBits
+unfolding decodeFrom codeAt nextOf callOf resultsOf numbersOf textsOf run settle effectOf takeBack ask enterRefusal insert remember earlierOf stands isNan toBits ofBits
     filter comparisonsOf below keep count head next parent child leftSibling lastChild fits start onPath formula textOnto lineText decimalOf digitsOf
 seen = record { made = refl; told = refl; listed = refl; written = refl }
 

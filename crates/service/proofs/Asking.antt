@@ -13,10 +13,11 @@ use Rattle.stabbing.specs.Answer.{Gave, dayIn, spanIn, coverIn, daysIn}
 use Rattle.stabbing.proofs.Block as block
 use Rattle.standing.specs.declared.Standing.{Standing}
 use Rattle.model.specs.declared.Call.{Call}
-use Rattle.model.specs.declared.Call.the-variants.{Day, Span, Cover, Days}
+use Rattle.model.specs.declared.Call.the-variants.{Ask}
+use Rattle.model.specs.declared.Question.{Question}
+use Rattle.model.specs.declared.Question.the-variants.{Day, Span, Cover, Days}
 use Rattle.model.specs.Questions.{firstsOf, lastsOf}
-use Rattle.model.specs.Model.{State, step, stepOf}
-use Rattle.model.proofs.Account.{reads}
+use Rattle.model.specs.Model.{State, effectOf, step}
 use Rattle.model.proofs.Claims.{reads-keep}
 use Rattle.service.specs.declared.Outcome.{Outcome}
 use Rattle.service.specs.declared.Stepped.{Stepped}
@@ -56,17 +57,11 @@ pub as-call : {sv : Standing} {ix days ns text : List ℕ} {c c′ : Call} {r : 
     → Met sv ix (asking c′ days ns text) r ix′ ns′ text′ → Met sv ix (asking c days ns text) r ix′ ns′ text′
 as-call {sv} {ix} {days} {ns} {text} {r = r} {ix′} {ns′} {text′} e m = subst (λ (c : Call). Met sv ix (asking c days ns text) r ix′ ns′ text′) (sym e) m
 
+-- a question that is known to be another is answered as that one
+pub as-question : {ix days ns : List ℕ} {w w′ : Question} {o : Outcome} {ns′ : List ℕ} → w ≡ w′ → Asked ix w′ days ns o ns′ → Asked ix w days ns o ns′
+as-question {ix} {days} {ns} {o = o} {ns′} e a = subst (λ (w : Question). Asked ix w days ns o ns′) (sym e) a
+
 -- ---- The postcondition of a question
-pub asked : (ix : List ℕ) (c : Call) (days ns : List ℕ) (o : Outcome) (ns′ : List ℕ) → reads c ≡ true
-    → ((m : State) (text : List ℕ) → Shows ix m → answerOf o ns′ text ≡ step m (asking c days ns text) .answer)
-    → Asked ix c days ns o ns′
-asked ix c days ns o ns′ r answers = record {
-  met = λ sv text g. record {
-    given = g;
-    answer = λ m h. answers m text (h .shows);
-    after = λ m h. subst (Represents sv ix) (sym (reads-keep m (asking c days ns text) r)) h;
-  };
-}
 
 -- the outcome of a question over the rows
 abbrev pub outcomeOf : Listed → Outcome
@@ -74,27 +69,33 @@ outcomeOf l = record { refusal = l .refusal; count = l .count; comparisons = l .
 
 module _ (ix : List ℕ) (days ns : List ℕ) (l : Listed) (o : Outcome) (is : o ≡ outcomeOf l) (ns′ : List ℕ) where
   -- what the rows' outcome r tells is the account's answer
-  gave-asked : (c : Call) (r : rows.Outcome) → Gave l ns′ r → reads c ≡ true
-      → ((m : State) (text : List ℕ) → Shows ix m → told r text ≡ step m (asking c days ns text) .answer)
-      → Asked ix c days ns o ns′
-  gave-asked c r g e answers = asked ix c days ns o ns′ e (λ m text s. rw (is, g .result, g .out) (answers m text s))
+  gave-asked : (w : Question) (r : rows.Outcome) → Gave l ns′ r
+      → ((m : State) (text : List ℕ) → Shows ix m → told r text ≡ step m (asking (Ask w) days ns text) .answer)
+      → Asked ix w days ns o ns′
+  gave-asked w r g answers = record {
+    met = λ sv text here. record {
+      given = here;
+      answer = λ m h. rw (is, g .result, g .out) (answers m text (h .shows));
+      after = λ m h. subst (Represents sv ix) (sym (reads-keep m (asking (Ask w) days ns text) refl)) h;
+    };
+  }
 
   pub day-asked : (d : ℕ) → Gave l ns′ (dayIn ix d ns) → Asked ix (Day d) days ns o ns′
-  unfolding stepOf
-  day-asked d g = gave-asked (Day d) (dayIn ix d ns) g refl (λ m text s.
-      rw (shows-numbers m ix s, shows-firsts m ix s, shows-lasts m ix s) (day-told m (asking (Day d) days ns text) d))
+  unfolding effectOf
+  day-asked d g = gave-asked (Day d) (dayIn ix d ns) g (λ m text s.
+      rw (shows-numbers m ix s, shows-firsts m ix s, shows-lasts m ix s) (day-told m (asking (Ask (Day d)) days ns text) d))
 
   pub span-asked : (a b : ℕ) → Gave l ns′ (spanIn ix a b ns) → Asked ix (Span a b) days ns o ns′
-  unfolding stepOf
-  span-asked a b g = gave-asked (Span a b) (spanIn ix a b ns) g refl (λ m text s.
-      rw (shows-numbers m ix s, shows-firsts m ix s, shows-lasts m ix s) (span-told m (asking (Span a b) days ns text) a b))
+  unfolding effectOf
+  span-asked a b g = gave-asked (Span a b) (spanIn ix a b ns) g (λ m text s.
+      rw (shows-numbers m ix s, shows-firsts m ix s, shows-lasts m ix s) (span-told m (asking (Ask (Span a b)) days ns text) a b))
 
   pub cover-asked : (k : ℕ) → Gave l ns′ (coverIn ix k ns) → Asked ix (Cover k) days ns o ns′
-  unfolding stepOf
-  cover-asked k g = gave-asked (Cover k) (coverIn ix k ns) g refl (λ m text s.
-      rw (shows-numbers m ix s, shows-firsts m ix s, shows-lasts m ix s) (cover-told m (asking (Cover k) days ns text) (s .good .unique) k))
+  unfolding effectOf
+  cover-asked k g = gave-asked (Cover k) (coverIn ix k ns) g (λ m text s.
+      rw (shows-numbers m ix s, shows-firsts m ix s, shows-lasts m ix s) (cover-told m (asking (Ask (Cover k)) days ns text) (s .good .unique) k))
 
   pub days-asked : Gave l ns′ (daysIn ix days ns) → Asked ix Days days ns o ns′
-  unfolding stepOf
-  days-asked g = gave-asked Days (daysIn ix days ns) g refl (λ m text s.
-      rw (shows-numbers m ix s, shows-firsts m ix s, shows-lasts m ix s) (days-told m (asking Days days ns text)))
+  unfolding effectOf
+  days-asked g = gave-asked Days (daysIn ix days ns) g (λ m text s.
+      rw (shows-numbers m ix s, shows-firsts m ix s, shows-lasts m ix s) (days-told m (asking (Ask Days) days ns text)))

@@ -21,7 +21,8 @@ use Rattle.standing.specs.Standing.{Wf, listOf, Fresh, Loads, LaidOut}
 use Rattle.standing.proofs.Calls.{good-none}
 use Rattle.model.specs.declared.Call.the-variants.{Write}
 use Rattle.model.specs.Questions.{firstsOf, lastsOf}
-use Rattle.model.specs.Model.{fresh, begun, giveText, stepOf}
+use Rattle.model.specs.Effects.{settle}
+use Rattle.model.specs.Model.{fresh, begun, effectOf}
 use Rattle.model.proofs.Claims.{reads-keep}
 use Rattle.service.specs.Service.{indexOf, Represents, asking, Publishes, Wrote, Begins}
 use Rattle.service.proofs.Publishing.{rows-ok}
@@ -79,7 +80,7 @@ module _ (sv : Standing) (w : Wf sv) (n : ℕ) (ns fs ls ns′ fs′ ls′ : Lis
   indexed = b .block ∙ rw (right, first-is, last-is, laid-take (λ (s : Spell). s .number) l ns ns′ n (laid .count) (laid .number))
 
   pub published : Publishes sv ix (record { service = sv; outcome = record { refusal = 0; count = 0; comparisons = 0; length = 0 } }) ix′
-  unfolding stepOf
+  unfolding effectOf settle
   published = record {
     kept = refl;
     met = λ days numbers text. record {
@@ -97,7 +98,7 @@ module _ (sv : Standing) (w : Wf sv) (n : ℕ) (ns fs ls ns′ fs′ ls′ : Lis
 -- ---- Writing
 pub wrote : (sv : Standing) (t t′ : List ℕ) (wr : Written) → Writes (writeAll (listOf sv)) t wr t′
     → Wrote sv t (record { refusal = wr .refusal; count = 0; comparisons = 0; length = wr .length }) t′
-unfolding stepOf giveText
+unfolding effectOf settle
 wrote sv t t′ wr w = record {
   met = λ ix days numbers g. record {
     given = g;

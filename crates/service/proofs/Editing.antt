@@ -14,7 +14,8 @@ use Rattle.standing.specs.Standing.{Wf, listOf, pasts, Edits, TakesBack, frontO
 use Rattle.model.specs.declared.Call.{Call}
 use Rattle.model.specs.declared.Call.the-variants.{Enter, Amend, Strike, TakeBack}
 use Rattle.model.specs.Edits.{insert, remove, replace, enterRefusal, amendRefusal, strikeRefusal, takeBackRefusal, remember}
-use Rattle.model.specs.Model.{State, Request, After, edit, takeBack, stepOf}
+use Rattle.model.specs.Effects.{State, Effect, settle}
+use Rattle.model.specs.Model.{edit, takeBack, effectOf}
 use Rattle.service.specs.declared.Stepped.{Stepped}
 use Rattle.service.specs.Service.{Shows, Represents, asking, answerOf, Changed}
 
@@ -22,19 +23,23 @@ use Rattle.service.specs.Service.{Shows, Represents, asking, answerOf, C
 abbrev pub steppedOf : Edited → Stepped
 steppedOf e = record { service = e .standing; outcome = record { refusal = e .refusal; count = 0; comparisons = 0; length = 0 } }
 
--- a result that answers and represents as the account does, whatever stands beside it
+-- whatever the lent lists hold, the result answers as an effect on the state m does, and represents what it leaves
+abbrev Follows : Edited → List ℕ → State → Effect → Type 0
+Follows e ix m f = (days numbers text : List ℕ) (c : Call)
+    → (answerOf (steppedOf e .outcome) numbers text ≡ settle f m (asking c days numbers text) .answer)
+    × Represents (e .standing) ix (settle f m (asking c days numbers text) .state)
+
+-- a result that follows what the call does, whatever stands beside it
 changed : (sv : Standing) (c : Call) (e : Edited) → Wf (e .standing) → (eqb (e .refusal) accepted ≡ false → e .standing ≡ sv)
-    → ((m : State) (ix days numbers text : List ℕ) → Represents sv ix m
-    → (answerOf (steppedOf e .outcome) numbers text ≡ stepOf c m (asking c days numbers text) .answer)
-    × Represents (e .standing) ix (stepOf c m (asking c days numbers text) .state))
+    → ((m : State) (ix days : List ℕ) → Represents sv ix m → Follows e ix m (effectOf c days m))
     → Changed sv c (steppedOf e)
 changed sv c e w kept f = record {
   wf = w;
   kept = kept;
   met = λ ix days numbers text g. record {
     given = record { wf = w; published = g .published };
-    answer = λ m h. f m ix days numbers text h .0;
-    after = λ m h. f m ix days numbers text h .1;
+    answer = λ m h. f m ix days h days numbers text c .0;
+    after = λ m h. f m ix days h days numbers text c .1;
   };
 }
 
@@ -44,15 +49,15 @@ same-shows ix m n e s = record { good = rw (← e) (s .good); index = s .index �
 
 -- ---- Enter, amend, strike
 module _ (sv : Standing) (c : Call) (e : Edited) (n : List Spell → ℕ) (f : List Spell → List Spell)
-    (is : (m : State) (q : Request) → stepOf c m q ≡ edit (n (m .standing)) (f (m .standing)) m q)
+    (is : (m : State) (days : List ℕ) → effectOf c days m ≡ edit (n (m .standing)) (f (m .standing)) m)
     (d : Edits sv e (n (listOf sv)) (f (listOf sv))) where
   pub edit-changed : Changed sv c (steppedOf e)
-  edit-changed = changed sv c e (d .wf) (λ t. d .kept (sym (ap (λ (k : ℕ). eqb k accepted) (d .refusal)) ∙ t)) (λ m ix days numbers text h.
-      let q = asking c days numbers text in
+  unfolding settle
+  edit-changed = changed sv c e (d .wf) (λ t. d .kept (rw (d .refusal) at t)) (λ m ix days h.
       let k : ℕ = n (listOf sv) in
-      let here : edit (n (m .standing)) (f (m .standing)) m q ≡ edit k (f (listOf sv)) m q = rw (h .standing) in
-      rw (is m q ∙ here) (by-test (eqb k accepted)
-      (λ t. rw (t, d .refusal ∙ eqb-true k accepted t) (
+      let here : edit (n (m .standing)) (f (m .standing)) m ≡ edit k (f (listOf sv)) m = rw (h .standing) in
+      rw (is m days ∙ here) (by-test (eqb k accepted)
+      (λ t. rw (t, d .refusal ∙ eqb-true k accepted t) (λ days numbers text c. (
         refl,
         record {
           wf = d .wf;
@@ -60,28 +65,23 @@ module _ (sv : Standing) (c : Call) (e : Edited) (n : List Spell → ℕ) (f : L
           past = d .past ∙ rw t (ap (λ (l : List Spell). remember l (pasts sv)) (h .standing) ∙ ap (remember (m .standing)) (h .past));
           shows = same-shows ix m _ refl (h .shows);
         },
-      ))
-      (λ t. rw (t, d .refusal) (
+      )))
+      (λ t. rw (t, d .refusal) (λ days numbers text c. (
         refl,
-        record {
-          wf = d .wf;
-          standing = d .list ∙ rw t (h .standing);
-          past = d .past ∙ rw t (h .past);
-          shows = h .shows;
-        },
-      ))))
+        record { wf = d .wf; standing = d .list ∙ rw t (h .standing); past = d .past ∙ rw t (h .past); shows = h .shows },
+      )))))
 
 pub enter-changed : (sv : Standing) (s : Spell) (e : Edited) → Edits sv e (enterRefusal (listOf sv) s) (insert s (listOf sv)) → Changed sv (Enter s) (steppedOf e)
-unfolding stepOf
-enter-changed sv s e d = edit-changed sv (Enter s) e (λ l. enterRefusal l s) (insert s) (λ m q. refl) d
+unfolding effectOf
+enter-changed sv s e d = edit-changed sv (Enter s) e (λ l. enterRefusal l s) (insert s) (λ m ds. refl) d
 
 pub amend-changed : (sv : Standing) (s : Spell) (e : Edited) → Edits sv e (amendRefusal (listOf sv) s) (replace s (listOf sv)) → Changed sv (Amend s) (steppedOf e)
-unfolding stepOf
-amend-changed sv s e d = edit-changed sv (Amend s) e (λ l. amendRefusal l s) (replace s) (λ m q. refl) d
+unfolding effectOf
+amend-changed sv s e d = edit-changed sv (Amend s) e (λ l. amendRefusal l s) (replace s) (λ m ds. refl) d
 
 pub strike-changed : (sv : Standing) (k : ℕ) (e : Edited) → Edits sv e (strikeRefusal (listOf sv) k) (remove k (listOf sv)) → Changed sv (Strike k) (steppedOf e)
-unfolding stepOf
-strike-changed sv k e d = edit-changed sv (Strike k) e (λ l. strikeRefusal l k) (remove k) (λ m q. refl) d
+unfolding effectOf
+strike-changed sv k e d = edit-changed sv (Strike k) e (λ l. strikeRefusal l k) (remove k) (λ m ds. refl) d
 
 -- ---- Take back
 
@@ -92,15 +92,13 @@ no-past [] t = refl
 no-past (l ∷ past) t = absurd (false≢true (sym t))
 
 pub back-changed : (sv : Standing) (e : Edited) → TakesBack sv e → Changed sv TakeBack (steppedOf e)
-unfolding stepOf takeBack takeBackRefusal frontOr restOf
-back-changed sv e d = changed sv TakeBack e (d .wf) (λ t. d .kept (no-past (pasts sv) (sym (ap (λ (k : ℕ). eqb k accepted) (d .refusal)) ∙ t))) (λ m ix days numbers text h.
-    let q = asking TakeBack days numbers text in
-    subst (λ (x : After). (answerOf (steppedOf e .outcome) numbers text ≡ x .answer) × Represents (e .standing) ix (x .state))
-    (ap (λ (past : List (List Spell)). takeBack past m q) (h .past))
-    (go m ix q (pasts sv) (h .past) h (d .refusal) (d .list) (d .past)))
+unfolding effectOf takeBack settle takeBackRefusal frontOr restOf
+back-changed sv e d = changed sv TakeBack e (d .wf) (λ t. d .kept (no-past (pasts sv) (rw (d .refusal) at t))) (λ m ix days h.
+    subst (λ (past : List (List Spell)). Follows e ix m (takeBack past m)) (h .past)
+    (go m ix (pasts sv) (h .past) h (d .refusal) (d .list) (d .past)))
   where
-    go : (m : State) (ix : List ℕ) (q : Request) (past : List (List Spell)) → past ≡ m .past → Represents sv ix m
+    go : (m : State) (ix : List ℕ) (past : List (List Spell)) → past ≡ m .past → Represents sv ix m
         → e .refusal ≡ takeBackRefusal past → listOf (e .standing) ≡ frontOr (listOf sv) past → pasts (e .standing) ≡ restOf past
-        → (answerOf (steppedOf e .outcome) (q .numbers) (q .text) ≡ takeBack past m q .answer) × Represents (e .standing) ix (takeBack past m q .state)
-    go m ix q [] p h r l b = (rw r, record { wf = d .wf; standing = l ∙ h .standing; past = b ∙ p; shows = h .shows })
-    go m ix q (x ∷ past) p h r l b = (rw r, record { wf = d .wf; standing = l; past = b; shows = same-shows ix m _ refl (h .shows) })
+        → Follows e ix m (takeBack past m)
+    go m ix [] p h r l b days numbers text c = (rw r, record { wf = d .wf; standing = l ∙ h .standing; past = b ∙ p; shows = h .shows })
+    go m ix (x ∷ past) p h r l b days numbers text c = (rw r, record { wf = d .wf; standing = l; past = b; shows = same-shows ix m _ refl (h .shows) })

@@ -17,7 +17,9 @@ use Rattle.stabbing.specs.Index.{named}
 use Rattle.stabbing.specs.Answer.{Outcome, give, question, calendars, risingFrom, meets, containsAny, dayOf, spanOf, covering, coverOf, daysOf}
 use Rattle.stabbing.proofs.Marks.{by-test, by-mark, clash, Below, below-is, below-own}
 use Rattle.model.specs.Questions.{reaches, onAny, daysOk, rising, listed, firstsOf, lastsOf, comparisonsOf}
-use Rattle.model.specs.Model.{State, Request, Answer, After, refuse, give as giveNumbers, ask, day, span, cover, days}
+use Rattle.model.specs.declared.Question.the-variants.{Day, Span, Cover, Days}
+use Rattle.model.specs.Effects.{State, Request, Answer, Effect, refused, gives, settle}
+use Rattle.model.specs.Model.{reaching, cover, ask}
 use Rattle.model.proofs.Bridge.{Agree, agree, rows-kept, fits-agree}
 use Rattle.spell.specs.declared.Urgency.the-variants.{Grade}
 
@@ -102,21 +104,21 @@ own l d = below-own (numbersOf l) (length (firstsOf l)) (λ i j h k e.
     differ l d i j h (omega (arith, k, length-map l (λ (s : Spell). s .first))) (sym (number-at l j) ∙ e ∙ number-at l i))
 
 module _ (m : State) (q : Request) where
-  give-told : (ns : List ℕ) (c : ℕ) → told (give ns c (q .numbers)) (q .text) ≡ giveNumbers ns c m q .answer
-  unfolding give giveNumbers
-  give-told ns c = by-test (leb (length ns) (length (q .numbers))) (λ e. rw (e, give)) (λ e. rw (e, give))
-
   abbrev rows : List Spell
   rows = m .published
+
+  give-told : (ns : List ℕ) (c : ℕ) → told (give ns c (q .numbers)) (q .text) ≡ settle (gives ns c) m q .answer
+  unfolding give settle
+  give-told ns c = by-test (leb (length ns) (length (q .numbers))) (λ e. rw (e, give)) (λ e. rw (e, give))
 
   -- what the rows that pass a test are told as
   several-told : (t : Spell → Bool) (u : ℕ → Bool) (c : ℕ) → Agree u t rows
       → told (give (map (λ (k : ℕ). getD (numbersOf rows) k 0) (keep u (length (firstsOf rows)))) c (q .numbers)) (q .text)
-      ≡ giveNumbers (listed t rows) c m q .answer
+      ≡ settle (gives (listed t rows) c) m q .answer
   several-told t u c same =
       rw (length-map rows (λ (s : Spell). s .first), rows-kept (λ (s : Spell). s .number) u t rows same) (give-told (listed t rows) c)
 
-  question-told : (h l : ℕ) → told (question (numbersOf rows) (firstsOf rows) (lastsOf rows) h l (q .numbers)) (q .text) ≡ ask h l m q .answer
+  question-told : (h l : ℕ) → told (question (numbersOf rows) (firstsOf rows) (lastsOf rows) h l (q .numbers)) (q .text) ≡ settle (reaching h l rows) m q .answer
   unfolding question comparisonsOf
   question-told h l =
       several-told (reaches h l) (fits (firstsOf rows) (lastsOf rows) h l)
@@ -124,18 +126,18 @@ module _ (m : State) (q : Request) where
       (fits-agree h l rows)
       ∙ rw (length-map rows (λ (s : Spell). s .first))
 
-  pub day-told : (d : ℕ) → told (dayOf (numbersOf rows) (firstsOf rows) (lastsOf rows) d (q .numbers)) (q .text) ≡ day d m q .answer
-  unfolding dayOf day
+  pub day-told : (d : ℕ) → told (dayOf (numbersOf rows) (firstsOf rows) (lastsOf rows) d (q .numbers)) (q .text) ≡ settle (ask (Day d) (q .days) rows) m q .answer
+  unfolding dayOf ask settle
   day-told d = by-test (dayOk d) (λ e. rw (e, dayOf) (question-told d d)) (λ e. rw (e, dayOf))
 
-  pub span-told : (a b : ℕ) → told (spanOf (numbersOf rows) (firstsOf rows) (lastsOf rows) a b (q .numbers)) (q .text) ≡ span a b m q .answer
-  unfolding spanOf span
+  pub span-told : (a b : ℕ) → told (spanOf (numbersOf rows) (firstsOf rows) (lastsOf rows) a b (q .numbers)) (q .text) ≡ settle (ask (Span a b) (q .days) rows) m q .answer
+  unfolding spanOf ask settle
   span-told a b = by-test (dayOk a && dayOk b)
       (λ e. rw (e, spanOf) (by-test (leb a b) (λ f. rw (f, spanOf) (question-told b a)) (λ f. rw (f, spanOf))))
       (λ e. rw (e, spanOf))
 
-  pub days-told : told (daysOf (numbersOf rows) (firstsOf rows) (lastsOf rows) (q .days) (q .numbers)) (q .text) ≡ days m q .answer
-  unfolding daysOf days
+  pub days-told : told (daysOf (numbersOf rows) (firstsOf rows) (lastsOf rows) (q .days) (q .numbers)) (q .text) ≡ settle (ask Days (q .days) rows) m q .answer
+  unfolding daysOf ask settle
   days-told = by-test (daysOk (q .days))
       (λ e. rw (calendar-days (q .days) ∙ e, daysOf, e) (by-test (rising (q .days))
       (λ f. rw (rising-days (q .days) e ∙ f, daysOf, f) (several-told (onAny (q .days)) (containsAny (firstsOf rows) (lastsOf rows) (q .days)) 0 (days-agree (q .days) rows)))
@@ -144,29 +146,29 @@ module _ (m : State) (q : Request) where
 
   -- the first spell of the number k
   cover-hit : (k : ℕ) (l : List Spell) (i : ℕ) → i < length l → getD l i blank .number ≡ k → ((j : ℕ) → j < i → getD l j blank .number ≡ k → ⊥)
-      → cover k l m q ≡ ask (getD l i blank .first) (getD l i blank .last) m q
+      → cover k l rows ≡ reaching (getD l i blank .first) (getD l i blank .last) rows
   unfolding cover
   cover-hit k [] i h e f = absurd (omega arith)
   cover-hit k (x ∷ l) zero h e f = rw (eq-eqb (x .number) k e)
   cover-hit k (x ∷ l) (suc i) h e f = rw (ne-eqb (x .number) k (f 0 (omega arith))) (cover-hit k l i (omega arith) e (λ j g. f (suc j) (omega arith)))
 
-  cover-miss : (k : ℕ) (l : List Spell) → ((j : ℕ) → j < length l → getD l j blank .number ≡ k → ⊥) → cover k l m q ≡ refuse unknownNumber m q
+  cover-miss : (k : ℕ) (l : List Spell) → ((j : ℕ) → j < length l → getD l j blank .number ≡ k → ⊥) → cover k l rows ≡ refused unknownNumber
   unfolding cover
   cover-miss k [] f = refl
   cover-miss k (x ∷ l) f = rw (ne-eqb (x .number) k (f 0 (omega arith))) (cover-miss k l (λ j g. f (suc j) (omega arith)))
 
   pub cover-told : distinct rows ≡ true → (k : ℕ)
-      → told (coverOf (numbersOf rows) (firstsOf rows) (lastsOf rows) k (q .numbers)) (q .text) ≡ cover k rows m q .answer
-  unfolding coverOf covering named
+      → told (coverOf (numbersOf rows) (firstsOf rows) (lastsOf rows) k (q .numbers)) (q .text) ≡ settle (ask (Cover k) (q .days) rows) m q .answer
+  unfolding coverOf covering named ask settle
   cover-told d k =
       let t : ℕ → Bool = λ (p : ℕ). eqb (getD (numbersOf rows) p 0) k in
       let n : ℕ = length (firstsOf rows) in
       let size : n ≡ length rows = length-map rows (λ (s : Spell). s .first) in
       let i : Below t n (below t n) = below-is t n in
       by-mark (below t n)
-      (λ z. rw (z, covering) (sym (ap (λ (x : After). x .answer) (cover-miss k rows (λ j h e. i .miss j (omega arith) (omega arith) (eq-eqb _ _ (number-at rows j ∙ e)))))))
+      (λ z. rw (z, covering) (sym (ap (λ (e : Effect). settle e m q .answer) (cover-miss k rows (λ j h e. i .miss j (omega arith) (omega arith) (eq-eqb _ _ (number-at rows j ∙ e)))))))
       (λ p z. rw (z, covering) (
       let here : getD rows p blank .number ≡ k = sym (number-at rows p) ∙ eqb-true (getD (numbersOf rows) p 0) k (i .hit p z) in
       let inside : p < length rows = omega (arith, i .within) in
       rw (List·getD-map (λ (s : Spell). s .first) rows p blank, List·getD-map (λ (s : Spell). s .last) rows p blank) (question-told _ _)
-      ∙ sym (ap (λ (x : After). x .answer) (cover-hit k rows p inside here (λ j h e. differ rows d p j h inside (e ∙ sym here))))))
+      ∙ sym (ap (λ (e : Effect). settle e m q .answer) (cover-hit k rows p inside here (λ j h e. differ rows d p j h inside (e ∙ sym here))))))

@@ -11,6 +11,7 @@ use Rattle.stabbing.specs.Index.{blockOf}
 use Rattle.standing.specs.declared.Standing.{Standing}
 use Rattle.standing.specs.Standing.{Wf, listOf, pasts}
 use Rattle.model.specs.declared.Call.{Call}
+use Rattle.model.specs.declared.Question.{Question}
 use Rattle.model.specs.Questions.{firstsOf, lastsOf}
 use Rattle.register.specs.Text.{Register}
 use Rattle.model.specs.Model.{State, begun, refusalIn, lineIn, Request, Answer, step}
@@ -83,8 +84,8 @@ pub record Publishes (sv : Standing) (ix : List ℕ) (r : Stepped) (ix′ : List
   pub met : (days numbers text : List ℕ) → Met sv ix (asking Call.Publish days numbers text) r ix′ numbers text
 
 -- the same of a question: whatever service stands beside the index, and whatever list for a text, they are as they were
-pub record Asked (ix : List ℕ) (c : Call) (days numbers : List ℕ) (o : Outcome) (numbers′ : List ℕ) : Type 0 where
-  pub met : (sv : Standing) (text : List ℕ) → Given sv ix → Met sv ix (asking c days numbers text) (record { service = sv; outcome = o }) ix numbers′ text
+pub record Asked (ix : List ℕ) (w : Question) (days numbers : List ℕ) (o : Outcome) (numbers′ : List ℕ) : Type 0 where
+  pub met : (sv : Standing) (text : List ℕ) → Given sv ix → Met sv ix (asking (Call.Ask w) days numbers text) (record { service = sv; outcome = o }) ix numbers′ text
 
 -- the same of writing
 pub record Wrote (sv : Standing) (text : List ℕ) (o : Outcome) (text′ : List ℕ) : Type 0 where

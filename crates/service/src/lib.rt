@@ -8,6 +8,7 @@ ghost use Rattle.register.specs.Text.{readText};
 ghost use Rattle.model.specs.Model.{fresh};
 ghost use Rattle.service.specs.Service.{indexOf, Represents, Published, Given, asking, Met, Changed, Publishes, Asked, Wrote, Begins};
 use model::Call;
+use model::Question;
 use refusal::ACCEPTED;
 use spell::Spell;
 use stabbing::INDEX;
@@ -174,7 +175,7 @@ fn listed(l: Listed) -> Outcome
 // Day d: the spells with first ≤ d ≤ last.
 pub fn day(index: &[u16; INDEX], d: u16, numbers: &mut [u16]) -> Outcome
     requires { ⌜ Published (now index) ⌝ }
-    ensures { λ r. ⌜ ((days : List ℕ) → Asked (now (index .entry)) (Call.Day d) days (now (numbers .entry)) r (now (numbers .exit))) ⌝ }
+    ensures { λ r. ⌜ ((days : List ℕ) → Asked (now (index .entry)) (Question.Day d) days (now (numbers .entry)) r (now (numbers .exit))) ⌝ }
 {
     listed(stabbing_query::day(index, d, numbers))
 }
@@ -182,7 +183,7 @@ pub fn day(index: &[u16; INDEX], d: u16, numbers: &mut [u16]) -> Outcome
 // The span from a to b: the spells with first ≤ b and last ≥ a.
 pub fn span(index: &[u16; INDEX], a: u16, b: u16, numbers: &mut [u16]) -> Outcome
     requires { ⌜ Published (now index) ⌝ }
-    ensures { λ r. ⌜ ((days : List ℕ) → Asked (now (index .entry)) (Call.Span a b) days (now (numbers .entry)) r (now (numbers .exit))) ⌝ }
+    ensures { λ r. ⌜ ((days : List ℕ) → Asked (now (index .entry)) (Question.Span a b) days (now (numbers .entry)) r (now (numbers .exit))) ⌝ }
 {
     listed(stabbing_query::span(index, a, b, numbers))
 }
@@ -190,7 +191,7 @@ pub fn span(index: &[u16; INDEX], a: u16, b: u16, numbers: &mut [u16]) -> Outcom
 // The cover of a published spell: the spells with first ≤ its first and last ≥ its last.
 pub fn cover(index: &[u16; INDEX], number: u16, numbers: &mut [u16]) -> Outcome
     requires { ⌜ Published (now index) ⌝ }
-    ensures { λ r. ⌜ ((days : List ℕ) → Asked (now (index .entry)) (Call.Cover number) days (now (numbers .entry)) r (now (numbers .exit))) ⌝ }
+    ensures { λ r. ⌜ ((days : List ℕ) → Asked (now (index .entry)) (Question.Cover number) days (now (numbers .entry)) r (now (numbers .exit))) ⌝ }
 {
     listed(stabbing_query::cover(index, number, numbers))
 }
@@ -198,9 +199,22 @@ pub fn cover(index: &[u16; INDEX], number: u16, numbers: &mut [u16]) -> Outcome
 // Several days: the spells that contain at least one of them.
 pub fn days(index: &[u16; INDEX], days: &[u16], numbers: &mut [u16]) -> Outcome
     requires { ⌜ Published (now index) ⌝ }
-    ensures { λ r. ⌜ Asked (now (index .entry)) Call.Days (now (days .entry)) (now (numbers .entry)) r (now (numbers .exit)) ⌝ }
+    ensures { λ r. ⌜ Asked (now (index .entry)) Question.Days (now (days .entry)) (now (numbers .entry)) r (now (numbers .exit)) ⌝ }
 {
     listed(stabbing_days::days(index, days, numbers))
+}
+
+// Any of the questions; the days are those of a days question.
+pub fn ask(index: &[u16; INDEX], question: Question, dates: &[u16], numbers: &mut [u16]) -> Outcome
+    requires { ⌜ Published (now index) ⌝ }
+    ensures { λ r. ⌜ Asked (now (index .entry)) question (now (dates .entry)) (now (numbers .entry)) r (now (numbers .exit)) ⌝ }
+{
+    match question {
+        Question::Day(d) => day(index, d, numbers),
+        Question::Span(a, b) => span(index, a, b, numbers),
+        Question::Cover(number) => cover(index, number, numbers),
+        Question::Days => days(index, dates, numbers),
+    }
 }
 
 // ---- Any call
@@ -230,9 +244,6 @@ pub fn step(
         Call::TakeBack => take_back(service),
         Call::Publish => publish(service, index),
         Call::Write => answered(service, write(service, text)),
-        Call::Day(d) => answered(service, day(index, d, numbers)),
-        Call::Span(a, b) => answered(service, span(index, a, b, numbers)),
-        Call::Cover(number) => answered(service, cover(index, number, numbers)),
-        Call::Days => answered(service, days(index, dates, numbers)),
+        Call::Ask(question) => answered(service, ask(index, question, dates, numbers)),
     }
 }

@@ -50,12 +50,8 @@ module _ (m : State) (q : Request) (standing : Good (m .standing)) (published : 
 
   pub small : Small (step m q .answer)
   small = every (λ (x : After). Small (x .answer)) m q
-      (record {
-        refused = λ n _. small-none n;
-        asked = λ h l. small-listed _ _ _ _;
-        several = small-listed _ _ _ _;
-        written = record { count = omega arith; listed = omega arith; bytes = written-width (m .standing) standing; written = few (writeAll (m .standing)) (drop (length (writeAll (m .standing))) (q .text)) };
-      })
+      (record { refusing = λ n _. small-none n; asked = λ h l. small-listed _ _ _ _; several = small-listed _ _ _ _ })
+      (record { count = omega arith; listed = omega arith; bytes = written-width (m .standing) standing; written = few (writeAll (m .standing)) (drop (length (writeAll (m .standing))) (q .text)) })
       (λ m′. small-none 0)
 
   pub comparisons-small : step m q .answer .comparisons ≤ 3072

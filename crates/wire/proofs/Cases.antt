@@ -10,9 +10,10 @@ use Rattle.fields.specs.Fields.{digitsOf, decimalOf, numbersText, passed, readD
 use Rattle.register.specs.Text.{textOnto, readLetter, readValue, readUrgency, readLine}
 use Rattle.model.specs.Edits.{insert, enterRefusal, remember}
 use Rattle.model.specs.Questions.{onAny, daysOk, rising, filter, comparisonsOf}
-use Rattle.model.specs.Model.{takeBack, giveText, give, day, span, cover, days, stepOf}
+use Rattle.model.specs.Effects.{settle}
+use Rattle.model.specs.Model.{takeBack, cover, ask, effectOf}
 use Rattle.requests.specs.Requests.{begins, readDays, askedBy, askedOf}
-use Rattle.wire.specs.Replies.{refusedText, listedText, severalText, writtenText, acceptedText, callText}
+use Rattle.wire.specs.Replies.{refusedText, listedText, severalText, writtenText, foundText, acceptedText, callText}
 use Rattle.wire.specs.Conversation.{Sent, opening, turnOf, converse}
 
 -- a request with no payload
@@ -100,8 +101,8 @@ noForm = 109 ∷ 97 ∷ 108 ∷ 102 ∷ 111 ∷ 114 ∷ 109 ∷ 101 ∷ 100 ∷ 
 -- the protocol's example
 pub example : converse opening (map line (enterLine ∷ enterLine ∷ publishLine ∷ dayLine ∷ offLine ∷ roomLine ∷ dayLine ∷ daysLine ∷ takeBackLine ∷ takeBackLine ∷ writeLine ∷ capitalLine ∷ []))
     ≡ ok ∷ refused6 ∷ ok ∷ listed ∷ refused3 ∷ ok ∷ refused11 ∷ listedNone ∷ ok ∷ refused9 ∷ textNone ∷ noForm ∷ []
-unfolding converse turnOf callText acceptedText refusedText listedText severalText writtenText
+unfolding converse turnOf callText acceptedText foundText refusedText listedText severalText writtenText
     begins askedBy askedOf readDays digitsOf decimalOf numbersText passed readDigits readDecimal readLetter readValue readUrgency readLine textOnto
-    stepOf day span cover days give giveText takeBack enterRefusal insert remember earlierOf stands isNan toBits ofBits
+    settle effectOf takeBack ask cover enterRefusal insert remember earlierOf stands isNan toBits ofBits
     onAny daysOk rising filter comparisonsOf below keep count head next parent child leftSibling lastChild fits start onPath formula
 example = refl

@@ -6,13 +6,14 @@ use native.Mathlib.Omega.{arith}
 use borrow.Author.Tests.{eq-eqb, ne-eqb}
 use lib.ListN.{length, length-replicate}
 use Rattle.model.specs.declared.Call.{Call}
+use Rattle.model.specs.declared.Question.{Question}
 use Rattle.model.specs.Model.{State, Request, Answer, step}
 use Rattle.standing.specs.declared.Standing.{Standing}
 use Rattle.service.specs.declared.Outcome.{Outcome}
 use Rattle.service.specs.declared.Stepped.{Stepped}
 use Rattle.service.specs.Service.{Given, asking, answerOf, Met}
 use Rattle.service.proofs.Represented.{stateOf, stands}
-use Rattle.wire.specs.Replies.{refusedText, acceptedText, callText}
+use Rattle.wire.specs.Replies.{refusedText, foundText, acceptedText, callText}
 use Rattle.wire.specs.Conversation.{lent, callOf}
 use Rattle.wire.specs.Answering.{Sends, Fits, Called}
 use Rattle.wire.proofs.Bounds.{Small, small, comparisons-small}
@@ -27,6 +28,11 @@ module _ (call : Call) (o : Outcome) (ns ts out exit : List ℕ) (r : ℕ) where
   pub sends-accepted : o .refusal ≡ 0 → (c : Call) → call ≡ c → Sends (acceptedText c (answerOf o ns ts)) out r exit → Sends (callText call (answerOf o ns ts)) out r exit
   unfolding callText
   sends-accepted h c e s = rw (eq-eqb (o .refusal) 0 h, e) s
+
+-- a question that is known to be another is answered by the bytes of that one
+pub sends-found : (w : Question) (o : Outcome) (ns out exit : List ℕ) (r : ℕ) (w′ : Question) → w ≡ w′
+    → Sends (foundText w′ (o .count) (o .comparisons) ns) out r exit → Sends (foundText w (o .count) (o .comparisons) ns) out r exit
+sends-found w o ns out exit r w′ e s = rw e s
 
 -- ---- the answers of a given service have the numbers that their bytes ask for
 module _ (sv : Standing) (ix : List ℕ) (g : Given sv ix) where

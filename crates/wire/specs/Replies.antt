@@ -8,7 +8,9 @@ use Rattle.refusal.specs.Table.{accepted}
 use Rattle.fields.specs.Fields.{numberText, endBefore, numbersText}
 use Rattle.register.specs.Text.{tab, lf, Register}
 use Rattle.model.specs.declared.Call.{Call}
-use Rattle.model.specs.declared.Call.the-variants.{Enter, Amend, Strike, TakeBack, Publish, Write, Day, Span, Cover, Days}
+use Rattle.model.specs.declared.Call.the-variants.{Enter, Amend, Strike, TakeBack, Publish, Write, Ask}
+use Rattle.model.specs.declared.Question.{Question}
+use Rattle.model.specs.declared.Question.the-variants.{Day, Span, Cover, Days}
 use Rattle.model.specs.Model.{Answer, refusalIn, lineIn}
 
 -- ---- The words of an answer
@@ -63,6 +65,13 @@ severalText k ns = bytesText listedWord (numberText k tab (dash ∷ endBefore (l
 unfoldable pub writtenText : ℕ → List ℕ → List ℕ
 writtenText n t = bytesText textWord (numberText n lf t)
 
+-- an accepted question's answer: its count, its looks, its numbers
+unfoldable pub foundText : Question → ℕ → ℕ → List ℕ → List ℕ
+foundText (Day d) k looks ns = listedText k looks ns
+foundText (Span d e) k looks ns = listedText k looks ns
+foundText (Cover n) k looks ns = listedText k looks ns
+foundText Days k looks ns = severalText k ns
+
 -- an accepted call's answer
 unfoldable pub acceptedText : Call → Answer → List ℕ
 acceptedText (Enter s) a = okText
@@ -71,10 +80,7 @@ acceptedText (Strike k) a = okText
 acceptedText TakeBack a = okText
 acceptedText Publish a = okText
 acceptedText Write a = writtenText (a .length) (take (a .length) (a .text))
-acceptedText (Day d) a = listedText (a .count) (a .comparisons) (take (a .count) (a .numbers))
-acceptedText (Span d e) a = listedText (a .count) (a .comparisons) (take (a .count) (a .numbers))
-acceptedText (Cover k) a = listedText (a .count) (a .comparisons) (take (a .count) (a .numbers))
-acceptedText Days a = severalText (a .count) (take (a .count) (a .numbers))
+acceptedText (Ask w) a = foundText w (a .count) (a .comparisons) (take (a .count) (a .numbers))
 
 -- a call's answer
 unfoldable pub callText : Call → Answer → List ℕ

@@ -4,10 +4,11 @@ ghost use Prim.Native.Nat.{_≤_};
 ghost use lib.ListN.{length, take};
 ghost use Rattle.fields.specs.Answers.{Puts};
 ghost use Rattle.requests.specs.Parsing.{askedFrom, daysIn, roomIn};
-ghost use Rattle.wire.specs.Replies.{okText, malformedText, bytesText, refusedText, stoppedText, listedText, severalText, writtenText, callText};
+ghost use Rattle.wire.specs.Replies.{okText, malformedText, bytesText, refusedText, stoppedText, listedText, severalText, writtenText, foundText, callText};
 ghost use Rattle.wire.specs.Answering.{Sends, Fits, Called, Restarted, Answers, roomOf, Served};
 ghost use Rattle.service.specs.Service.{Given, asking, answerOf};
 use model::Call;
+use model::Question;
 use refusal::ACCEPTED;
 use refusal::MALFORMED;
 use requests::Request;
@@ -125,6 +126,20 @@ fn put_found(out: &mut [u8; OUT], o: Outcome, numbers: &[u16]) -> usize
     put_listed(out, k as u16, o.comparisons as u16, &numbers[..k])
 }
 
+// The answer of any question.
+fn put_answer(out: &mut [u8; OUT], question: Question, o: Outcome, numbers: &[u16]) -> usize
+    requires { ⌜ (o .count ≤ 1024) × (o .count ≤ length (now numbers)) × (o .comparisons ≤ 65535) ⌝ }
+    ensures { λ r. ⌜ Sends (foundText question (o .count) (o .comparisons) (take (o .count) (now (numbers .entry)))) (now (out .entry)) r (now (out .exit)) ⌝ }
+{
+    let k = o.count;
+    match question {
+        Question::Day(_) => put_found(out, o, numbers),
+        Question::Span(_, _) => put_found(out, o, numbers),
+        Question::Cover(_) => put_found(out, o, numbers),
+        Question::Days => put_several(out, k as u16, &numbers[..k]),
+    }
+}
+
 // The answer of any call.
 fn put_reply(out: &mut [u8; OUT], call: Call, o: Outcome, numbers: &[u16], text: &[u8]) -> usize
     requires { ⌜ Fits o (now numbers) (now text) ⌝ }
@@ -133,7 +148,6 @@ fn put_reply(out: &mut [u8; OUT], call: Call, o: Outcome, numbers: &[u16], text:
     if o.refusal != ACCEPTED {
         return put_refused(out, o.refusal);
     }
-    let k = o.count;
     let n = o.length;
     match call {
         Call::Enter(_) => put_ok(out),
@@ -142,10 +156,7 @@ fn put_reply(out: &mut [u8; OUT], call: Call, o: Outcome, numbers: &[u16], text:
         Call::TakeBack => put_ok(out),
         Call::Publish => put_ok(out),
         Call::Write => put_written(out, n as u16, &text[..n]),
-        Call::Day(_) => put_found(out, o, numbers),
-        Call::Span(_, _) => put_found(out, o, numbers),
-        Call::Cover(_) => put_found(out, o, numbers),
-        Call::Days => put_several(out, k as u16, &numbers[..k]),
+        Call::Ask(question) => put_answer(out, question, o, numbers),
     }
 }
 

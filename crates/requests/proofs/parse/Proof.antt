@@ -1,7 +1,8 @@
 -- `requests::parse` meets its contract: each word with what its form asks. Assumes nothing.
 use mathlib.Core.Path.{_≡_, refl, sym, _∙_}
 use borrow.Author.Needs.{needs}
-use Rattle.model.specs.declared.Call.the-variants.{Enter, Amend, Strike, Day, Cover}
+use Rattle.model.specs.declared.Call.the-variants.{Enter, Amend, Strike, Ask}
+use Rattle.model.specs.declared.Question.the-variants.{Day, Cover}
 use Rattle.requests.specs.declared.Word.the-variants.{Enter as EnterWord, Amend as AmendWord, Strike as StrikeWord, TakeBack as TakeBackWord, Publish as PublishWord, Write as WriteWord, Day as DayWord, Span as SpanWord, Cover as CoverWord, Days as DaysWord, NoDays as NoDaysWord, Room as RoomWord, Read as ReadWord, Unknown as UnknownWord}
 use Rattle.requests.specs.Requests.{asksRoom, asksRead, wordOf, askedBy, isDays}
 use Rattle.requests.proofs.Forms.{line-asked, number-asked, length-asked, parses-long, parses-by, parses-days}
@@ -109,7 +110,7 @@ returns-8 c =
     let told = c .before .before in
     let start = told .before .before .before .before .before .before in
     let line = start .args .line .now in
-    parses-by line (start .args .days .now) (told .before .before .before .if1 .left) DayWord refl (word7 told) _ (c .day-asked .ensures ∙ number-asked line Day (c .before .last-number2 .result) _ (c .before .last-number2 .ensures))
+    parses-by line (start .args .days .now) (told .before .before .before .if1 .left) DayWord refl (word7 told) _ (c .day-asked .ensures ∙ number-asked line (λ d. Ask (Day d)) (c .before .last-number2 .result) _ (c .before .last-number2 .ensures))
 
 returns-9 : tie.Need-returns-9
 unfolding askedBy isDays
@@ -125,7 +126,7 @@ returns-10 c =
     let told = c .before .before in
     let start = told .before .before .before .before .before .before in
     let line = start .args .line .now in
-    parses-by line (start .args .days .now) (told .before .before .before .if1 .left) CoverWord refl (word9 told) _ (c .cover-asked .ensures ∙ number-asked line Cover (c .before .last-number3 .result) _ (c .before .last-number3 .ensures))
+    parses-by line (start .args .days .now) (told .before .before .before .if1 .left) CoverWord refl (word9 told) _ (c .cover-asked .ensures ∙ number-asked line (λ n. Ask (Cover n)) (c .before .last-number3 .result) _ (c .before .last-number3 .ensures))
 
 same-length : tie.Need-same-length
 same-length c = c .before .before .read-days .ensures .sized
