@@ -90,3 +90,9 @@ pub days-called : (κs : Lfts 3) (index days numbers numbers′ : RefT (List ℕ
     → (days-reads.Pre κs (index, (days, (numbers, tt))) → days-reads.Post κs (index, (days, (numbers, tt))) r (index, (days, (numbers′, tt))))
     → Called words (now index) (asking (Ask Days) (now days) (now numbers) text) r words (now index) (now numbers′) text
 days-called κs index days numbers numbers′ r met = asked Days r met
+
+pub fresh-asks : (κs : Lfts 2) (words index : RefT (List ℕ)) → fresh-reads.Pre κs (words, (index, tt)) ≡ Unit {0}
+fresh-asks κs words index = refl
+
+pub read-asks : (κs : Lfts 3) (text words index : RefT (List ℕ)) → read-reads.Pre κs (text, (words, (index, tt))) ≡ Unit {0}
+read-asks κs text words index = refl

@@ -3,6 +3,7 @@
 use mathlib.Core.Path.{_≡_, refl}
 use Prim.Native.Nat.{ℕ}
 use mathlib.Core.List.{List}
+use mathlib.Core.Bool.{Bool}
 use contract.Lifetimes.{Lfts}
 use denote.Ref.{RefT, now}
 use Rattle.standing.specs.declared.Standing.{Standing}
@@ -15,6 +16,7 @@ use Rattle.service.specs.Service.{Represents, Given, Met, Begins}
 use Rattle.service.proofs.fresh.Reads as fresh-reads
 use Rattle.service.proofs.read.Reads as read-reads
 use Rattle.service.proofs.step.Reads as step-reads
+use Rattle.replay.proofs.run.Reads as run-reads
 
 module _ (κs : Lfts 4) (sv : Standing) (call : Call) (index index′ days numbers numbers′ text text′ : RefT (List ℕ)) (r : Stepped) where
   pub requires-is : step-reads.Pre κs (sv, (index, (call, (days, (numbers, (text, tt)))))) ≡ Given sv (now index)
@@ -31,3 +33,7 @@ module _ (κs : Lfts 1) (sv : Standing) (index index′ : RefT (List ℕ)) where
 module _ (κs : Lfts 2) (r : Started) (text index index′ : RefT (List ℕ)) where
   pub read-ensures-is : read-reads.Post κs (text, (index, tt)) r (text, (index′, tt)) ≡ Begins (readText (now text)) r (now index′)
   read-ensures-is = refl
+
+pub run-asks : (κs : Lfts 6) (new : Bool) (register codes days results numbers text : RefT (List ℕ))
+    → run-reads.Pre κs (new, (register, (codes, (days, (results, (numbers, (text, tt))))))) ≡ Unit {0}
+run-asks κs new register codes days results numbers text = refl
