@@ -16,8 +16,9 @@
  * WHAT THE HOST MUST KEEP. The proofs take this for granted, and nothing tests it:
  *
  * - A block has its full number of words and is aligned to 2 bytes.
- * - Both blocks begin by phayaklit_fresh or phayaklit_read, and afterwards no other code writes them, not between calls and
- *   not during one. Words that were made up, or that come from another block, are no service and no index.
+ * - Both blocks begin by phayaklit_fresh or phayaklit_read, an index also by phayaklit_publish, and afterwards no other code
+ *   writes them, not between calls and not during one. Words that were made up, or that come from another block, are no
+ *   service and no index.
  * - Two calls may run at a time, in threads or processes, if neither of them writes a block that the other one uses. So any
  *   number of questions may be put to one index at a time, with edits of the service meanwhile; but nobody publishes, reads a
  *   register or starts anew into that index meanwhile. Which calls write which block is said at each: a block that a call
@@ -129,7 +130,8 @@ phayaklit_reply phayaklit_take_back(uint16_t *service);
 
 /* ---- Publish and writing. They read the service. */
 
-/* The published list becomes the standing list. Writes the index. Never refused. */
+/* The published list becomes the standing list. Writes the index, which may hold anything beforehand: a service may be
+ * published into one block while questions are put to another. Never refused. */
 phayaklit_reply phayaklit_publish(const uint16_t *service, uint16_t *index);
 
 /* Writes the register text of the standing list into the first places of a list of bytes; the others keep what they hold.

@@ -16,6 +16,7 @@ use Rattle.standing.specs.Packed.{packed, unpacked}
 use Rattle.standing.proofs.Claims.{packing-identity}
 use Rattle.model.specs.declared.Call.{Call}
 use Rattle.service.specs.Service.{Represents, Given, Met, Changed, Begins}
+use Rattle.service.proofs.Beginning.{publishes-met}
 use Rattle.replay.specs.History as history
 use Rattle.replay.proofs.Claims.{made-run, made-given}
 use Rattle.phayaklit.specs.declared.Reply.{Reply}
@@ -37,7 +38,7 @@ refused-keeps-words a b d t = b ∙ ap packed (d .kept t) ∙ sym a
 pub called-met : {words words′ ix ix′ numbers text : List ℕ} {q : Request} {r : Reply} → Called words ix q r words′ ix′ numbers text
     → Given (unpacked words) ix → Met (unpacked words) ix q (steppedOf words′ r) ix′ numbers text
 called-met (edited {ix = ix} {days} {numbers} {text} c r met) g = met (g .wf) .met ix days numbers text g
-called-met (published {days = days} {numbers} {text} r met) g = met (g .wf) .met days numbers text
+called-met (published {ix = ix} {days = days} {numbers} {text} r met) g = publishes-met (g .wf) (met (g .wf)) ix days numbers text
 called-met (wrote {ix = ix} {days} {numbers} r met) g = met (g .wf) .met ix days numbers g
 called-met (asked {words} {text = text} w r met) g = met (g .published) .met (unpacked words) text g
 

@@ -1,5 +1,5 @@
 -- A call on the service of a block of words is a call on the block. Assumes nothing.
-use mathlib.Core.Path.{_≡_, sym, ap, _∙_}
+use mathlib.Core.Path.{_≡_, refl, sym, ap, _∙_}
 use mathlib.Core.List.{List}
 use Prim.Native.Nat.{ℕ}
 use Rattle.model.specs.declared.Call.{Call}
@@ -25,8 +25,6 @@ pub edited : (words words′ : List ℕ) (sv : Standing) (c : Call) (r : Stepped
 edited words words′ sv c r x e f h = rw (← e, f) h
 
 -- publish keeps the service, so the words need not be packed again
-pub published : (words ix ix′ : List ℕ) (sv : Standing) (r : Stepped) (x : Reply) → sv ≡ unpacked words → outcomeOf x ≡ r .outcome → Publishes sv ix r ix′
-    → Publishes (unpacked words) ix (steppedOf words x) ix′
-published words ix ix′ sv r x e f p =
-    let same : r ≡ record { service = sv; outcome = outcomeOf x } = rw (f, ← p .kept) in
-    rw (← e) (rw same at p)
+pub published : (words ix′ : List ℕ) (sv : Standing) (r : Stepped) (x : Reply) → sv ≡ unpacked words → outcomeOf x ≡ r .outcome → Publishes sv r ix′
+    → Publishes (unpacked words) (steppedOf words x) ix′
+published words ix′ sv r x e f p = record { kept = refl; outcome = f ∙ p .outcome; index = rw (← e) (p .index) }

@@ -17,7 +17,7 @@ pub data Called : List ℕ → List ℕ → Request → Reply → List ℕ → L
       → (Held words → Changed (unpacked words) c (steppedOf words′ r))
       → Called words ix (asking c days numbers text) r words′ ix numbers text
   published : {words ix ix′ days numbers text : List ℕ} (r : Reply)
-      → (Held words → Publishes (unpacked words) ix (steppedOf words r) ix′)
+      → (Held words → Publishes (unpacked words) (steppedOf words r) ix′)
       → Called words ix (asking Publish days numbers text) r words ix′ numbers text
   wrote : {words ix days numbers text text′ : List ℕ} (r : Reply)
       → (Held words → Wrote (unpacked words) text (outcomeOf r) text′)

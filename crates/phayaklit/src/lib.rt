@@ -161,11 +161,11 @@ pub extern "C" fn phayaklit_take_back(words: &mut [u16; SERVICE]) -> Reply
 
 // ---- Publish and writing: the service is read and not written
 
-// The published list becomes the standing list.
+// The published list becomes the standing list. The index may hold anything beforehand.
 #[no_mangle]
 pub extern "C" fn phayaklit_publish(words: &[u16; SERVICE], index: &mut [u16; INDEX]) -> Reply
     requires { ⌜ Held (now words) ⌝ }
-    ensures { λ r. ⌜ Publishes (unpacked (now (words .entry))) (now (index .entry)) (steppedOf (now (words .entry)) r) (now (index .exit)) ⌝ }
+    ensures { λ r. ⌜ Publishes (unpacked (now (words .entry))) (steppedOf (now (words .entry)) r) (now (index .exit)) ⌝ }
 {
     let service = standing::words::unpack(words);
     let r = service::publish(service, index);

@@ -19,12 +19,13 @@ use Rattle.standing.specs.declared.Standing.{Standing}
 use Rattle.standing.specs.declared.Loaded.{Loaded}
 use Rattle.standing.specs.Standing.{Wf, listOf, Fresh, Loads, LaidOut}
 use Rattle.standing.proofs.Calls.{good-none}
-use Rattle.model.specs.declared.Call.the-variants.{Write}
+use Rattle.model.specs.declared.Call.the-variants.{Publish, Write}
 use Rattle.model.specs.Questions.{firstsOf, lastsOf}
 use Rattle.model.specs.Effects.{settle}
 use Rattle.model.specs.Model.{fresh, begun, effectOf}
 use Rattle.model.proofs.Claims.{reads-keep}
-use Rattle.service.specs.Service.{indexOf, Represents, asking, Publishes, Wrote, Begins}
+use Rattle.service.specs.declared.Stepped.{Stepped}
+use Rattle.service.specs.Service.{indexOf, Represents, Given, asking, Met, Publishes, Wrote, Begins}
 use Rattle.service.proofs.Publishing.{rows-ok}
 
 -- ---- Nothing is published
@@ -76,22 +77,28 @@ module _ (sv : Standing) (w : Wf sv) (n : ℕ) (ns fs ls ns′ fs′ ls′ : Lis
   right : publishable fs′ ls′ n ≡ true
   right = rw (first-is, last-is, le-leb n 1024 (omega (arith, laid .count, w .good .few))) (rows-ok l (w .good))
 
-  indexed : ix′ ≡ indexOf l
+  pub indexed : ix′ ≡ indexOf l
   indexed = b .block ∙ rw (right, first-is, last-is, laid-take (λ (s : Spell). s .number) l ns ns′ n (laid .count) (laid .number))
 
-  pub published : Publishes sv ix (record { service = sv; outcome = record { refusal = 0; count = 0; comparisons = 0; length = 0 } }) ix′
+module _ {sv : Standing} {r : Stepped} {ix′ : List ℕ} (w : Wf sv) (p : Publishes sv r ix′) where
+  -- the index shows the standing list
+  pub publishes-given : Given (r .service) ix′
+  publishes-given = record {
+    wf = rw (p .kept) w;
+    published = record { state = record { standing = []; past = []; published = listOf sv }; shows = record { good = w .good; index = p .index } };
+  }
+
+  -- PUBLISH is the account's, whatever the index held before
+  pub publishes-met : (ix days numbers text : List ℕ) → Met sv ix (asking Publish days numbers text) r ix′ numbers text
   unfolding effectOf settle
-  published = record {
-    kept = refl;
-    met = λ days numbers text. record {
-      given = record { wf = w; published = record { state = record { standing = []; past = []; published = l }; shows = record { good = w .good; index = indexed } } };
-      answer = λ m h. refl;
-      after = λ m h. record {
-        wf = w;
-        standing = h .standing;
-        past = h .past;
-        shows = record { good = rw (← h .standing) (w .good); index = indexed ∙ ap indexOf (h .standing) };
-      };
+  publishes-met ix days numbers text = record {
+    given = publishes-given;
+    answer = λ m h. rw (p .outcome);
+    after = λ m h. record {
+      wf = rw (p .kept) w;
+      standing = rw (p .kept) (h .standing);
+      past = rw (p .kept) (h .past);
+      shows = record { good = rw (← h .standing) (w .good); index = p .index ∙ ap indexOf (h .standing) };
     };
   }
 

@@ -78,11 +78,6 @@ pub record Changed (sv : Standing) (c : Call) (r : Stepped) : Type 0 where
   pub kept : eqb (r .outcome .refusal) accepted ≡ false → r .service ≡ sv
   pub met : (ix days numbers text : List ℕ) → Given sv ix → Met sv ix (asking c days numbers text) r ix numbers text
 
--- the same of publish, whatever the index held before; the service is as it was
-pub record Publishes (sv : Standing) (ix : List ℕ) (r : Stepped) (ix′ : List ℕ) : Type 0 where
-  pub kept : r .service ≡ sv
-  pub met : (days numbers text : List ℕ) → Met sv ix (asking Call.Publish days numbers text) r ix′ numbers text
-
 -- the same of a question: whatever service stands beside the index, and whatever list for a text, they are as they were
 pub record Asked (ix : List ℕ) (w : Question) (days numbers : List ℕ) (o : Outcome) (numbers′ : List ℕ) : Type 0 where
   pub met : (sv : Standing) (text : List ℕ) → Given sv ix → Met sv ix (asking (Call.Ask w) days numbers text) (record { service = sv; outcome = o }) ix numbers′ text
@@ -90,6 +85,16 @@ pub record Asked (ix : List ℕ) (w : Question) (days numbers : List ℕ) (o : O
 -- the same of writing
 pub record Wrote (sv : Standing) (text : List ℕ) (o : Outcome) (text′ : List ℕ) : Type 0 where
   pub met : (ix days numbers : List ℕ) → Given sv ix → Met sv ix (asking Call.Write days numbers text) (record { service = sv; outcome = o }) ix numbers text′
+
+-- accepted, and no more is told
+abbrev pub plain : Outcome
+plain = record { refusal = accepted; count = 0; comparisons = 0; length = 0 }
+
+-- publish: the index becomes that of the standing list, every word of it, whatever it held before; the service is as it was
+pub record Publishes (sv : Standing) (r : Stepped) (ix′ : List ℕ) : Type 0 where
+  pub kept : r .service ≡ sv
+  pub outcome : r .outcome ≡ plain
+  pub index : ix′ ≡ indexOf (listOf sv)
 
 -- ---- The beginning
 

@@ -2,11 +2,11 @@
 ghost use mathlib.Core.Path.{_≡_};
 ghost use Prim.Native.Nat.{ℕ};
 ghost use mathlib.Core.List.{List};
-ghost use Rattle.standing.specs.Standing.{Wf};
+ghost use Rattle.standing.specs.Standing.{Wf, listOf};
 ghost use mathlib.Core.List.{[]};
 ghost use Rattle.register.specs.Text.{readText};
 ghost use Rattle.model.specs.Model.{fresh};
-ghost use Rattle.service.specs.Service.{indexOf, Represents, Published, Given, asking, Met, Changed, Publishes, Asked, Wrote, Begins};
+ghost use Rattle.service.specs.Service.{indexOf, Represents, Published, Given, asking, plain, Met, Changed, Publishes, Asked, Wrote, Begins};
 use model::Call;
 use model::Question;
 use refusal::ACCEPTED;
@@ -121,7 +121,7 @@ pub fn take_back(service: Service) -> Stepped
 // ---- Publish and writing
 
 fn done(service: Service) -> Stepped
-    ensures { λ r. ⌜ r ≡ record { service = service; outcome = record { refusal = 0; count = 0; comparisons = 0; length = 0 } } ⌝ }
+    ensures { λ r. ⌜ (r .service ≡ service) × (r .outcome ≡ plain) ⌝ }
 {
     let outcome = Outcome {
         refusal: ACCEPTED,
@@ -132,16 +132,24 @@ fn done(service: Service) -> Stepped
     Stepped { service, outcome }
 }
 
-// The published list becomes the standing list.
-pub fn publish(service: Service, index: &mut [u16; INDEX]) -> Stepped
+// The index of the standing list.
+fn lay(service: Service, index: &mut [u16; INDEX])
     requires { ⌜ Wf service ⌝ }
-    ensures { λ r. ⌜ Publishes service (now (index .entry)) r (now (index .exit)) ⌝ }
+    ensures { λ _. ⌜ now (index .exit) ≡ indexOf (listOf service) ⌝ }
 {
     let mut number = [0u16; 1024];
     let mut first = [0u16; 1024];
     let mut last = [0u16; 1024];
     let n = standing::columns(service, &mut number, &mut first, &mut last);
     stabbing_index::build(&number, &first, &last, n, index);
+}
+
+// The published list becomes the standing list. The index may hold anything beforehand.
+pub fn publish(service: Service, index: &mut [u16; INDEX]) -> Stepped
+    requires { ⌜ Wf service ⌝ }
+    ensures { λ r. ⌜ Publishes service r (now (index .exit)) ⌝ }
+{
+    lay(service, index);
     done(service)
 }
 

@@ -11,7 +11,7 @@ returns : tie.Need-returns
 returns c =
     let done = c .before in
     let read = done .before .before in
-    published _ _ _ _ _ _ (read .unpack .ensures) (c .answered .ensures) (done .publish .ensures)
+    published _ _ _ _ _ (read .unpack .ensures) (c .answered .ensures) (done .publish .ensures)
 
 pub phayaklit-publish-spec : {M : Type 1} → statement M
 phayaklit-publish-spec =
