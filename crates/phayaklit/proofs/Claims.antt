@@ -17,8 +17,8 @@ use Rattle.standing.proofs.Claims.{packing-identity}
 use Rattle.model.specs.declared.Call.{Call}
 use Rattle.service.specs.Service.{Represents, Given, Met, Changed, Begins}
 use Rattle.service.proofs.Beginning.{publishes-met}
-use Rattle.replay.specs.History as history
-use Rattle.replay.proofs.Claims.{made-run, made-given}
+use Rattle.service.specs.History as history
+use Rattle.service.proofs.Claims.{made-run, made-given}
 use Rattle.phayaklit.specs.declared.Reply.{Reply}
 use Rattle.phayaklit.specs.declared.Opened.{Opened}
 use Rattle.phayaklit.specs.Host.{Laid, steppedOf, startedOf}

@@ -1,5 +1,4 @@
 pub mod Laid
 pub mod Runs
-pub mod Claims
 pub mod Tied
 pub mod Cases

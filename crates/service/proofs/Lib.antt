@@ -4,3 +4,5 @@ pub mod Publishing
 pub mod Asking
 pub mod Editing
 pub mod Beginning
+pub mod Claims
+pub mod Tied

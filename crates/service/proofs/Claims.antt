@@ -5,10 +5,10 @@ use mathlib.Core.List.{List}
 use Rattle.standing.specs.declared.Standing.{Standing}
 use Rattle.register.specs.Text.{readText}
 use Rattle.model.specs.Model.{State, fresh, begun, Request, Answer, step, run}
 use Rattle.service.specs.declared.Started.{Started}
 use Rattle.service.specs.Service.{Represents, Given, Begins}
 use Rattle.service.proofs.Represented.{represented}
-use Rattle.replay.specs.History.{Made, none, then}
+use Rattle.service.specs.History.{Made, none, then}
 
 -- A WHOLE LIST OF CALLS on a service and an index that stand for m has the answers of the account's own run from m
 pub made-run : {sv sv′ : Standing} {ix ix′ : List ℕ} {qs : List Request} {answers : List Answer} (m : State)

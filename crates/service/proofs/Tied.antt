@@ -1,0 +1,114 @@
+-- The contract of each public function, as the prover reads it, is a beginning or a step of `Made`. Assumes nothing.
+use mathlib.Core.Path.{_≡_, refl}
+use Prim.Native.Nat.{ℕ}
+use mathlib.Core.List.{List}
+use contract.Lifetimes.{Lfts}
+use denote.Ref.{RefT, now}
+use Rattle.spell.specs.declared.Spell.{Spell}
+use Rattle.register.specs.Text.{readText}
+use Rattle.standing.specs.declared.Standing.{Standing}
+use Rattle.model.specs.declared.Call.{Call}
+use Rattle.model.specs.declared.Call.the-variants.{Enter, Amend, Strike, TakeBack, Publish, Write, Ask}
+use Rattle.model.specs.declared.Question.{Question}
+use Rattle.model.specs.declared.Question.the-variants.{Day, Span, Cover, Days}
+use Rattle.model.specs.Model.{fresh}
+use Rattle.service.specs.declared.Outcome.{Outcome}
+use Rattle.service.specs.declared.Stepped.{Stepped}
+use Rattle.service.specs.declared.Started.{Started}
+use Rattle.service.specs.Service.{Represents, asking, Met, Begins}
+use Rattle.service.specs.History.{Steps}
+use Rattle.service.proofs.Beginning.{publishes-met}
+use Rattle.service.proofs.fresh.Reads as fresh-reads
+use Rattle.service.proofs.read.Reads as read-reads
+use Rattle.service.proofs.enter.Reads as enter-reads
+use Rattle.service.proofs.amend.Reads as amend-reads
+use Rattle.service.proofs.strike.Reads as strike-reads
+use Rattle.service.proofs.take_back.Reads as take-back-reads
+use Rattle.service.proofs.publish.Reads as publish-reads
+use Rattle.service.proofs.write.Reads as write-reads
+use Rattle.service.proofs.day.Reads as day-reads
+use Rattle.service.proofs.span.Reads as span-reads
+use Rattle.service.proofs.cover.Reads as cover-reads
+use Rattle.service.proofs.days.Reads as days-reads
+use Rattle.service.proofs.ask.Reads as ask-reads
+use Rattle.service.proofs.step.Reads as step-reads
+
+-- ---- The beginning
+
+module _ (κs : Lfts 1) (sv : Standing) (index index′ : RefT (List ℕ)) where
+  pub fresh-is : fresh-reads.Post κs (index, tt) sv (index′, tt) ≡ Represents sv (now index′) fresh
+  fresh-is = refl
+
+module _ (κs : Lfts 2) (r : Started) (text index index′ : RefT (List ℕ)) where
+  pub read-is : read-reads.Post κs (text, (index, tt)) r (text, (index′, tt)) ≡ Begins (readText (now text)) r (now index′)
+  read-is = refl
+
+-- ---- Edits
+
+module _ (κs : Lfts 0) (sv : Standing) (r : Stepped) {ix days numbers text : List ℕ} where
+  pub enter-steps : (s : Spell) → (enter-reads.Pre κs (sv, (s, tt)) → enter-reads.Post κs (sv, (s, tt)) r (sv, (s, tt)))
+      → Steps sv ix (asking (Enter s) days numbers text) r ix numbers text
+  enter-steps s met g = met (g .wf) .met ix days numbers text g
+
+  pub amend-steps : (s : Spell) → (amend-reads.Pre κs (sv, (s, tt)) → amend-reads.Post κs (sv, (s, tt)) r (sv, (s, tt)))
+      → Steps sv ix (asking (Amend s) days numbers text) r ix numbers text
+  amend-steps s met g = met (g .wf) .met ix days numbers text g
+
+  pub strike-steps : (k : ℕ) → (strike-reads.Pre κs (sv, (k, tt)) → strike-reads.Post κs (sv, (k, tt)) r (sv, (k, tt)))
+      → Steps sv ix (asking (Strike k) days numbers text) r ix numbers text
+  strike-steps k met g = met (g .wf) .met ix days numbers text g
+
+  pub take-back-steps : (take-back-reads.Pre κs (sv, tt) → take-back-reads.Post κs (sv, tt) r (sv, tt))
+      → Steps sv ix (asking TakeBack days numbers text) r ix numbers text
+  take-back-steps met g = met (g .wf) .met ix days numbers text g
+
+-- ---- Publish and writing
+
+-- publish steps from any index, whatever the block held that it wrote
+module _ (κs : Lfts 1) (sv : Standing) (r : Stepped) (index index′ : RefT (List ℕ)) {ix days numbers text : List ℕ} where
+  pub publish-steps : (publish-reads.Pre κs (sv, (index, tt)) → publish-reads.Post κs (sv, (index, tt)) r (sv, (index′, tt)))
+      → Steps sv ix (asking Publish days numbers text) r (now index′) numbers text
+  publish-steps met g = publishes-met (g .wf) (met (g .wf)) ix days numbers text
+
+module _ (κs : Lfts 1) (sv : Standing) (o : Outcome) (text text′ : RefT (List ℕ)) {ix days numbers : List ℕ} where
+  pub write-steps : (write-reads.Pre κs (sv, (text, tt)) → write-reads.Post κs (sv, (text, tt)) o (sv, (text′, tt)))
+      → Steps sv ix (asking Write days numbers (now text)) (record { service = sv; outcome = o }) ix numbers (now text′)
+  write-steps met g = met (g .wf) .met ix days numbers g
+
+-- ---- Questions
+
+module _ (κs : Lfts 2) (index numbers numbers′ : RefT (List ℕ)) (o : Outcome) {sv : Standing} {days text : List ℕ} where
+  pub day-steps : (d : ℕ) → (day-reads.Pre κs (index, (d, (numbers, tt))) → day-reads.Post κs (index, (d, (numbers, tt))) o (index, (d, (numbers′, tt))))
+      → Steps sv (now index) (asking (Ask (Day d)) days (now numbers) text) (record { service = sv; outcome = o }) (now index) (now numbers′) text
+  day-steps d met g = met (g .published) days .met sv text g
+
+  pub span-steps : (a b : ℕ)
+      → (span-reads.Pre κs (index, (a, (b, (numbers, tt)))) → span-reads.Post κs (index, (a, (b, (numbers, tt)))) o (index, (a, (b, (numbers′, tt)))))
+      → Steps sv (now index) (asking (Ask (Span a b)) days (now numbers) text) (record { service = sv; outcome = o }) (now index) (now numbers′) text
+  span-steps a b met g = met (g .published) days .met sv text g
+
+  pub cover-steps : (k : ℕ) → (cover-reads.Pre κs (index, (k, (numbers, tt))) → cover-reads.Post κs (index, (k, (numbers, tt))) o (index, (k, (numbers′, tt))))
+      → Steps sv (now index) (asking (Ask (Cover k)) days (now numbers) text) (record { service = sv; outcome = o }) (now index) (now numbers′) text
+  cover-steps k met g = met (g .published) days .met sv text g
+
+module _ (κs : Lfts 3) (index days numbers numbers′ : RefT (List ℕ)) (o : Outcome) {sv : Standing} {text : List ℕ} where
+  pub days-steps : (days-reads.Pre κs (index, (days, (numbers, tt))) → days-reads.Post κs (index, (days, (numbers, tt))) o (index, (days, (numbers′, tt))))
+      → Steps sv (now index) (asking (Ask Days) (now days) (now numbers) text) (record { service = sv; outcome = o }) (now index) (now numbers′) text
+  days-steps met g = met (g .published) .met sv text g
+
+  pub ask-steps : (w : Question)
+      → (ask-reads.Pre κs (index, (w, (days, (numbers, tt)))) → ask-reads.Post κs (index, (w, (days, (numbers, tt)))) o (index, (w, (days, (numbers′, tt)))))
+      → Steps sv (now index) (asking (Ask w) (now days) (now numbers) text) (record { service = sv; outcome = o }) (now index) (now numbers′) text
+  ask-steps w met g = met (g .published) .met sv text g
+
+-- ---- Any call: the step itself, and nothing weaker
+
+module _ (κs : Lfts 4) (sv : Standing) (call : Call) (index index′ days numbers numbers′ text text′ : RefT (List ℕ)) (r : Stepped) where
+  pub step-is : step-reads.Post κs (sv, (index, (call, (days, (numbers, (text, tt)))))) r (sv, (index′, (call, (days, (numbers′, (text′, tt))))))
+      ≡ Met sv (now index) (asking call (now days) (now numbers) (now text)) r (now index′) (now numbers′) (now text′)
+  step-is = refl
+
+  pub step-steps : (step-reads.Pre κs (sv, (index, (call, (days, (numbers, (text, tt))))))
+      → step-reads.Post κs (sv, (index, (call, (days, (numbers, (text, tt)))))) r (sv, (index′, (call, (days, (numbers′, (text′, tt)))))))
+      → Steps sv (now index) (asking call (now days) (now numbers) (now text)) r (now index′) (now numbers′) (now text′)
+  step-steps met = met
