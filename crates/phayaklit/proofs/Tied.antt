@@ -1,4 +1,5 @@
--- A history's call is the contract of an exported function itself, as the prover reads it: each contract gives one. Assumes nothing.
+-- A history's call is the contract of an exported function itself, as the prover reads it: each contract gives one; and what each asks.
+-- Assumes nothing.
 use mathlib.Core.Path.{_≡_, refl}
 use Prim.Native.Nat.{ℕ}
 use mathlib.Core.List.{List}
@@ -9,11 +10,11 @@ use Rattle.model.specs.declared.Call.the-variants.{Enter, Amend, Strike, TakeBa
 use Rattle.model.specs.declared.Question.the-variants.{Day, Span, Cover, Days}
 use Rattle.model.specs.Model.{fresh}
 use Rattle.standing.specs.Packed.{unpacked}
-use Rattle.service.specs.Service.{asking, Represents, Begins}
+use Rattle.service.specs.Service.{asking, Represents, Published, Begins}
 use Rattle.phayaklit.specs.declared.Entry.{Entry}
 use Rattle.phayaklit.specs.declared.Reply.{Reply}
 use Rattle.phayaklit.specs.declared.Opened.{Opened}
-use Rattle.phayaklit.specs.Host.{Laid, spellIn, startedOf}
+use Rattle.phayaklit.specs.Host.{Held, Laid, spellIn, startedOf}
 use Rattle.phayaklit.specs.History.{Called, edited, published, wrote, asked}
 use Rattle.phayaklit.proofs.phayaklit_fresh.Reads as fresh-reads
 use Rattle.phayaklit.proofs.phayaklit_read.Reads as read-reads
@@ -91,8 +92,43 @@ pub days-called : (κs : Lfts 3) (index days numbers numbers′ : RefT (List ℕ
     → Called words (now index) (asking (Ask Days) (now days) (now numbers) text) r words (now index) (now numbers′) text
 days-called κs index days numbers numbers′ r met = asked Days r met
 
+-- ---- What each asks: at the beginning nothing, and else that the words, or the index, are what the calls gave
+
 pub fresh-asks : (κs : Lfts 2) (words index : RefT (List ℕ)) → fresh-reads.Pre κs (words, (index, tt)) ≡ Unit {0}
 fresh-asks κs words index = refl
 
 pub read-asks : (κs : Lfts 3) (text words index : RefT (List ℕ)) → read-reads.Pre κs (text, (words, (index, tt))) ≡ Unit {0}
 read-asks κs text words index = refl
+
+module _ (κs : Lfts 1) (words : RefT (List ℕ)) where
+  pub enter-asks : (e : Entry) → enter-reads.Pre κs (words, (e, tt)) ≡ Held (now words)
+  enter-asks e = refl
+
+  pub amend-asks : (e : Entry) → amend-reads.Pre κs (words, (e, tt)) ≡ Held (now words)
+  amend-asks e = refl
+
+  pub strike-asks : (n : ℕ) → strike-reads.Pre κs (words, (n, tt)) ≡ Held (now words)
+  strike-asks n = refl
+
+  pub take-back-asks : take-back-reads.Pre κs (words, tt) ≡ Held (now words)
+  take-back-asks = refl
+
+module _ (κs : Lfts 2) (words : RefT (List ℕ)) where
+  pub publish-asks : (index : RefT (List ℕ)) → publish-reads.Pre κs (words, (index, tt)) ≡ Held (now words)
+  publish-asks index = refl
+
+  pub write-asks : (text : RefT (List ℕ)) → write-reads.Pre κs (words, (text, tt)) ≡ Held (now words)
+  write-asks text = refl
+
+module _ (κs : Lfts 2) (index numbers : RefT (List ℕ)) where
+  pub day-asks : (d : ℕ) → day-reads.Pre κs (index, (d, (numbers, tt))) ≡ Published (now index)
+  day-asks d = refl
+
+  pub span-asks : (a b : ℕ) → span-reads.Pre κs (index, (a, (b, (numbers, tt)))) ≡ Published (now index)
+  span-asks a b = refl
+
+  pub cover-asks : (n : ℕ) → cover-reads.Pre κs (index, (n, (numbers, tt))) ≡ Published (now index)
+  cover-asks n = refl
+
+pub days-asks : (κs : Lfts 3) (index days numbers : RefT (List ℕ)) → days-reads.Pre κs (index, (days, (numbers, tt))) ≡ Published (now index)
+days-asks κs index days numbers = refl

@@ -1,4 +1,4 @@
--- The contract of each public function, as the prover reads it, is a beginning or a step of `Made`. Assumes nothing.
+-- The contract of each public function, as the prover reads it, is a beginning or a step of `Made`; and what each asks. Assumes nothing.
 use mathlib.Core.Path.{_≡_, refl}
 use Prim.Native.Nat.{ℕ}
 use mathlib.Core.List.{List}
@@ -7,6 +7,7 @@ use denote.Ref.{RefT, now}
 use Rattle.spell.specs.declared.Spell.{Spell}
 use Rattle.register.specs.Text.{readText}
 use Rattle.standing.specs.declared.Standing.{Standing}
+use Rattle.standing.specs.Standing.{Wf}
 use Rattle.model.specs.declared.Call.{Call}
 use Rattle.model.specs.declared.Call.the-variants.{Enter, Amend, Strike, TakeBack, Publish, Write, Ask}
 use Rattle.model.specs.declared.Question.{Question}
@@ -15,7 +16,7 @@ use Rattle.model.specs.Model.{fresh}
 use Rattle.service.specs.declared.Outcome.{Outcome}
 use Rattle.service.specs.declared.Stepped.{Stepped}
 use Rattle.service.specs.declared.Started.{Started}
-use Rattle.service.specs.Service.{Represents, asking, Met, Begins}
+use Rattle.service.specs.Service.{Represents, Published, Given, asking, Met, Begins}
 use Rattle.service.specs.History.{Steps}
 use Rattle.service.proofs.Beginning.{publishes-met}
 use Rattle.service.proofs.fresh.Reads as fresh-reads
@@ -112,3 +113,52 @@ module _ (κs : Lfts 4) (sv : Standing) (call : Call) (index index′ days numbe
       → step-reads.Post κs (sv, (index, (call, (days, (numbers, (text, tt)))))) r (sv, (index′, (call, (days, (numbers′, (text′, tt)))))))
       → Steps sv (now index) (asking call (now days) (now numbers) (now text)) r (now index′) (now numbers′) (now text′)
   step-steps met = met
+
+-- ---- What each asks: at the beginning nothing, and else that service or index, or both, are what the calls gave
+
+module _ (κs : Lfts 1) (index : RefT (List ℕ)) where
+  pub fresh-asks : fresh-reads.Pre κs (index, tt) ≡ Unit {0}
+  fresh-asks = refl
+
+  pub publish-asks : (sv : Standing) → publish-reads.Pre κs (sv, (index, tt)) ≡ Wf sv
+  publish-asks sv = refl
+
+pub read-asks : (κs : Lfts 2) (text index : RefT (List ℕ)) → read-reads.Pre κs (text, (index, tt)) ≡ Unit {0}
+read-asks κs text index = refl
+
+module _ (κs : Lfts 0) (sv : Standing) where
+  pub enter-asks : (s : Spell) → enter-reads.Pre κs (sv, (s, tt)) ≡ Wf sv
+  enter-asks s = refl
+
+  pub amend-asks : (s : Spell) → amend-reads.Pre κs (sv, (s, tt)) ≡ Wf sv
+  amend-asks s = refl
+
+  pub strike-asks : (k : ℕ) → strike-reads.Pre κs (sv, (k, tt)) ≡ Wf sv
+  strike-asks k = refl
+
+  pub take-back-asks : take-back-reads.Pre κs (sv, tt) ≡ Wf sv
+  take-back-asks = refl
+
+pub write-asks : (κs : Lfts 1) (sv : Standing) (text : RefT (List ℕ)) → write-reads.Pre κs (sv, (text, tt)) ≡ Wf sv
+write-asks κs sv text = refl
+
+module _ (κs : Lfts 2) (index numbers : RefT (List ℕ)) where
+  pub day-asks : (d : ℕ) → day-reads.Pre κs (index, (d, (numbers, tt))) ≡ Published (now index)
+  day-asks d = refl
+
+  pub span-asks : (a b : ℕ) → span-reads.Pre κs (index, (a, (b, (numbers, tt)))) ≡ Published (now index)
+  span-asks a b = refl
+
+  pub cover-asks : (k : ℕ) → cover-reads.Pre κs (index, (k, (numbers, tt))) ≡ Published (now index)
+  cover-asks k = refl
+
+module _ (κs : Lfts 3) (index days numbers : RefT (List ℕ)) where
+  pub days-asks : days-reads.Pre κs (index, (days, (numbers, tt))) ≡ Published (now index)
+  days-asks = refl
+
+  pub ask-asks : (w : Question) → ask-reads.Pre κs (index, (w, (days, (numbers, tt)))) ≡ Published (now index)
+  ask-asks w = refl
+
+pub step-asks : (κs : Lfts 4) (sv : Standing) (call : Call) (index days numbers text : RefT (List ℕ))
+    → step-reads.Pre κs (sv, (index, (call, (days, (numbers, (text, tt)))))) ≡ Given sv (now index)
+step-asks κs sv call index days numbers text = refl
