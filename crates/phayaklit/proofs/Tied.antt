@@ -8,14 +8,13 @@ use denote.Ref.{RefT, now}
 use Rattle.register.specs.Text.{readText}
 use Rattle.model.specs.declared.Call.the-variants.{Enter, Amend, Strike, TakeBack, Publish, Write, Ask}
 use Rattle.model.specs.declared.Question.the-variants.{Day, Span, Cover, Days}
-use Rattle.model.specs.Model.{fresh}
-use Rattle.standing.specs.Packed.{unpacked}
-use Rattle.service.specs.Service.{asking, Represents, Published, Begins}
+use Rattle.model.specs.Model.{fresh, begun}
+use Rattle.service.specs.Service.{asking, Published, Begins}
 use Rattle.phayaklit.specs.declared.Entry.{Entry}
 use Rattle.phayaklit.specs.declared.Reply.{Reply}
 use Rattle.phayaklit.specs.declared.Opened.{Opened}
 use Rattle.phayaklit.specs.Host.{Held, Laid, spellIn, startedOf}
-use Rattle.phayaklit.specs.History.{Called, edited, published, wrote, asked}
+use Rattle.phayaklit.specs.History.{Opens, Called, edited, published, wrote, asked}
 use Rattle.phayaklit.proofs.phayaklit_fresh.Reads as fresh-reads
 use Rattle.phayaklit.proofs.phayaklit_read.Reads as read-reads
 use Rattle.phayaklit.proofs.phayaklit_enter.Reads as enter-reads
@@ -32,31 +31,36 @@ use Rattle.phayaklit.proofs.phayaklit_days.Reads as days-reads
 -- ---- The beginning
 
 pub fresh-is : (κs : Lfts 2) (words words′ index index′ : RefT (List ℕ)) (u : Unit {0})
-    → fresh-reads.Post κs (words, (index, tt)) u (words′, (index′, tt)) ≡ (Represents (unpacked (now words′)) (now index′) fresh × Laid (now words′))
+    → fresh-reads.Post κs (words, (index, tt)) u (words′, (index′, tt)) ≡ Opens (now words′) (now index′) fresh
 fresh-is κs words words′ index index′ u = refl
 
-pub read-is : (κs : Lfts 3) (text words words′ index index′ : RefT (List ℕ)) (r : Opened)
-    → read-reads.Post κs (text, (words, (index, tt))) r (text, (words′, (index′, tt))) ≡ (Begins (readText (now text)) (startedOf (now words′) r) (now index′) × Laid (now words′))
-read-is κs text words words′ index index′ r = refl
+module _ (κs : Lfts 3) (text words words′ index index′ : RefT (List ℕ)) (r : Opened) where
+  pub read-is : read-reads.Post κs (text, (words, (index, tt))) r (text, (words′, (index′, tt)))
+      ≡ (Begins (readText (now text)) (startedOf (now words′) r) (now index′) × Laid (now words′))
+  read-is = refl
+
+  pub read-opens : read-reads.Post κs (text, (words, (index, tt))) r (text, (words′, (index′, tt)))
+      → Opens (now words′) (now index′) (begun (readText (now text)))
+  read-opens b = (b .0 .represents, b .1)
 
 -- ---- Edits
 
 module _ (κs : Lfts 1) (words words′ : RefT (List ℕ)) (r : Reply) {ix days numbers text : List ℕ} where
   pub enter-called : (e : Entry) → (enter-reads.Pre κs (words, (e, tt)) → enter-reads.Post κs (words, (e, tt)) r (words′, (e, tt)))
       → Called (now words) ix (asking (Enter (spellIn e)) days numbers text) r (now words′) ix numbers text
-  enter-called e met = edited (Enter (spellIn e)) r (λ h. met h .0)
+  enter-called e met = edited (Enter (spellIn e)) r met
 
   pub amend-called : (e : Entry) → (amend-reads.Pre κs (words, (e, tt)) → amend-reads.Post κs (words, (e, tt)) r (words′, (e, tt)))
       → Called (now words) ix (asking (Amend (spellIn e)) days numbers text) r (now words′) ix numbers text
-  amend-called e met = edited (Amend (spellIn e)) r (λ h. met h .0)
+  amend-called e met = edited (Amend (spellIn e)) r met
 
   pub strike-called : (n : ℕ) → (strike-reads.Pre κs (words, (n, tt)) → strike-reads.Post κs (words, (n, tt)) r (words′, (n, tt)))
       → Called (now words) ix (asking (Strike n) days numbers text) r (now words′) ix numbers text
-  strike-called n met = edited (Strike n) r (λ h. met h .0)
+  strike-called n met = edited (Strike n) r met
 
   pub take-back-called : (take-back-reads.Pre κs (words, tt) → take-back-reads.Post κs (words, tt) r (words′, tt))
       → Called (now words) ix (asking TakeBack days numbers text) r (now words′) ix numbers text
-  take-back-called met = edited TakeBack r (λ h. met h .0)
+  take-back-called met = edited TakeBack r met
 
 -- ---- Publish and writing
 
