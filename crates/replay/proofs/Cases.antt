@@ -8,13 +8,14 @@ use Rattle.spell.specs.declared.Urgency.the-variants.{Grade, Reading}
 use Rattle.spell.specs.Order.{earlierOf}
 use Rattle.spell.specs.Listing.{stands}
 use Rattle.stabbing.specs.Tree.{below, keep, count, head, next, parent, child, leftSibling, lastChild, fits, start, onPath, formula}
-use Rattle.model.specs.declared.Call.the-variants.{Enter, Publish, Ask}
-use Rattle.model.specs.declared.Question.the-variants.{Day, Days}
+use Rattle.model.specs.declared.Call.{Call}
+use Rattle.model.specs.declared.Call.the-variants.{Enter, Amend, Strike, TakeBack, Publish, Write, Ask}
+use Rattle.model.specs.declared.Question.the-variants.{Day, Span, Cover, Days}
 use Rattle.model.specs.Edits.{insert, enterRefusal, remember}
 use Rattle.model.specs.Questions.{onAny, daysOk, rising, filter, comparisonsOf}
 use Rattle.model.specs.Effects.{settle}
-use Rattle.model.specs.Model.{Request, fresh, ask, effectOf, run}
-use Rattle.replay.specs.Coded.{codeAt, callOf, nextOf, decodeFrom, decode, resultsOf, numbersOf, over}
+use Rattle.model.specs.Model.{Request, Answer, fresh, ask, effectOf, run}
+use Rattle.replay.specs.Coded.{codeAt, callOf, nextOf, decodeFrom, decode, resultsOf, numbersOf, textsOf, over}
 
 -- enter 11, with a word of more than 16 bits; enter 12, with a reading; publish; day 3, lent three places; days 1 and 4, lent
 -- two places; a number that no call has; and a code of three words
@@ -62,3 +63,35 @@ pub answered : (over (resultsOf (run fresh (coded 24))) (results 24)
 unfolding decodeFrom codeAt nextOf callOf resultsOf numbersOf run settle effectOf ask enterRefusal insert remember earlierOf stands isNan toBits ofBits
     onAny daysOk rising filter comparisonsOf below keep count head next parent child leftSibling lastChild fits start onPath formula
 answered = (refl, refl)
+
+-- ---- Every word of a code, and every place of an answer
+
+-- a code with a field of its own in each word, lent a day, two numbers and three bytes
+abbrev each : ℕ → ℕ → List ℕ
+each op kind = op ∷ 11 ∷ 12 ∷ 13 ∷ 14 ∷ kind ∷ 15 ∷ 1 ∷ 2 ∷ 3 ∷ []
+
+abbrev lent : Call → Request
+lent c = record { call = c; days = 5 ∷ []; numbers = 6 ∷ 6 ∷ []; text = 7 ∷ 7 ∷ 7 ∷ [] }
+
+-- each call has its number, and takes the words that are its own
+pub each-call : decode (each 1 0 ++ each 2 1 ++ each 3 0 ++ each 4 0 ++ each 5 0 ++ each 6 0 ++ each 7 0 ++ each 8 0 ++ each 9 0 ++ each 10 0)
+    (replicate 10 5) (replicate 40 0) (replicate 20 6) (replicate 30 7)
+    ≡ lent (Enter (record { number = 11; candidate = 12; first = 13; last = 14; urgency = Grade 15 }))
+    ∷ lent (Amend (record { number = 11; candidate = 12; first = 13; last = 14; urgency = Reading (ofBits binary32 15) }))
+    ∷ lent (Strike 11) ∷ lent TakeBack ∷ lent Publish ∷ lent Write
+    ∷ lent (Ask (Day 13)) ∷ lent (Ask (Span 13 14)) ∷ lent (Ask (Cover 11)) ∷ lent (Ask Days) ∷ []
+unfolding decodeFrom codeAt nextOf callOf
+each-call = refl
+
+-- two answers with a value of its own in each place
+abbrev two : List Answer
+two =
+    record { refusal = 1; count = 2; comparisons = 3; length = 4; numbers = 21 ∷ 22 ∷ []; text = 31 ∷ [] }
+    ∷ record { refusal = 5; count = 6; comparisons = 7; length = 8; numbers = 23 ∷ []; text = 32 ∷ 33 ∷ [] } ∷ []
+
+-- the results stand by calls: refusal, count, comparisons, length; numbers and text end to end; the places after them are as they were
+pub each-place : (over (resultsOf two) (replicate 9 77) ≡ 1 ∷ 2 ∷ 3 ∷ 4 ∷ 5 ∷ 6 ∷ 7 ∷ 8 ∷ 77 ∷ [])
+    × ((over (numbersOf two) (replicate 4 77) ≡ 21 ∷ 22 ∷ 23 ∷ 77 ∷ [])
+    × (over (textsOf two) (replicate 4 77) ≡ 31 ∷ 32 ∷ 33 ∷ 77 ∷ []))
+unfolding resultsOf numbersOf textsOf
+each-place = (refl, (refl, refl))
