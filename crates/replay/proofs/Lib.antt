@@ -1,4 +1,5 @@
 pub mod Laid
 pub mod Runs
+pub mod Claims
 pub mod Tied
 pub mod Cases

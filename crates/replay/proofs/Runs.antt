@@ -53,7 +53,7 @@ module _ (codes days numbers text : List ℕ) (k : ℕ) where
   decode-stop zero e = refl
   decode-stop (suc n) e = simp e
 
-  decode-go : (n : ℕ) (c : Code) (q : Call) → c ≡ codeAt codes k → nextOf c (length days) (length numbers) (length text) ≡ Go q
+  pub decode-go : (n : ℕ) (c : Code) (q : Call) → c ≡ codeAt codes k → nextOf c (length days) (length numbers) (length text) ≡ Go q
       → decodeFrom codes (suc n) k days numbers text
       ≡ record { call = q; days = take (c .days) days; numbers = take (c .numbers) numbers; text = take (c .text) text }
       ∷ decodeFrom codes n (suc k) (drop (c .days) days) (drop (c .numbers) numbers) (drop (c .text) text)

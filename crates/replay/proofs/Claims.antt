@@ -1,0 +1,216 @@
+-- Every list of calls has words, so that the contract of `run` speaks of every list. Assumes nothing.
+use mathlib.Core.Path.{_≡_, refl, sym, ap, _∙_, fun-ext}
+use Prim.Native.Nat.{ℕ, suc, _+_, _*_, _/_, _≤_, _<_, min}
+use mathlib.Core.Bool.{Bool}
+use mathlib.Core.List.{List, [], _∷_, _++_, append-assoc}
+use native.Mathlib.Nat.{zero-add, mod-eq-of-lt}
+use native.Mathlib.Omega.{arith}
+use borrow.Author.Tests.{le-leb}
+use lib.Ieee.{binary32}
+use lib.Ieee.Bits.{ofBits-toBits, toBits-lt}
+use lib.ListN.{length, getD, length-append}
+use lib.Seq.{getD-append-add, take-at, drop-at}
+use Rattle.spell.specs.declared.Urgency.{Urgency}
+use Rattle.spell.specs.declared.Urgency.the-variants.{Grade, Reading}
+use Rattle.spell.specs.declared.Spell.{Spell}
+use Rattle.packing.specs.Words.{kindOf, valueOf, Narrow}
+use Rattle.packing.specs.Blocks.{written, Every}
+use Rattle.model.specs.declared.Call.{Call}
+use Rattle.model.specs.declared.Call.the-variants.{Enter, Amend, Strike, TakeBack, Publish, Write, Ask}
+use Rattle.model.specs.declared.Question.the-variants.{Day, Span, Cover, Days}
+use Rattle.model.specs.Model.{Request, run}
+use Rattle.replay.specs.declared.Code.{Code}
+use Rattle.replay.specs.declared.Next.the-variants.{Go}
+use Rattle.replay.specs.declared.Ran.{Ran}
+use Rattle.replay.specs.Coded.{low16, urgencyOf, word, codeAt, spellOf, callOf, nextOf, decodeFrom, wholeOf, Holds, beginning, Replayed}
+use Rattle.replay.specs.Coding.{fieldsOf, Fits, Codable, Coding}
+use Rattle.replay.proofs.Runs.{decode-go}
+
+-- ---- The ten words of a call
+
+abbrev opOf : Call → ℕ
+opOf (Enter s) = 1
+opOf (Amend s) = 2
+opOf (Strike k) = 3
+opOf TakeBack = 4
+opOf Publish = 5
+opOf Write = 6
+opOf (Ask (Day d)) = 7
+opOf (Ask (Span a b)) = 8
+opOf (Ask (Cover k)) = 9
+opOf (Ask Days) = 10
+
+abbrev wordsOf : ℕ → Spell → ℕ → ℕ → ℕ → List ℕ
+wordsOf op s d n t = op ∷ s .number ∷ s .candidate ∷ s .first ∷ s .last ∷ kindOf (s .urgency) ∷ valueOf (s .urgency) ∷ d ∷ n ∷ t ∷ []
+
+abbrev requestWords : Request → List ℕ
+requestWords q = wordsOf (opOf (q .call)) (fieldsOf (q .call)) (length (q .days)) (length (q .numbers)) (length (q .text))
+
+-- ---- They read back as the call
+
+value-narrow : (u : Urgency) → Narrow u → valueOf u < 4294967296
+value-narrow (Grade g) h = omega arith
+value-narrow (Reading x) h = toBits-lt binary32 x h
+
+urgency-back : (u : Urgency) → Narrow u → urgencyOf (kindOf u) (valueOf u) ≡ u
+urgency-back (Grade g) h = ap Grade (mod-eq-of-lt (omega arith))
+urgency-back (Reading x) h = rw (mod-eq-of-lt (value-narrow (Reading x) h)) (ap Reading (ofBits-toBits binary32 x h))
+
+-- the code of these words, whatever stands after them
+abbrev codeOf : Call → ℕ → ℕ → ℕ → List ℕ → Code
+codeOf c d n t rest = codeAt (wordsOf (opOf c) (fieldsOf c) d n t ++ rest) 0
+
+spell-back : (s : Spell) → Fits s
+    → record { number = low16 (s .number); candidate = low16 (s .candidate); first = low16 (s .first); last = low16 (s .last); urgency = urgencyOf (kindOf (s .urgency)) (valueOf (s .urgency)) } ≡ s
+spell-back s f = rw (mod-eq-of-lt (f .number), mod-eq-of-lt (f .candidate), mod-eq-of-lt (f .first), mod-eq-of-lt (f .last), urgency-back (s .urgency) (f .urgency))
+
+call-back : (c : Call) (d n t : ℕ) (rest : List ℕ) → Fits (fieldsOf c) → callOf (codeOf c d n t rest) ≡ Go c
+unfolding codeAt callOf
+call-back (Enter s) d n t rest f = ap (λ (x : Spell). Go (Enter x)) (spell-back s f)
+call-back (Amend s) d n t rest f = ap (λ (x : Spell). Go (Amend x)) (spell-back s f)
+call-back (Strike k) d n t rest f = ap (λ (x : ℕ). Go (Strike x)) (mod-eq-of-lt (f .number))
+call-back TakeBack d n t rest f = refl
+call-back Publish d n t rest f = refl
+call-back Write d n t rest f = refl
+call-back (Ask (Day e)) d n t rest f = ap (λ (x : ℕ). Go (Ask (Day x))) (mod-eq-of-lt (f .first))
+call-back (Ask (Span a b)) d n t rest f =
+    ap (λ (x : ℕ). Go (Ask (Span x (low16 b)))) (mod-eq-of-lt (f .first)) ∙ ap (λ (x : ℕ). Go (Ask (Span a x))) (mod-eq-of-lt (f .last))
+call-back (Ask (Cover k)) d n t rest f = ap (λ (x : ℕ). Go (Ask (Cover x))) (mod-eq-of-lt (f .number))
+call-back (Ask Days) d n t rest f = refl
+
+-- and with room for its lists the call is made
+next-back : (q : Request) (rest : List ℕ) (d n t : ℕ) → Fits (fieldsOf (q .call))
+    → length (q .days) ≤ d → length (q .numbers) ≤ n → length (q .text) ≤ t
+    → nextOf (codeAt (requestWords q ++ rest) 0) d n t ≡ Go (q .call)
+unfolding codeAt nextOf
+next-back q rest d n t f hd hn ht =
+    rw (le-leb (length (q .days)) d hd, le-leb (length (q .numbers)) n hn, le-leb (length (q .text)) t ht)
+    (call-back (q .call) (length (q .days)) (length (q .numbers)) (length (q .text)) rest f)
+
+-- ---- A code after others
+
+word-at : (pre r : List ℕ) (k j : ℕ) → length pre ≡ 10 * k → word (pre ++ r) k j ≡ word r 0 j
+word-at pre r k j e =
+    ap (λ (n : ℕ). getD (pre ++ r) (n + j) 0) (sym e) ∙ getD-append-add pre r j 0 ∙ ap (λ (n : ℕ). getD r n 0) (sym (zero-add j))
+
+-- a code is made of its words
+abbrev codeFrom : (ℕ → ℕ) → Code
+codeFrom w = record {
+  op = w 0;
+  number = low16 (w 1);
+  candidate = low16 (w 2);
+  first = low16 (w 3);
+  last = low16 (w 4);
+  kind = w 5;
+  value = w 6;
+  days = w 7;
+  numbers = w 8;
+  text = w 9;
+}
+
+code-at : (pre r : List ℕ) (k : ℕ) → length pre ≡ 10 * k → codeAt (pre ++ r) k ≡ codeAt r 0
+unfolding codeAt
+code-at pre r k e =
+    let words : ℕ → ℕ = λ j. word (pre ++ r) k j in
+    let words′ : ℕ → ℕ = λ j. word r 0 j in
+    let same : words ≡ words′ = fun-ext (λ j. word-at pre r k j e) in
+    ap codeFrom same
+
+-- ---- A list of calls
+
+abbrev daysOf : List Request → List ℕ
+daysOf qs = written (λ (q : Request). q .days) qs
+
+abbrev numbersOf : List Request → List ℕ
+numbersOf qs = written (λ (q : Request). q .numbers) qs
+
+abbrev textOf : List Request → List ℕ
+textOf qs = written (λ (q : Request). q .text) qs
+
+abbrev codesOf : List Request → List ℕ
+codesOf qs = written requestWords qs
+
+-- after the codes of k calls, those of qs are qs
+from : (qs : List Request) (pre : List ℕ) (k : ℕ) → length pre ≡ 10 * k → Every Codable qs
+    → decodeFrom (pre ++ codesOf qs) (length qs) k (daysOf qs) (numbersOf qs) (textOf qs) ≡ qs
+unfolding written Every decodeFrom codeAt
+from [] pre k e f = refl
+from (q ∷ qs) pre k e f =
+    let r : List ℕ = codesOf qs in
+    let w : List ℕ = requestWords q in
+    let next : decodeFrom (pre ++ (w ++ r)) (length qs) (suc k) (daysOf qs) (numbersOf qs) (textOf qs) ≡ qs =
+    rw append-assoc at (from qs (pre ++ w) (suc k) (omega (arith, length-append pre w)) (f .1)) in
+    decode-go (pre ++ (w ++ r)) (q .days ++ daysOf qs) (q .numbers ++ numbersOf qs) (q .text ++ textOf qs) k (length qs) (codeAt (w ++ r) 0) (q .call)
+    (sym (code-at pre (w ++ r) k e))
+    (next-back q r _ _ _ (f .0 .call) (omega (arith, length-append (q .days) (daysOf qs))) (omega (arith, length-append (q .numbers) (numbersOf qs))) (omega (arith, length-append (q .text) (textOf qs))))
+    ∙ rw (
+      take-at (q .days) (daysOf qs) (length (q .days)) refl,
+      take-at (q .numbers) (numbersOf qs) (length (q .numbers)) refl,
+      take-at (q .text) (textOf qs) (length (q .text)) refl,
+      drop-at (q .days) (daysOf qs) (length (q .days)) refl,
+      drop-at (q .numbers) (numbersOf qs) (length (q .numbers)) refl,
+      drop-at (q .text) (textOf qs) (length (q .text)) refl,
+      next,
+    )
+
+codes-long : (qs : List Request) → length (codesOf qs) ≡ 10 * length qs
+unfolding written
+codes-long [] = refl
+codes-long (q ∷ qs) = omega (arith, codes-long qs)
+
+op-few : (c : Call) → opOf c ≤ 10
+op-few (Enter s) = omega arith
+op-few (Amend s) = omega arith
+op-few (Strike k) = omega arith
+op-few TakeBack = omega arith
+op-few Publish = omega arith
+op-few Write = omega arith
+op-few (Ask (Day d)) = omega arith
+op-few (Ask (Span a b)) = omega arith
+op-few (Ask (Cover k)) = omega arith
+op-few (Ask Days) = omega arith
+
+kind-few : (u : Urgency) → kindOf u ≤ 1
+kind-few (Grade g) = omega arith
+kind-few (Reading x) = omega arith
+
+words-narrow : (qs : List Request) → Every Codable qs → Every (λ (w : ℕ). w < 18446744073709551616) (codesOf qs)
+unfolding written Every
+words-narrow [] f = tt
+words-narrow (q ∷ qs) f =
+    let h = f .0 .call in
+    let u = fieldsOf (q .call) .urgency in (
+      omega (arith, op-few (q .call)),
+      (
+        omega (arith, h .number),
+        (
+          omega (arith, h .candidate),
+          (
+            omega (arith, h .first),
+            (
+              omega (arith, h .last),
+              (omega (arith, kind-few u), (omega (arith, value-narrow u (h .urgency)), (f .0 .days, (f .0 .numbers, (f .0 .text, words-narrow qs (f .1)))))),
+            ),
+          ),
+        ),
+      ),
+    )
+
+-- ---- The claims
+
+-- EVERY LIST OF CALLS HAS A CODING
+pub every-coded : (qs : List Request) → Every Codable qs → Coding qs
+every-coded qs f = record {
+  codes = codesOf qs;
+  narrow = words-narrow qs f;
+  decodes = λ results room.
+      let z : wholeOf (codesOf qs) results ≡ length qs = omega (arith, codes-long qs) in
+      rw z (from qs [] 0 refl f);
+}
+
+-- so THE CLAIM is one about every list: run on its coding, its answers are those of the account's own run of it
+pub every-run : {qs : List Request} (k : Coding qs) (new : Bool) (register results results′ numbers′ text′ : List ℕ) (r : Ran)
+    → 4 * length qs ≤ length results
+    → Replayed new register (k .codes) (daysOf qs) results (numbersOf qs) (textOf qs) r results′ numbers′ text′
+    → Holds (run (beginning new register) qs) results (numbersOf qs) (textOf qs) (r .made) results′ numbers′ text′
+every-run k new register results results′ numbers′ text′ r room h = rw (k .decodes results room) at (h .calls)
