@@ -41,8 +41,8 @@ pub struct Started {
 
 // ---- The beginning
 
-// The index of an empty list.
-fn no_rows(index: &mut [u16; INDEX])
+// The index of nobody: nothing is published in it.
+pub fn fresh_index(index: &mut [u16; INDEX])
     ensures { λ _. ⌜ now (index .exit) ≡ indexOf [] ⌝ }
 {
     let none = [0u16; 1024];
@@ -53,7 +53,7 @@ fn no_rows(index: &mut [u16; INDEX])
 pub fn fresh(index: &mut [u16; INDEX]) -> Service
     ensures { λ r. ⌜ Represents r (now (index .exit)) fresh ⌝ }
 {
-    no_rows(index);
+    fresh_index(index);
     standing::fresh()
 }
 
@@ -61,7 +61,7 @@ pub fn fresh(index: &mut [u16; INDEX]) -> Service
 pub fn read(text: &[u8], index: &mut [u16; INDEX]) -> Started
     ensures { λ r. ⌜ Begins (readText (now (text .entry))) r (now (index .exit)) ⌝ }
 {
-    no_rows(index);
+    fresh_index(index);
     let loaded = standing::read(text);
     let service = loaded.standing;
     Started {
