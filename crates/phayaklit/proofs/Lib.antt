@@ -1,3 +1,4 @@
 pub mod Host
 pub mod Claims
+pub mod Second
 pub mod Tied

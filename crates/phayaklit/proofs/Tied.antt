@@ -2,18 +2,18 @@
 -- Assumes nothing.
 use mathlib.Core.Path.{_≡_, refl}
 use Prim.Native.Nat.{ℕ}
-use mathlib.Core.List.{List}
+use mathlib.Core.List.{List, []}
 use contract.Lifetimes.{Lfts}
 use denote.Ref.{RefT, now}
 use Rattle.register.specs.Text.{readText}
 use Rattle.model.specs.declared.Call.the-variants.{Enter, Amend, Strike, TakeBack, Publish, Write, Ask}
 use Rattle.model.specs.declared.Question.the-variants.{Day, Span, Cover, Days}
 use Rattle.model.specs.Model.{fresh, begun}
-use Rattle.service.specs.Service.{asking, Published, Begins}
+use Rattle.service.specs.Service.{asking, indexOf, Published, Begins}
 use Rattle.phayaklit.specs.declared.Entry.{Entry}
 use Rattle.phayaklit.specs.declared.Reply.{Reply}
 use Rattle.phayaklit.specs.declared.Opened.{Opened}
-use Rattle.phayaklit.specs.Host.{Held, Laid, spellIn, startedOf}
+use Rattle.phayaklit.specs.Host.{version, Held, Laid, spellIn, startedOf}
 use Rattle.phayaklit.specs.History.{Opens, Called, edited, published, wrote, asked}
 use Rattle.phayaklit.proofs.phayaklit_fresh.Reads as fresh-reads
 use Rattle.phayaklit.proofs.phayaklit_read.Reads as read-reads
@@ -27,6 +27,8 @@ use Rattle.phayaklit.proofs.phayaklit_day.Reads as day-reads
 use Rattle.phayaklit.proofs.phayaklit_span.Reads as span-reads
 use Rattle.phayaklit.proofs.phayaklit_cover.Reads as cover-reads
 use Rattle.phayaklit.proofs.phayaklit_days.Reads as days-reads
+use Rattle.phayaklit.proofs.phayaklit_fresh_index.Reads as fresh-index-reads
+use Rattle.phayaklit.proofs.phayaklit_version.Reads as version-reads
 
 -- ---- The beginning
 
@@ -136,3 +138,18 @@ module _ (κs : Lfts 2) (index numbers : RefT (List ℕ)) where
 
 pub days-asks : (κs : Lfts 3) (index days numbers : RefT (List ℕ)) → days-reads.Pre κs (index, (days, (numbers, tt))) ≡ Published (now index)
 days-asks κs index days numbers = refl
+
+-- ---- A second index, and the version
+
+pub fresh-index-is : (κs : Lfts 1) (index index′ : RefT (List ℕ)) (u : Unit {0})
+    → fresh-index-reads.Post κs (index, tt) u (index′, tt) ≡ (now index′ ≡ indexOf [])
+fresh-index-is κs index index′ u = refl
+
+pub fresh-index-asks : (κs : Lfts 1) (index : RefT (List ℕ)) → fresh-index-reads.Pre κs (index, tt) ≡ Unit {0}
+fresh-index-asks κs index = refl
+
+pub version-is : (κs : Lfts 0) (r : ℕ) → version-reads.Post κs tt r tt ≡ (r ≡ version)
+version-is κs r = refl
+
+pub version-asks : (κs : Lfts 0) → version-reads.Pre κs tt ≡ Unit {0}
+version-asks κs = refl

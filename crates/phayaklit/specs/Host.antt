@@ -13,6 +13,10 @@ use Rattle.phayaklit.specs.declared.Entry.{Entry}
 use Rattle.phayaklit.specs.declared.Reply.{Reply}
 use Rattle.phayaklit.specs.declared.Opened.{Opened}
 
+-- the version of the exported functions and of the two blocks
+abbrev pub version : ℕ
+version = 1
+
 -- the words of a service that the calls gave
 abbrev pub Held : List ℕ → Type 0
 Held words = Wf (unpacked words)

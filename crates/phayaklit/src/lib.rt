@@ -2,13 +2,13 @@
 // and one for the index. Nothing is allocated and nothing is global.
 ghost use mathlib.Core.Path.{_≡_};
 ghost use Prim.Native.Nat.{ℕ};
-ghost use mathlib.Core.List.{List};
+ghost use mathlib.Core.List.{List, []};
 ghost use Rattle.model.specs.Model.{fresh};
 ghost use Rattle.register.specs.Text.{readText};
 ghost use Rattle.standing.specs.Standing.{Wf};
 ghost use Rattle.standing.specs.Packed.{unpacked};
-ghost use Rattle.service.specs.Service.{Represents, Published, Changed, Publishes, Asked, Wrote, Begins};
-ghost use Rattle.phayaklit.specs.Host.{Held, Laid, spellIn, outcomeOf, steppedOf, startedOf};
+ghost use Rattle.service.specs.Service.{indexOf, Represents, Published, Changed, Publishes, Asked, Wrote, Begins};
+ghost use Rattle.phayaklit.specs.Host.{version, Held, Laid, spellIn, outcomeOf, steppedOf, startedOf};
 use model::Call;
 use model::Question;
 use service::Outcome;
@@ -82,7 +82,27 @@ fn put_back(r: Stepped, words: &mut [u16; SERVICE]) -> Reply
     answered(outcome)
 }
 
+// ---- The version
+
+// The version of these functions and of the two blocks, as the header and the module for Rust name it.
+const VERSION: u32 = 1;
+
+#[no_mangle]
+pub extern "C" fn phayaklit_version() -> u32
+    ensures { λ r. ⌜ r ≡ version ⌝ }
+{
+    VERSION
+}
+
 // ---- The beginning
+
+// The index of nobody by itself: a second index, in which a host publishes while the first one is asked.
+#[no_mangle]
+pub extern "C" fn phayaklit_fresh_index(index: &mut [u16; INDEX])
+    ensures { λ _. ⌜ now (index .exit) ≡ indexOf [] ⌝ }
+{
+    service::fresh_index(index);
+}
 
 // A fresh service: nothing stands, nothing is published, and there is no past.
 #[no_mangle]
