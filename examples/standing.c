@@ -10,7 +10,7 @@
 
 /* The memory of two services. */
 static uint16_t service[2][PHAYAKLIT_SERVICE_WORDS];
-static uint16_t index[2][PHAYAKLIT_INDEX_WORDS];
+static uint16_t published[2][PHAYAKLIT_INDEX_WORDS];
 static uint8_t text[PHAYAKLIT_WRITE_BYTES];
 
 static const phayaklit_entry REGISTER[] = {
@@ -19,23 +19,11 @@ static const phayaklit_entry REGISTER[] = {
     {15, 7, 7, 12, PHAYAKLIT_READING, 0}, {16, 5, 9, 9, PHAYAKLIT_GRADE, 3},
 };
 
-static const char *outcome(uint16_t refusal) {
-    switch (refusal) {
-    case PHAYAKLIT_ACCEPTED: return "accepted";
-    case PHAYAKLIT_BAD_URGENCY: return "bad urgency";
-    case PHAYAKLIT_DUPLICATE_NUMBER: return "taken";
-    case PHAYAKLIT_NO_HISTORY: return "no past";
-    case PHAYAKLIT_SHORT_BUFFER: return "short list";
-    case PHAYAKLIT_MALFORMED: return "malformed";
-    default: return "refused";
-    }
-}
-
-static void said(const char *call, phayaklit_reply reply) { printf("%s: %s\n", call, outcome(reply.refusal)); }
+static void said(const char *call, phayaklit_reply reply) { printf("%s: %s\n", call, phayaklit_refusal_word(reply.refusal)); }
 
 /* Prints an answer: the count, the looks, the numbers. */
 static void listed(const char *question, phayaklit_reply reply, const uint16_t *numbers) {
-    printf("%s: %s, %zu spells, %zu looks:", question, outcome(reply.refusal), reply.count, reply.comparisons);
+    printf("%s: %s, %zu spells, %zu looks:", question, phayaklit_refusal_word(reply.refusal), reply.count, reply.looks);
     for (size_t at = 0; at < reply.count; at++) {
         printf(" %" PRIu16, numbers[at]);
     }
@@ -45,29 +33,29 @@ static void listed(const char *question, phayaklit_reply reply, const uint16_t *
 static void enter_and_ask(void) {
     uint16_t numbers[PHAYAKLIT_SPELLS];
     const uint16_t days[] = {4, 11};
-    phayaklit_fresh(service[0], index[0]);
+    phayaklit_fresh(service[0], published[0]);
     for (size_t at = 0; at < sizeof REGISTER / sizeof *REGISTER; at++) {
         said("enter", phayaklit_enter(service[0], REGISTER[at]));
     }
     said("enter again", phayaklit_enter(service[0], REGISTER[0]));
     said("enter with grade 65537", phayaklit_enter(service[0], (phayaklit_entry){17, 1, 1, 1, PHAYAKLIT_GRADE, 65537}));
     said("enter with kind 2", phayaklit_enter(service[0], (phayaklit_entry){17, 1, 1, 1, 2, 1}));
-    listed("day 5, nothing published", phayaklit_day(index[0], 5, numbers, PHAYAKLIT_SPELLS), numbers);
-    said("publish", phayaklit_publish(service[0], index[0]));
-    listed("day 5", phayaklit_day(index[0], 5, numbers, PHAYAKLIT_SPELLS), numbers);
-    listed("day 5 into two places", phayaklit_day(index[0], 5, numbers, 2), numbers);
-    listed("span 9 to 10", phayaklit_span(index[0], 9, 10, numbers, PHAYAKLIT_SPELLS), numbers);
-    listed("cover of 14", phayaklit_cover(index[0], 14, numbers, PHAYAKLIT_SPELLS), numbers);
-    listed("days 4 and 11", phayaklit_days(index[0], days, 2, numbers, PHAYAKLIT_SPELLS), numbers);
+    listed("day 5, nothing published", phayaklit_day(published[0], 5, numbers, PHAYAKLIT_SPELLS), numbers);
+    said("publish", phayaklit_publish(service[0], published[0]));
+    listed("day 5", phayaklit_day(published[0], 5, numbers, PHAYAKLIT_SPELLS), numbers);
+    listed("day 5 into two places", phayaklit_day(published[0], 5, numbers, 2), numbers);
+    listed("span 9 to 10", phayaklit_span(published[0], 9, 10, numbers, PHAYAKLIT_SPELLS), numbers);
+    listed("cover of 14", phayaklit_cover(published[0], 14, numbers, PHAYAKLIT_SPELLS), numbers);
+    listed("days 4 and 11", phayaklit_days(published[0], days, 2, numbers, PHAYAKLIT_SPELLS), numbers);
 }
 
 static void write_and_read_back(void) {
     phayaklit_reply written = phayaklit_write(service[0], text, sizeof text);
-    printf("write: %s, %zu bytes\n%.*s", outcome(written.refusal), written.length, (int)written.length, text);
-    phayaklit_opened opened = phayaklit_read(text, written.length - 1, service[1], index[1]);
-    printf("read without the last byte: %s, line %u\n", outcome(opened.refusal), opened.line);
-    opened = phayaklit_read(text, written.length, service[1], index[1]);
-    printf("read back: %s, line %u\n", outcome(opened.refusal), opened.line);
+    printf("write: %s, %zu bytes\n%.*s", phayaklit_refusal_word(written.refusal), written.length, (int)written.length, text);
+    phayaklit_opened opened = phayaklit_read(text, written.length - 1, service[1], published[1]);
+    printf("read without the last byte: %s, line %u\n", phayaklit_refusal_word(opened.refusal), opened.line);
+    opened = phayaklit_read(text, written.length, service[1], published[1]);
+    printf("read back: %s, line %u\n", phayaklit_refusal_word(opened.refusal), opened.line);
 }
 
 static void side_by_side(void) {
@@ -75,9 +63,9 @@ static void side_by_side(void) {
     said("second: take back", phayaklit_take_back(service[1]));
     said("second: strike 13", phayaklit_strike(service[1], 13));
     said("second: amend 14", phayaklit_amend(service[1], (phayaklit_entry){14, 9, 2, 6, PHAYAKLIT_GRADE, 4}));
-    said("second: publish", phayaklit_publish(service[1], index[1]));
-    listed("first: day 5", phayaklit_day(index[0], 5, numbers, PHAYAKLIT_SPELLS), numbers);
-    listed("second: day 5", phayaklit_day(index[1], 5, numbers, PHAYAKLIT_SPELLS), numbers);
+    said("second: publish", phayaklit_publish(service[1], published[1]));
+    listed("first: day 5", phayaklit_day(published[0], 5, numbers, PHAYAKLIT_SPELLS), numbers);
+    listed("second: day 5", phayaklit_day(published[1], 5, numbers, PHAYAKLIT_SPELLS), numbers);
     said("second: take back", phayaklit_take_back(service[1]));
     said("second: take back", phayaklit_take_back(service[1]));
     said("second: take back", phayaklit_take_back(service[1]));
@@ -87,7 +75,7 @@ static void side_by_side(void) {
 static void *ask_all(void *total) {
     uint16_t numbers[PHAYAKLIT_SPELLS];
     for (uint16_t day = 1; day <= PHAYAKLIT_LAST_DAY; day++) {
-        *(size_t *)total += phayaklit_day(index[0], day, numbers, PHAYAKLIT_SPELLS).count;
+        *(size_t *)total += phayaklit_day(published[0], day, numbers, PHAYAKLIT_SPELLS).count;
     }
     return NULL;
 }

@@ -37,19 +37,8 @@ fn register() -> [Spell; 6] {
     ]
 }
 
-fn word(refusal: Refusal) -> &'static str {
-    match refusal {
-        Refusal::BAD_URGENCY => "bad urgency",
-        Refusal::DUPLICATE_NUMBER => "taken",
-        Refusal::NO_HISTORY => "no past",
-        Refusal::SHORT_BUFFER => "short list",
-        Refusal::MALFORMED => "malformed",
-        _ => "refused",
-    }
-}
-
 fn outcome<T>(result: &Result<T, Refusal>) -> &'static str {
-    result.as_ref().map_or_else(|refusal| word(*refusal), |_| "accepted")
+    result.as_ref().map_or_else(|refusal| refusal.word(), |_| "accepted")
 }
 
 fn said(call: &str, result: Result<(), Refusal>) {

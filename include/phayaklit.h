@@ -1,35 +1,65 @@
 /*
  * The standing list of spells, for programs in C and C++ on x86-64 Linux.
  *
- * Link libphayaklit.a, which `rt staticlib phayaklit` proves and writes to target/staticlib/. Every function comes back on
- * every argument, allocates nothing, keeps nothing of its own between calls and calls no other library than the C library's
- * memory functions.
+ * Link libphayaklit.a, which `bin/archive` proves and writes to target/staticlib/. Every function comes back on every argument,
+ * with blocks that the calls gave, and does nothing undefined. It allocates nothing, keeps nothing of its own between calls and
+ * calls no other library than the C library's memory functions.
  *
- * THE HOST LENDS THE MEMORY. A service is two blocks of 16-bit words:
+ * THE HOST LENDS THE MEMORY. A service is two blocks of 16-bit words: one for the standing list and its past, one, the index,
+ * for the published list with its tree. Any number of services live side by side, each with its own two blocks. The words may
+ * lie anywhere: in static memory, on the heap, in memory shared between processes, in a file that is mapped. They hold no
+ * pointers. A whole program (<strings.h> has a function `index`, so a block has better another name):
  *
- *     uint16_t service[PHAYAKLIT_SERVICE_WORDS];    the standing list and its past
- *     uint16_t index[PHAYAKLIT_INDEX_WORDS];        the published list with its tree
+ *     #include <stdio.h>
+ *     #include <string.h>
+ *     #include "phayaklit.h"
  *
- * Any number of services live side by side, each with its own two blocks. The words may lie anywhere: in static memory, on
- * the heap, in memory shared between processes, in a file that is mapped. They hold no pointers.
+ *     static uint16_t service[PHAYAKLIT_SERVICE_WORDS];
+ *     static uint16_t published[PHAYAKLIT_INDEX_WORDS];
+ *
+ *     int main(void) {
+ *         const char *text = "11\t7\t1\t10\tG\t2\n12\t8\t3\t4\tC\t3F800000\n";
+ *         uint16_t numbers[PHAYAKLIT_SPELLS];
+ *         phayaklit_opened opened = phayaklit_read((const uint8_t *)text, strlen(text), service, published);
+ *         if (opened.refusal != PHAYAKLIT_ACCEPTED) {
+ *             printf("line %u: %s\n", opened.line, phayaklit_refusal_word(opened.refusal));
+ *             return 1;
+ *         }
+ *         phayaklit_publish(service, published);
+ *         phayaklit_reply reply = phayaklit_day(published, 3, numbers, PHAYAKLIT_SPELLS);
+ *         printf("%zu stand on day 3, %zu looks:", reply.count, reply.looks);
+ *         for (size_t at = 0; at < reply.count; at++) {
+ *             printf(" %u", numbers[at]);
+ *         }
+ *         printf("\n");
+ *         return 0;
+ *     }
  *
  * WHAT THE HOST MUST KEEP. The proofs take this for granted, and nothing tests it:
  *
  * - A block has its full number of words and is aligned to 2 bytes.
- * - Both blocks begin by phayaklit_fresh or phayaklit_read, an index also by phayaklit_publish, and afterwards no other code
- *   writes them, not between calls and not during one. Words that were made up, or that come from another block, are no
- *   service and no index.
+ * - Both blocks begin by phayaklit_fresh or phayaklit_read, an index also by phayaklit_fresh_index or phayaklit_publish, and
+ *   afterwards no other code writes them, not between calls and not during one. A copy of a whole block that no call was writing
+ *   meanwhile is as good as the block.
  * - Two calls may run at a time, in threads or processes, if neither of them writes a block that the other one uses. So any
  *   number of questions may be put to one index at a time, with edits of the service meanwhile; but nobody publishes, reads a
- *   register or starts anew into that index meanwhile. Which calls write which block is said at each: a block that a call
- *   takes as `const` is only read.
+ *   register or starts anew into that index meanwhile. A host that publishes while others ask has two indexes, publishes into
+ *   the one that nobody asks, and then has it asked (examples/swap.c). Which calls write which block is said at each: a block
+ *   that a call takes as `const` is only read.
  * - A list is a pointer and its number of places, which are all there. The pointer is not null, for a list of no places
  *   too, and is aligned to 2 bytes where the places are words.
  * - The blocks and lists of one call do not overlap, except that two that are only read may.
  * - A call has PHAYAKLIT_STACK_BYTES of stack.
  *
+ * WHERE IT IS NOT KEPT nothing is promised. A block may be made up, torn (written during a call, or copied or saved in the
+ * middle of one), damaged, or of another version of this library. With such a block a call may not come back. It may read or
+ * write memory outside its blocks and lists, and so end the program with a fault. It may come back with a wrong list, and leave
+ * a block that is none. No call finds out that a block is one of these. So what comes from outside, from a file or from a
+ * program that is not trusted, is taken as a register text, by phayaklit_read, which may be lent any bytes.
+ *
  * REFUSALS. A call that is refused changes nothing: both blocks and every place of every list stay as they were. Only a
- * refused reading writes the blocks, and makes a fresh service. Its answer has the refusal's number and 0 everywhere else.
+ * refused reading writes the blocks, and makes a fresh service. Its answer has the refusal's number and 0 everywhere else; a
+ * reading's has the line too.
  */
 #ifndef PHAYAKLIT_H
 #define PHAYAKLIT_H
@@ -40,6 +70,10 @@
 #ifdef __cplusplus
 extern "C" {
 #endif
+
+/* The version of these functions and of what the blocks hold; phayaklit_version returns that of the archive. Blocks that one
+ * version wrote are no blocks of another one. */
+#define PHAYAKLIT_VERSION 1
 
 /* The sizes of the two blocks, in words of 16 bits. */
 #define PHAYAKLIT_SERVICE_WORDS 7746
@@ -95,7 +129,7 @@ typedef struct phayaklit_entry {
 typedef struct phayaklit_reply {
     uint16_t refusal;
     size_t count;
-    size_t comparisons;
+    size_t looks;
     size_t length;
 } phayaklit_reply;
 
@@ -105,7 +139,31 @@ typedef struct phayaklit_opened {
     uint16_t line;
 } phayaklit_opened;
 
-/* ---- The beginning. Both blocks may hold anything beforehand. */
+/* A refusal's trade word; "accepted" for 0, and "unknown refusal" for a number that no call returns. */
+static inline const char *phayaklit_refusal_word(uint16_t refusal) {
+    switch (refusal) {
+    case PHAYAKLIT_ACCEPTED: return "accepted";
+    case PHAYAKLIT_NO_NUMBER: return "no spell";
+    case PHAYAKLIT_NO_CANDIDATE: return "no candidate";
+    case PHAYAKLIT_OFF_CALENDAR: return "off calendar";
+    case PHAYAKLIT_REVERSED: return "backwards";
+    case PHAYAKLIT_BAD_URGENCY: return "bad urgency";
+    case PHAYAKLIT_DUPLICATE_NUMBER: return "taken";
+    case PHAYAKLIT_UNKNOWN_NUMBER: return "unknown";
+    case PHAYAKLIT_FULL: return "full";
+    case PHAYAKLIT_NO_HISTORY: return "no past";
+    case PHAYAKLIT_UNSORTED_DAYS: return "days unsorted";
+    case PHAYAKLIT_SHORT_BUFFER: return "short list";
+    case PHAYAKLIT_MALFORMED: return "malformed";
+    case PHAYAKLIT_OUT_OF_ORDER: return "misplaced";
+    default: return "unknown refusal";
+    }
+}
+
+/* The version of the archive, to compare with PHAYAKLIT_VERSION. */
+uint32_t phayaklit_version(void);
+
+/* ---- The beginning. The blocks may hold anything beforehand. */
 
 /* Makes a fresh service: nothing stands, nothing is published, and there is no past. Writes both blocks. */
 void phayaklit_fresh(uint16_t *service, uint16_t *index);
@@ -113,6 +171,9 @@ void phayaklit_fresh(uint16_t *service, uint16_t *index);
 /* Makes the service of a register text: its spells stand, nothing is published, and there is no past. A refused text makes a
  * fresh service. Writes both blocks. Refusals: 12, 1 to 5, 6, 13, 8. */
 phayaklit_opened phayaklit_read(const uint8_t *text, size_t text_length, uint16_t *service, uint16_t *index);
+
+/* Makes an index of nobody by itself, a second one to publish into. Writes the index. */
+void phayaklit_fresh_index(uint16_t *index);
 
 /* ---- Edits. They write the service. An accepted edit puts the former standing list to the front of the past. */
 

@@ -1,11 +1,19 @@
 //! The standing list of spells for hosts in Rust, over the proved archive libphayaklit.a.
 //!
-//! A host takes this file as a module, and links the archive by `-L` with its folder. The memory is the host's: two
-//! blocks of 16-bit words, lent for as long as the service lives. Nothing is allocated and nothing is global.
+//! A host takes this file as a module, in edition 2021 or 2024 of Rust 1.82 or newer, and links the archive by `-L` with
+//! its folder. The memory is the host's: two blocks of 16-bit words, lent for as long as the service lives. Nothing is
+//! allocated and nothing is global.
 //!
 //! What phayaklit.h asks of a host is kept here by types: a block of the wrong length is refused, a `Service` or `Index`
-//! is there only after `fresh` or `read`, nobody else can write its block, and while threads ask a `Published` nobody
-//! can publish. Left to the host is the stack: `STACK_BYTES` for a call.
+//! is there only after `fresh`, `read` or `fresh_index`, nobody else can write its block, and while threads ask a
+//! `Published` nobody can publish into it. Left to the host are the stack, `STACK_BYTES` for a call, and what
+//! `Published::shared` asks. What can go wrong comes as an `Error` with the refusal's trade word.
+
+use core::error::Error;
+use core::fmt::{self, Display, Formatter};
+
+/// The version of the functions and of what the blocks hold, as this module knows them; `version` is the archive's.
+pub const VERSION: u32 = 1;
 
 /// The sizes of the two blocks, in words.
 pub const SERVICE_WORDS: usize = 7746;
@@ -55,7 +63,35 @@ impl Refusal {
     pub fn number(self) -> u16 {
         self.0
     }
+
+    /// The trade word.
+    pub fn word(self) -> &'static str {
+        match self {
+            Refusal::NO_NUMBER => "no spell",
+            Refusal::NO_CANDIDATE => "no candidate",
+            Refusal::OFF_CALENDAR => "off calendar",
+            Refusal::REVERSED => "backwards",
+            Refusal::BAD_URGENCY => "bad urgency",
+            Refusal::DUPLICATE_NUMBER => "taken",
+            Refusal::UNKNOWN_NUMBER => "unknown",
+            Refusal::FULL => "full",
+            Refusal::NO_HISTORY => "no past",
+            Refusal::UNSORTED_DAYS => "days unsorted",
+            Refusal::SHORT_BUFFER => "short list",
+            Refusal::MALFORMED => "malformed",
+            Refusal::OUT_OF_ORDER => "misplaced",
+            Refusal(_) => "unknown refusal",
+        }
+    }
 }
+
+impl Display for Refusal {
+    fn fmt(&self, out: &mut Formatter<'_>) -> fmt::Result {
+        write!(out, "{} (refusal {})", self.word(), self.0)
+    }
+}
+
+impl Error for Refusal {}
 
 /// The refusal of a number, where it is not 0.
 fn accepted(number: u16) -> Result<(), Refusal> {
@@ -96,12 +132,28 @@ pub struct Misread {
     pub line: u16,
 }
 
+impl Display for Misread {
+    fn fmt(&self, out: &mut Formatter<'_>) -> fmt::Result {
+        write!(out, "line {}: {}", self.line, self.refusal)
+    }
+}
+
+impl Error for Misread {}
+
 /// A block that has not the number of words that it must have.
 #[derive(Clone, Copy, PartialEq, Eq, Debug)]
 pub struct WrongLength {
     pub needed: usize,
     pub lent: usize,
 }
+
+impl Display for WrongLength {
+    fn fmt(&self, out: &mut Formatter<'_>) -> fmt::Result {
+        write!(out, "a block of {} words is lent where {} are needed", self.lent, self.needed)
+    }
+}
+
+impl Error for WrongLength {}
 
 fn wrong_length(needed: usize, lent: usize) -> WrongLength {
     WrongLength { needed, lent }
@@ -119,12 +171,19 @@ pub struct Index<'a>(&'a mut [u16; INDEX_WORDS]);
 #[derive(Clone, Copy, Debug)]
 pub struct Published<'a>(&'a [u16; INDEX_WORDS]);
 
-/// The two blocks as arrays, with the words that they happen to hold.
+/// The version of the archive, to compare with `VERSION`.
+pub fn version() -> u32 {
+    unsafe { ffi::phayaklit_version() }
+}
+
+/// A block as an array, with the words that it happens to hold.
+fn block<const N: usize>(words: &mut [u16]) -> Result<&mut [u16; N], WrongLength> {
+    let lent = words.len();
+    words.try_into().map_err(|_| wrong_length(N, lent))
+}
+
 fn blocks<'a>(service: &'a mut [u16], index: &'a mut [u16]) -> Result<(Service<'a>, Index<'a>), WrongLength> {
-    let (words, entries) = (service.len(), index.len());
-    let service = service.try_into().map_err(|_| wrong_length(SERVICE_WORDS, words))?;
-    let index = index.try_into().map_err(|_| wrong_length(INDEX_WORDS, entries))?;
-    Ok((Service(service), Index(index)))
+    Ok((Service(block(service)?), Index(block(index)?)))
 }
 
 /// A fresh service: nothing stands, nothing is published, and there is no past.
@@ -132,6 +191,13 @@ pub fn fresh<'a>(service: &'a mut [u16], index: &'a mut [u16]) -> Result<(Servic
     let (service, index) = blocks(service, index)?;
     unsafe { ffi::phayaklit_fresh(service.0.as_mut_ptr(), index.0.as_mut_ptr()) };
     Ok((service, index))
+}
+
+/// The index of nobody by itself: a second index, to publish into while the first one is asked.
+pub fn fresh_index(index: &mut [u16]) -> Result<Index<'_>, WrongLength> {
+    let index = block(index)?;
+    unsafe { ffi::phayaklit_fresh_index(index.as_mut_ptr()) };
+    Ok(Index(index))
 }
 
 /// What reading a register gives: a service with those spells standing, or why the text was refused and a fresh service.
@@ -212,7 +278,7 @@ impl<'a> Published<'a> {
     ///
     /// # Safety
     ///
-    /// The words are as `fresh`, `read` or `publish` left them, and nobody writes them during `'a`.
+    /// The words are as `fresh`, `fresh_index`, `read` or `publish` left them, and nobody writes them during `'a`.
     pub unsafe fn shared(index: &'a [u16]) -> Result<Published<'a>, WrongLength> {
         index.try_into().map(Published).map_err(|_| wrong_length(INDEX_WORDS, index.len()))
     }
@@ -240,7 +306,7 @@ impl<'a> Published<'a> {
 }
 
 fn listed(reply: ffi::Reply) -> Result<Listed, Refusal> {
-    accepted(reply.refusal).map(|()| Listed { count: reply.count, looks: reply.comparisons })
+    accepted(reply.refusal).map(|()| Listed { count: reply.count, looks: reply.looks })
 }
 
 impl From<Spell> for ffi::Entry {
@@ -254,8 +320,10 @@ impl From<Spell> for ffi::Entry {
     }
 }
 
-/// The functions of the archive, as phayaklit.h declares them.
+/// The functions of the archive, as phayaklit.h declares them, and the layout of what they take and return.
 mod ffi {
+    use core::mem::{offset_of, size_of};
+
     #[repr(C)]
     pub struct Entry {
         pub number: u16,
@@ -270,7 +338,7 @@ mod ffi {
     pub struct Reply {
         pub refusal: u16,
         pub count: usize,
-        pub comparisons: usize,
+        pub looks: usize,
         pub length: usize,
     }
 
@@ -280,9 +348,20 @@ mod ffi {
         pub line: u16,
     }
 
+    const _: () = {
+        assert!(offset_of!(Entry, number) == 0 && offset_of!(Entry, candidate) == 2 && offset_of!(Entry, first) == 4);
+        assert!(offset_of!(Entry, last) == 6 && offset_of!(Entry, kind) == 8 && offset_of!(Entry, value) == 12);
+        assert!(offset_of!(Reply, refusal) == 0 && offset_of!(Reply, count) == 8);
+        assert!(offset_of!(Reply, looks) == 16 && offset_of!(Reply, length) == 24);
+        assert!(offset_of!(Opened, refusal) == 0 && offset_of!(Opened, line) == 2);
+        assert!(size_of::<Entry>() == 16 && size_of::<Reply>() == 32 && size_of::<Opened>() == 4);
+    };
+
     #[link(name = "phayaklit", kind = "static")]
-    extern "C" {
+    unsafe extern "C" {
+        pub fn phayaklit_version() -> u32;
         pub fn phayaklit_fresh(service: *mut u16, index: *mut u16);
+        pub fn phayaklit_fresh_index(index: *mut u16);
         pub fn phayaklit_read(text: *const u8, length: usize, service: *mut u16, index: *mut u16) -> Opened;
         pub fn phayaklit_enter(service: *mut u16, entry: Entry) -> Reply;
         pub fn phayaklit_amend(service: *mut u16, entry: Entry) -> Reply;
