@@ -1,0 +1,45 @@
+#!/usr/bin/env bash
+# Runs the commands of README.md and docs/PROTOCOL.md that begin with bin/stand, bin/serve on a file, or printf, as they stand there,
+# and compares what they print; and the conversation of docs/PROTOCOL.md with the files of examples/. The commands run in a folder
+# of links, so that what they keep does not stay here.
+set -euo pipefail
+top=$(cd "$(dirname "$0")/.." && pwd)
+"$top/bin/build" stand
+"$top/bin/build" serve
+work=$(mktemp -d)
+trap 'rm -rf "$work"' EXIT
+ln -s "$top"/* "$work"
+cd "$work"
+
+fail() {
+    echo "readme.sh: $1" >&2
+    exit 1
+}
+
+# the commands that are tried, each with the file of what it prints
+commands() {
+    sed -n 's/^    \(bin\/stand <.*\|bin\/serve <.*\|printf .*\)$/\1/p' README.md docs/PROTOCOL.md | sort -u
+}
+
+tried=0
+while IFS= read -r command; do
+    bash -c "set -o pipefail; $command" >said || fail "$command: failed"
+    case $command in
+    'bin/stand < tests/stand/register-a.register') cat tests/stand/register-a.expected ;;
+    'bin/serve < examples/conversation.requests') cat examples/conversation.answers ;;
+    *'day\t130\n'*) printf 'ok\nok\nlisted\t1\t0\t31\n' ;;
+    *'publish\nday\t5\n'*) printf 'ok\nok\nlisted\t3\t2\t11\t14\t13\n' ;;
+    *'> kept.register') cmp kept.register tests/stand/register-a.register >&2 && : ;;
+    *) fail "$command: nothing says what it should print" ;;
+    esac | cmp - said || fail "$command: prints something else"
+    tried=$((tried + 1))
+done < <(commands)
+[ "$tried" -eq 5 ] || fail "$tried commands are tried, and not 5"
+
+# The conversation as the protocol shows it: its two blocks, one after the other.
+awk '/^```/ { inside = !inside; next } inside' docs/PROTOCOL.md | cmp - <(cat examples/conversation.requests examples/conversation.answers) \
+    || fail "the conversation of docs/PROTOCOL.md is not that of examples/"
+
+# What the README says of the kit is what the kit says.
+grep -qF "    $(rt version)" README.md || fail "README.md names another kit than $(rt version)"
+echo "readme.sh: ok, $tried commands"
