@@ -1,14 +1,17 @@
 -- The lines that the program `stand` prints, and where its buffer holds them (document 01, "The program `stand`"). Assumes
 -- nothing.
-use Prim.Native.Nat.{ℕ, _+_, _≤_}
+use Prim.Native.Nat.{ℕ, zero, suc, _+_, _-_, _≤_, _<_}
 use mathlib.Core.Path.{_≡_}
+use mathlib.Core.Bool.{Bool, true, cond}
 use mathlib.Core.List.{List, [], _∷_, _++_}
-use lib.ListN.{length, take}
+use lib.Dec.{leb}
+use lib.ListN.{length, take, drop}
 use Rattle.fields.specs.Fields.{numbersText}
 use Rattle.spell.specs.declared.Spell.{Spell}
 use Rattle.model.specs.Questions.{onDay, listed, comparisonsOf}
 use Rattle.model.specs.Model.{State}
 use Rattle.service.specs.Service.{Shows}
+use Rattle.report.specs.declared.Part.{Part}
 
 -- ---- The lines
 
@@ -20,6 +23,15 @@ lineOf d (n ∷ ns) comparisons = numbersText (d ∷ length (n ∷ ns) ∷ compa
 -- the line of day d over a published list
 abbrev pub dayLine : ℕ → List Spell → List ℕ
 dayLine d p = lineOf d (listed (onDay d) p) (comparisonsOf d d p)
+
+-- the lines of k days, from day d on
+unfoldable pub linesOf : ℕ → ℕ → List Spell → List ℕ
+linesOf zero d p = []
+linesOf (suc k) d p = dayLine d p ++ linesOf k (suc d) p
+
+-- all that `stand` prints of a published list: the lines of days 1 to 4,000
+abbrev pub textOf : List Spell → List ℕ
+textOf p = linesOf 4000 1 p
 
 -- the bytes of `refused`
 abbrev pub refusedWord : List ℕ
@@ -45,3 +57,53 @@ pub record DayEnds (ix : List ℕ) (d : ℕ) (entry : List ℕ) (r : ℕ) (exit 
 pub record RefusedEnds (number at : ℕ) (entry : List ℕ) (r : ℕ) (exit : List ℕ) : Type 0 where
   pub inside : r ≤ 8192
   pub line : Ends (refusedLine number at) entry r exit
+
+-- the text is copied to the places from `at` on, and the others keep what they held
+pub record Appends (text entry : List ℕ) (at r : ℕ) (exit : List ℕ) : Type 0 where
+  pub place : r ≡ at + length text
+  pub places : exit ≡ take at entry ++ (text ++ drop r entry)
+
+-- ---- The parts of the whole text. A part is whole lines in a list of 65,536 places; a line is put as long as 8,192 are left.
+
+-- how many of k days from day d on a part takes that has n bytes
+unfoldable pub taken : ℕ → ℕ → ℕ → List Spell → ℕ
+taken zero d n p = 0
+taken (suc k) d n p = cond (leb n 57344) (suc (taken k (suc d) (n + length (dayLine d p)) p)) 0
+
+-- how many days the part that begins on day d has, its lines, and the day to go on with
+abbrev pub partDays : ℕ → List Spell → ℕ
+partDays d p = taken (4001 - d) d 0 p
+
+abbrev pub partOf : ℕ → List Spell → List ℕ
+partOf d p = linesOf (partDays d p) d p
+
+abbrev pub nextOf : ℕ → List Spell → ℕ
+nextOf d p = d + partDays d p
+
+-- parts, one after another from day 1 on, make a text and have come to day d
+pub data Come (p : List Spell) : ℕ → List ℕ → Type 0 where
+  none : Come p 1 []
+  more : {d : ℕ} {text : List ℕ} → Come p d text → Come p (nextOf d p) (text ++ partOf d p)
+
+-- the day d that parts come to, and their text
+pub record Reached (p : List Spell) (d : ℕ) : Type 0 where
+  pub text : List ℕ
+  pub come : Come p d text
+
+-- parts are printed one after another from day 1 on, and the next begins on day `next`: one past the last day where all are printed
+pub record Printed (ix : List ℕ) (next : ℕ) (whole : Bool) : Type 0 where
+  pub reached : (m : State) → Shows ix m → Reached (m .published) next
+  pub all : whole ≡ true → next ≡ 4001
+
+-- a part stands in the first places, and the places after keep what they held
+pub record Stands (p : List Spell) (d : ℕ) (entry : List ℕ) (r : Part) (exit : List ℕ) : Type 0 where
+  pub bytes : r .bytes ≡ length (partOf d p)
+  pub next : r .next ≡ nextOf d p
+  pub places : exit ≡ partOf d p ++ drop (r .bytes) entry
+
+-- the part that begins on day d, over whatever published list the index shows
+pub record PartStands (ix : List ℕ) (d : ℕ) (entry : List ℕ) (r : Part) (exit : List ℕ) : Type 0 where
+  pub inside : r .bytes ≤ 65536
+  pub onward : d ≤ 4000 → d < r .next
+  pub within : d ≤ 4001 → r .next ≤ 4001
+  pub part : (m : State) → Shows ix m → Stands (m .published) d entry r exit
