@@ -13,6 +13,14 @@ Inv-loop fd text₀ n₀ text n = (length text ≡ length text₀) × (n ≤ len
 abbrev μ-loop : tie.MeasureT-loop
 μ-loop fd text₀ n₀ text n = length text - n
 
+-- what a read brings lies within the room that is left
+few : (c : tie.Else1 Inv-loop μ-loop) →
+    let l = c .before .before .before .before .before .before .before .before .before .loop in
+    c .before .before .got .given .0 .0 ≤ length (l .text) - l .n
+few c =
+    let within = rw (c .before .before .got .given .1) at (c .before .before .before .before .before .before .await-some .ensures) in
+    search needs
+
 pub fill-spec : {M : Type 1} → statement M
 fill-spec =
     tie.close
@@ -20,7 +28,8 @@ fill-spec =
     Inv-loop
     μ-loop
     (λ c. search needs) (λ c. search needs) (λ c. search needs) (λ c. search needs) (λ c κs. search needs)
-    (λ c. search needs) (λ c. search needs) (λ c. search needs) (λ c. search needs) (λ c. search needs)
-    (λ c κs. search needs) (λ c. search needs) (λ c. search needs) (λ c. search needs) (λ c. search needs)
+    (λ c. search needs) (λ c. search needs) (λ c. search needs) (λ c. search needs)
     (λ c. search needs) (λ c. search needs)
+    (λ c. let h = few c in search needs) (λ c. let h = few c in search needs) (λ c. let h = few c in search needs)
+    (λ c. search needs)
     (λ c. search needs))
