@@ -1,54 +1,93 @@
 // Reads a register on standard input and publishes it. For each day on which somebody stands it prints a line: the day, how many
-// stand, the comparisons made and their spell numbers. A refused register prints the refusal's number and the line.
+// stand, the comparisons made and their spell numbers. A refused register prints the refusal's number and the line. What fails, a
+// refusal too, is told on standard error.
 ghost use Prim.Native.Nat.{_≤_};
 ghost use lib.ListN.{length};
 ghost use Rattle.service.specs.Service.{Published};
+ghost use Rattle.report.specs.Report.{Printed};
 use input::Input;
 use libc::STDERR_FILENO;
 use libc::STDIN_FILENO;
 use libc::STDOUT_FILENO;
+use report::LAST_DAY;
 use report::LINE;
+use report::PART;
 use stabbing::INDEX;
 
 // One byte more than a register may have: a longer text is refused whatever follows.
 const TEXT: usize = 65537;
 
-// Writes what stands from `at` on; false where the output is closed.
-fn write_from(buf: &[u8], at: usize) -> bool
-    requires { ⌜ at ≤ length (now buf) ⌝ }
+// ---- Output
+
+// Prints what stands from `start` to `end`; false where that can't be written.
+fn print(bytes: &[u8], start: usize, end: usize) -> bool
+    requires { ⌜ (start ≤ end) × (end ≤ length (now bytes)) ⌝ }
 {
-    io::write_all(STDOUT_FILENO, &buf[at..])
+    output::write(STDOUT_FILENO, &bytes[start..end], b"stand: standard output")
 }
 
 // Prints the line that ends the buffer.
-fn print(buf: &[u8; LINE], at: usize) -> bool
+fn print_line(buf: &[u8; LINE], at: usize) -> bool
     requires { ⌜ at ≤ 8192 ⌝ }
 {
-    write_from(buf, at)
+    print(buf, at, LINE)
 }
 
-// Prints the lines of all days, as long as the output is open.
-fn print_days(index: &[u16; INDEX])
-    requires { ⌜ Published (now index) ⌝ }
+// Prints the lines in the first places of a list.
+fn print_part(out: &[u8; PART], bytes: usize) -> bool
+    requires { ⌜ bytes ≤ 65536 ⌝ }
 {
-    let mut buf = [0u8; LINE];
-    let mut d = 1;
-    while d <= 4000 {
-        let at = report::day_line(index, d, &mut buf);
-        if !print(&buf, at) {
-            return;
-        }
-        d += 1;
-    }
+    print(out, 0, bytes)
+}
+
+// Says on standard error that the register is refused.
+fn tell_refusal(number: u16, line: u16) {
+    io::write_all(STDERR_FILENO, b"stand: the register is refused: ");
+    io::print_decimal(STDERR_FILENO, number as u64);
+    io::write_all(STDERR_FILENO, b" at line ");
+    io::print_decimal(STDERR_FILENO, line as u64);
+    io::write_all(STDERR_FILENO, b"\n");
 }
 
 fn print_refusal(number: u16, line: u16) {
     let mut buf = [0u8; LINE];
     let at = report::refused_line(number, line, &mut buf);
-    print(&buf, at);
+    print_line(&buf, at);
+    tell_refusal(number, line);
 }
 
-// Publishes the register and prints its lines, or its refusal.
+// The day to go on with after the parts that were printed, and whether all were.
+struct Days {
+    next: u16,
+    whole: bool,
+}
+
+// Prints the text of all days, part after part, as long as each can be written.
+fn print_days(index: &[u16; INDEX]) -> Days
+    requires { ⌜ Published (now index) ⌝ }
+    ensures { λ r. ⌜ Printed (now (index .entry)) (r .next) (r .whole) ⌝ }
+{
+    let mut out = [0u8; PART];
+    let mut d = 1;
+    while d <= LAST_DAY {
+        let part = report::days_part(index, d, &mut out);
+        if !print_part(&out, part.bytes) {
+            return Days {
+                next: d,
+                whole: false,
+            };
+        }
+        d = part.next;
+    }
+    Days {
+        next: d,
+        whole: true,
+    }
+}
+
+// ---- The program
+
+// Publishes the register and prints the text of all days, or its refusal.
 fn stand(text: &[u8]) {
     let mut index = [0u16; INDEX];
     let started = service::read(text, &mut index);
@@ -61,13 +100,22 @@ fn stand(text: &[u8]) {
     print_days(&index);
 }
 
+fn usage() {
+    io::write_all(
+        STDERR_FILENO,
+        b"usage: stand < REGISTER\nReads a register on standard input and prints a line for each day on which somebody stands: the day, how many\nstand, the looks that the question took and the spell numbers, parted by tabs.\n",
+    );
+}
+
 fn main() {
+    if os::arg_count() > 1 {
+        usage();
+        return;
+    }
     let mut text = [0u8; TEXT];
     let got = input::fill(STDIN_FILENO, &mut text);
     match got {
         Input::Read(n) => stand(&text[..n]),
-        Input::Failed => {
-            io::write_all(STDERR_FILENO, b"stand: standard input can't be read\n");
-        }
+        Input::Failed => os::fail(b"stand: standard input"),
     }
 }

@@ -1,14 +1,34 @@
--- `stand::print_days` is safe and ends. The measure is the number of days that are left. Assumes nothing.
+-- `stand::print_days` meets its contract. The loop's invariant: the parts that are printed have come to day d. The measure is the
+-- number of days that are left. Assumes nothing.
 use borrow.Author.Needs.{needs}
-use Prim.Native.Nat.{_-_, _≤_}
+use Prim.Native.Nat.{_-_}
+use native.Mathlib.Omega.{arith}
+use Rattle.report.proofs.Parts.{Printing, printing-none, printing-one, printing-some, printing-all}
 use Rattle.stand.proofs.print_days.Statement.{statement}
 use Rattle.stand.proofs.print_days.Tie as tie
 
 abbrev Inv-loop : tie.InvT-loop
-Inv-loop index buf₀ d₀ buf d = d ≤ 4001
+Inv-loop index out₀ d₀ out d = Printing index d
 
 abbrev μ-loop : tie.MeasureT-loop
-μ-loop index buf₀ d₀ buf d = 4001 - d
+μ-loop index out₀ d₀ out d = 4001 - d
+
+loop-less : tie.Need-loop-less Inv-loop μ-loop
+loop-less c =
+    let part = c .before .before .before in
+    let test = part .before .before in
+    omega (arith, test .loop-test .taken, part .days-part .ensures .onward (test .loop-test .taken))
+
+loop-again : tie.Need-loop-again Inv-loop μ-loop
+loop-again c =
+    let part = c .before .before .before in
+    printing-one (part .before .before .before .loop .inv) (part .days-part .ensures)
+
+returns : tie.Need-returns Inv-loop μ-loop
+returns c = printing-some (c .before .before .before .before .before .before .loop .inv)
+
+returns-2 : tie.Need-returns-2 Inv-loop μ-loop
+returns-2 c = printing-all (c .before .loop .inv) (omega (arith, c .loop-test .left))
 
 pub print-days-spec : {M : Type 1} → statement M
 print-days-spec =
@@ -16,6 +36,8 @@ print-days-spec =
     (tie.spec
     Inv-loop
     μ-loop
-    (λ c. search needs) (λ c κs. search needs) (λ c κs. search needs) (λ c. search needs) (λ c. search needs)
-    (λ c. search needs) (λ c. search needs)
-    (λ c. search needs))
+    (λ c. printing-none _) (λ c κs. search needs) (λ c κs. search needs)
+    returns
+    loop-less
+    loop-again
+    returns-2)
