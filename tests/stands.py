@@ -1,5 +1,6 @@
 #!/usr/bin/env python3
-"""Runs a `stand` program on register texts, good and damaged, and compares every byte it prints with the account's.
+"""Runs a `stand` program on register texts, good and damaged, and compares every byte it prints, and what it
+tells on standard error, with the account's.
 
     stands.py --stand "bin/stand" [--seed N] [--length N] [--timeout SECONDS]
 
@@ -32,13 +33,23 @@ def texts(seed: int, count: int) -> Iterator[bytes]:
         yield caller.text()
 
 
+def told(expected: bytes) -> bytes:
+    """What is told on standard error beside that output: a refusal."""
+    if not expected.startswith(b"refused"):
+        return b""
+    return b"stand: the register is refused: %s at line %s\n" % tuple(expected.split()[1:])
+
+
 def check(command: Sequence[str], text: bytes, timeout: float) -> None:
     """One run of the program."""
     expected = plain.stand(text).encode()
     try:
-        printed = subprocess.run(command, input=text, stdout=subprocess.PIPE, timeout=timeout).stdout
+        run = subprocess.run(command, input=text, stdout=subprocess.PIPE, stderr=subprocess.PIPE, timeout=timeout)
     except subprocess.TimeoutExpired:
         raise Difference("no end in time\n  text     %s" % shown(text)) from None
+    printed = run.stdout
+    if run.stderr != told(expected):
+        raise Difference("told %s\n  text     %s" % (shown(run.stderr), shown(text)))
     if printed != expected:
         at = max(0, first_difference(expected, printed) - 40)
         raise Difference(
