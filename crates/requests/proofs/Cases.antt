@@ -1,24 +1,67 @@
--- Lines at the edges of the forms, computed. Assumes nothing.
+-- Lines with what they ask, computed: one for each word, and lines at the edges of the forms. Assumes nothing.
+use Prim.Native.Nat.{ℕ}
+use Prim.Native.Char.{code}
+use Prim.Native.String.{String, [] as none, _∷_ as _then_}
 use mathlib.Core.Path.{_≡_, refl}
-use mathlib.Core.List.{[], _∷_, map}
-use Rattle.fields.specs.Fields.{passed, readDigits, readDecimal}
-use Rattle.model.specs.declared.Call.the-variants.{Ask}
-use Rattle.model.specs.declared.Question.the-variants.{Days}
-use Rattle.requests.specs.Requests.{begins, asksCall, asksRoom, asksRead, malformed, readDays, askedBy, askedOf}
+use mathlib.Core.Bool.{cond}
+use mathlib.Core.List.{List, [], _∷_, _++_, map}
+use lib.Dec.{eqb}
+use lib.Ieee.{binary32, ofBits}
+use Rattle.spell.specs.declared.Urgency.{Urgency}
+use Rattle.spell.specs.declared.Urgency.the-variants.{Grade, Reading}
+use Rattle.spell.specs.declared.Spell.{Spell}
+use Rattle.fields.specs.Fields.{passed, readDigits, readDecimal, hexValue, readHex}
+use Rattle.register.specs.Text.{readLetter, readValue, readUrgency, readLine}
+use Rattle.model.specs.declared.Call.the-variants.{Enter, Amend, Strike, TakeBack, Publish, Write, Ask}
+use Rattle.model.specs.declared.Question.the-variants.{Day, Span, Cover, Days}
+use Rattle.requests.specs.Requests.{Asked, begins, asksCall, asks, asksRoom, asksRead, malformed, readDays, askedBy, askedOf}
 
--- two days; a tab with no day after it; none after the tab; the largest room; one more; ten digits; eleven; a leading zero; a tab after a bare word; no LF; a byte after the LF
-pub edges : map (askedOf 10) (
-    (100 ∷ 97 ∷ 121 ∷ 115 ∷ 9 ∷ 52 ∷ 9 ∷ 49 ∷ 49 ∷ 10 ∷ []) ∷
-    (100 ∷ 97 ∷ 121 ∷ 115 ∷ 9 ∷ 52 ∷ 9 ∷ 10 ∷ []) ∷
-    (100 ∷ 97 ∷ 121 ∷ 115 ∷ 9 ∷ 10 ∷ []) ∷
-    (114 ∷ 111 ∷ 111 ∷ 109 ∷ 9 ∷ 54 ∷ 53 ∷ 53 ∷ 51 ∷ 54 ∷ 10 ∷ []) ∷
-    (114 ∷ 111 ∷ 111 ∷ 109 ∷ 9 ∷ 54 ∷ 53 ∷ 53 ∷ 51 ∷ 55 ∷ 10 ∷ []) ∷
-    (114 ∷ 101 ∷ 97 ∷ 100 ∷ 9 ∷ 57 ∷ 57 ∷ 57 ∷ 57 ∷ 57 ∷ 57 ∷ 57 ∷ 57 ∷ 57 ∷ 57 ∷ 10 ∷ []) ∷
-    (114 ∷ 101 ∷ 97 ∷ 100 ∷ 9 ∷ 49 ∷ 48 ∷ 48 ∷ 48 ∷ 48 ∷ 48 ∷ 48 ∷ 48 ∷ 48 ∷ 48 ∷ 48 ∷ 10 ∷ []) ∷
-    (114 ∷ 101 ∷ 97 ∷ 100 ∷ 9 ∷ 48 ∷ 48 ∷ 10 ∷ []) ∷
-    (112 ∷ 117 ∷ 98 ∷ 108 ∷ 105 ∷ 115 ∷ 104 ∷ 9 ∷ 10 ∷ []) ∷
-    (112 ∷ 117 ∷ 98 ∷ 108 ∷ 105 ∷ 115 ∷ 104 ∷ []) ∷
-    (100 ∷ 97 ∷ 121 ∷ 9 ∷ 53 ∷ 10 ∷ 120 ∷ []) ∷ [])
-    ≡ asksCall (Ask Days) (4 ∷ 11 ∷ []) ∷ malformed ∷ malformed ∷ asksRoom 65536 ∷ malformed ∷ asksRead 9999999999 ∷ malformed ∷ malformed ∷ malformed ∷ malformed ∷ malformed ∷ []
-unfolding begins askedBy askedOf readDays passed readDigits readDecimal
-edges = refl
+-- the bytes of a text as docs/PROTOCOL.md shows it: a space stands for a tab
+unfoldable pub spelled : String → List ℕ
+spelled none = []
+spelled (c then s) = cond (eqb (code c) 32) 9 (code c) ∷ spelled s
+
+abbrev spell : ℕ → ℕ → ℕ → ℕ → Urgency → Spell
+spell n c f l u = record { number = n; candidate = c; first = f; last = l; urgency = u }
+
+-- a line for each word, and one of no word
+abbrev table : List (String × Asked)
+table =
+    ("enter 31 502 100 465 G 1\n", asks (Enter (spell 31 502 100 465 (Grade 1))))
+    ∷ ("amend 32 733 120 140 C 42280000\n", asks (Amend (spell 32 733 120 140 (Reading (ofBits binary32 0x4228_0000)))))
+    ∷ ("strike 33\n", asks (Strike 33))
+    ∷ ("take-back\n", asks TakeBack)
+    ∷ ("publish\n", asks Publish)
+    ∷ ("write\n", asks Write)
+    ∷ ("day 130\n", asks (Ask (Day 130)))
+    ∷ ("span 99 141\n", asks (Ask (Span 99 141)))
+    ∷ ("cover 31\n", asks (Ask (Cover 31)))
+    ∷ ("days 4 11 130\n", asksCall (Ask Days) (4 ∷ 11 ∷ 130 ∷ []))
+    ∷ ("days\n", asks (Ask Days))
+    ∷ ("room 1024\n", asksRoom 1024)
+    ∷ ("read 45\n", asksRead 45)
+    ∷ ("Day 130\n", malformed)
+    ∷ []
+
+-- lines at the edges
+abbrev edges : List (String × Asked)
+edges =
+    -- a tab with no day after it, and none after the tab
+    ("days 4 \n", malformed)
+    ∷ ("days \n", malformed)
+    -- the largest room, and one more
+    ∷ ("room 65536\n", asksRoom 65536)
+    ∷ ("room 65537\n", malformed)
+    -- ten digits, eleven, a leading zero
+    ∷ ("read 9999999999\n", asksRead 9999999999)
+    ∷ ("read 10000000000\n", malformed)
+    ∷ ("read 00\n", malformed)
+    -- a tab after a bare word, no LF, a byte after the LF
+    ∷ ("publish \n", malformed)
+    ∷ ("publish", malformed)
+    ∷ ("day 5\nx", malformed)
+    ∷ []
+
+pub lines-ask : map (λ x. askedOf 10 (spelled (x .0))) (table ++ edges) ≡ map (λ x. x .1) (table ++ edges)
+unfolding spelled begins askedBy askedOf readDays passed readDigits readDecimal hexValue readHex readLetter readValue readUrgency readLine
+lines-ask = refl
