@@ -1,10 +1,13 @@
 """The wire of `serve` over the plain account: requests taken off a stream, and the answer to each.
 
 A `Wire` holds one service and the room of its lent lists. It answers whole requests only; a request that the input
-cuts short has no answer. Run as a program, it tests itself on the protocol's example and on the edges of its rules.
+cuts short has no answer. Run as a program, it tests itself on the protocol's example and on the edges of its rules,
+and that the example reads the same wherever it stands.
 """
 
 import io
+import re
+from pathlib import Path
 from typing import BinaryIO, Callable, Dict, Iterator, List, NamedTuple, Optional, Sequence
 
 import plain
@@ -184,7 +187,9 @@ def decimals(fields: Sequence[bytes], count: int, largest: int = plain.LARGEST_N
 # The self-test.
 
 
-EXAMPLE = [
+TOP = Path(__file__).resolve().parent.parent
+
+EDGES = [
     ("enter 11 7 1 10 G 2", "ok"),
     ("enter 11 7 1 10 G 2", "refused 6"),
     ("publish", "ok"),
@@ -209,8 +214,33 @@ def tabbed(lines: Sequence[str]) -> List[bytes]:
     return [line.replace(" ", "\t").encode() + b"\n" for line in lines]
 
 
+def documented() -> List[str]:
+    """The lines of the session in docs/PROTOCOL.md. Those that begin with `> ` are sent."""
+    lines = (TOP / "docs" / "PROTOCOL.md").read_text().partition("## A session\n")[2].splitlines()
+    return [" ".join(line.split()) for line in lines if line.startswith("    ")]
+
+
+def proved() -> str:
+    """The session for which the proofs compute the answers (crates/wire/proofs/Cases.antt): all of its texts in turn."""
+    page = (TOP / "crates" / "wire" / "proofs" / "Cases.antt").read_text()
+    table = page.partition("\nsession =\n")[2].partition("∷ []")[0]
+    return "".join(re.findall(r'"((?:[^"\\]|\\n)*)"', table)).replace("\\n", "\n")
+
+
+def check_example() -> None:
+    """The protocol's example is one in the document, in the stored files and in the proofs, and the plain wire answers it so."""
+    session = documented()
+    sent = tabbed([line[2:] for line in session if line.startswith("> ")])
+    answers = tabbed([line for line in session if not line.startswith("> ")])
+    assert len(sent) > 9 and b"".join(answered(b"".join(sent))) == b"".join(answers)
+    assert (TOP / "examples" / "conversation.requests").read_bytes() == b"".join(sent)
+    assert (TOP / "examples" / "conversation.answers").read_bytes() == b"".join(answers)
+    assert proved() == "".join(re.sub("^> ", "", line) + "\n" for line in session)
+
+
 def self_test() -> None:
-    requests, answers = zip(*EXAMPLE)
+    check_example()
+    requests, answers = zip(*EDGES)
     assert answered(b"".join(tabbed(requests))) == tabbed(answers)
     longest = b"days\t10" + b"\t1" * ((LONGEST_LINE - 8) // 2) + b"\n"
     assert len(longest) == LONGEST_LINE

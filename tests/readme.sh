@@ -1,6 +1,6 @@
 #!/usr/bin/env bash
 # Runs the commands of README.md and docs/PROTOCOL.md that begin with bin/stand, bin/serve on a file, or printf, as they stand there,
-# and compares what they print; and the conversation of docs/PROTOCOL.md with the files of examples/. The commands run in a folder
+# and compares what they print. The commands run in a folder
 # of links, so that what they keep does not stay here.
 set -euo pipefail
 top=$(cd "$(dirname "$0")/.." && pwd)
@@ -35,10 +35,6 @@ while IFS= read -r command; do
     tried=$((tried + 1))
 done < <(commands)
 [ "$tried" -eq 5 ] || fail "$tried commands are tried, and not 5"
-
-# The conversation as the protocol shows it: its two blocks, one after the other.
-awk '/^```/ { inside = !inside; next } inside' docs/PROTOCOL.md | cmp - <(cat examples/conversation.requests examples/conversation.answers) \
-    || fail "the conversation of docs/PROTOCOL.md is not that of examples/"
 
 # What the README says of the kit is what the kit says.
 grep -qF "    $(rt version)" README.md || fail "README.md names another kit than $(rt version)"

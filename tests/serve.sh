@@ -1,6 +1,7 @@
 #!/bin/sh
-# Runs the program `serve` on the stored conversation in ways that the gate's own run does not: a byte at a time, begun on a file,
-# with input cut short, with its output closed, with wrong arguments. The exit status is 1, with a message, at the first difference.
+# Runs the program `serve` on the protocol's example, and on the stored conversation in ways that the gate's own run does not: a byte
+# at a time, begun on a file, with input cut short, with its output closed, with wrong arguments. The exit status is 1, with a message,
+# at the first difference.
 #
 #     tests/serve.sh [PROGRAM]        PROGRAM is target/bin/serve where none is named
 set -u
@@ -21,6 +22,9 @@ says() {
 }
 
 [ -x "$program" ] || fail "no program at $program"
+
+# the protocol's example; tests/plainwire.py sees that the document says the same
+"$program" < "$here/../examples/conversation.requests" | cmp - "$here/../examples/conversation.answers" >&2 || fail "the protocol's example: the output differs"
 
 # a pipe that hands over a byte at a time
 head -c 20000 "$stored/stdin" | dd bs=1 2> /dev/null | "$program" > "$work/out"
@@ -44,6 +48,8 @@ says "one request at a time" 'ok\nok\nlisted\t1\t0\t1\nok\nlisted\t0\t0\n'
 says "begun on a register" 'ok\n'
 { echo ok; printf 'text\t%s\n' "$(wc -c < "$here/stand/full.register")"; cat "$here/stand/full.register"; } > "$work/expected"
 printf 'write\n' | "$program" "$here/stand/full.register" | cmp - "$work/expected" >&2 || fail "a register read and written: it differs"
+printf 'day\t5\npublish\nday\t5\ntake-back\n' | "$program" "$here/stand/register-a.register" > "$work/out"
+says "begun on a register and published" 'ok\nlisted\t0\t0\nok\nlisted\t3\t2\t11\t14\t13\nrefused\t9\n'
 printf '1\t1\t1\t9\tG\t1\n1\t1\t1\t9\tG\t1\n' > "$work/bad"
 printf 'take-back\n' | "$program" "$work/bad" > "$work/out"
 says "begun on a bad register" 'refused\t6\t2\nrefused\t9\n'

@@ -1,108 +1,65 @@
--- The protocol's example, computed. Assumes nothing.
-use Prim.Native.Nat.{ℕ}
+-- The protocol's example, and answers at the edges of its rules, computed. Assumes nothing.
+use Prim.Native.String.{String}
 use mathlib.Core.Path.{_≡_, refl}
 use mathlib.Core.List.{List, [], _∷_, map}
 use lib.Ieee.{isNan, toBits, ofBits}
 use Rattle.spell.specs.Order.{earlierOf}
 use Rattle.spell.specs.Listing.{stands}
 use Rattle.stabbing.specs.Tree.{below, keep, count, head, next, parent, child, leftSibling, lastChild, fits, start, onPath, formula}
-use Rattle.fields.specs.Fields.{digitsOf, decimalOf, numbersText, passed, readDigits, readDecimal}
-use Rattle.register.specs.Text.{textOnto, readLetter, readValue, readUrgency, readLine}
-use Rattle.model.specs.Edits.{insert, enterRefusal, remember}
+use Rattle.fields.specs.Fields.{digitsOf, decimalOf, hexDigit, hexOf, numbersText, passed, readDigits, readDecimal, hexValue, readHex}
+use Rattle.register.specs.Text.{lineText, textOnto, readLetter, readValue, readUrgency, readLine, follows, lineRefusal, lineAnswer, nextLine, readLines, readText}
+use Rattle.model.specs.Edits.{insert, enterRefusal, strikeRefusal, remember}
 use Rattle.model.specs.Questions.{onAny, daysOk, rising, filter, comparisonsOf}
 use Rattle.model.specs.Effects.{settle}
 use Rattle.model.specs.Model.{takeBack, cover, ask, effectOf}
 use Rattle.requests.specs.Requests.{begins, readDays, askedBy, askedOf}
-use Rattle.wire.specs.Replies.{refusedText, listedText, severalText, writtenText, foundText, acceptedText, callText}
-use Rattle.wire.specs.Conversation.{Sent, opening, turnOf, converse}
+use Rattle.requests.proofs.Cases.{spelled}
+use Rattle.wire.specs.Replies.{refusedText, stoppedText, listedText, severalText, writtenText, foundText, acceptedText, callText, readingText}
+use Rattle.wire.specs.Conversation.{Sent, opening, registerOf, turnOf, converse}
 
--- a request with no payload
-abbrev line : List ℕ → Sent
-line l = record { line = l; payload = [] }
+-- a request and its answer: the line, the bytes after the line of a `read`, and the answer's bytes
+abbrev Said : Type 0
+Said = String × String × String
 
--- ---- Requests, their fields parted by tabs
+abbrev sent : Said → Sent
+sent x = record { line = spelled (x .0); payload = spelled (x .1) }
 
--- ---- Requests, their fields parted by tabs
+-- the session of docs/PROTOCOL.md
+abbrev session : List Said
+session =
+    ("enter 31 502 100 465 G 1\n", "", "ok\n")
+    ∷ ("enter 32 733 120 140 C 42280000\n", "", "ok\n")
+    ∷ ("publish\n", "", "ok\n")
+    ∷ ("day 130\n", "", "listed 2 0 31 32\n")
+    ∷ ("days 99 141\n", "", "listed 1 - 31\n")
+    ∷ ("strike 33\n", "", "refused 7\n")
+    ∷ ("day 130 131\n", "", "malformed\n")
+    ∷ ("write\n", "", "text 45\n31 502 100 465 G 1\n32 733 120 140 C 42280000\n")
+    ∷ ("read 16\n", "41 612 7 90 G 5\n", "refused 5 1\n")
+    ∷ ("read 16\n", "41 612 7 90 G 4\n", "ok\n")
+    ∷ []
 
--- `enter 11 7 1 10 G 2`
-abbrev enterLine : List ℕ
-enterLine = 101 ∷ 110 ∷ 116 ∷ 101 ∷ 114 ∷ 9 ∷ 49 ∷ 49 ∷ 9 ∷ 55 ∷ 9 ∷ 49 ∷ 9 ∷ 49 ∷ 48 ∷ 9 ∷ 71 ∷ 9 ∷ 50 ∷ 10 ∷ []
+-- refusals of other numbers, a room, an answer that lists nobody, a text of no lines
+abbrev edges : List Said
+edges =
+    ("enter 11 7 1 10 G 2\n", "", "ok\n")
+    ∷ ("enter 11 7 1 10 G 2\n", "", "refused 6\n")
+    ∷ ("publish\n", "", "ok\n")
+    ∷ ("span 5 9\n", "", "listed 1 0 11\n")
+    ∷ ("day 4001\n", "", "refused 3\n")
+    ∷ ("room 0\n", "", "ok\n")
+    ∷ ("cover 11\n", "", "refused 11\n")
+    ∷ ("days\n", "", "listed 0 -\n")
+    ∷ ("take-back\n", "", "ok\n")
+    ∷ ("take-back\n", "", "refused 9\n")
+    ∷ ("write\n", "", "text 0\n")
+    ∷ []
 
--- `publish`
-abbrev publishLine : List ℕ
-publishLine = 112 ∷ 117 ∷ 98 ∷ 108 ∷ 105 ∷ 115 ∷ 104 ∷ 10 ∷ []
-
--- `day 5`
-abbrev dayLine : List ℕ
-dayLine = 100 ∷ 97 ∷ 121 ∷ 9 ∷ 53 ∷ 10 ∷ []
-
--- `day 4001`
-abbrev offLine : List ℕ
-offLine = 100 ∷ 97 ∷ 121 ∷ 9 ∷ 52 ∷ 48 ∷ 48 ∷ 49 ∷ 10 ∷ []
-
--- `room 0`
-abbrev roomLine : List ℕ
-roomLine = 114 ∷ 111 ∷ 111 ∷ 109 ∷ 9 ∷ 48 ∷ 10 ∷ []
-
--- `days`
-abbrev daysLine : List ℕ
-daysLine = 100 ∷ 97 ∷ 121 ∷ 115 ∷ 10 ∷ []
-
--- `take-back`
-abbrev takeBackLine : List ℕ
-takeBackLine = 116 ∷ 97 ∷ 107 ∷ 101 ∷ 45 ∷ 98 ∷ 97 ∷ 99 ∷ 107 ∷ 10 ∷ []
-
--- `write`
-abbrev writeLine : List ℕ
-writeLine = 119 ∷ 114 ∷ 105 ∷ 116 ∷ 101 ∷ 10 ∷ []
-
--- `Day 5`
-abbrev capitalLine : List ℕ
-capitalLine = 68 ∷ 97 ∷ 121 ∷ 9 ∷ 53 ∷ 10 ∷ []
-
--- ---- Answers
-
--- `ok`
-abbrev ok : List ℕ
-ok = 111 ∷ 107 ∷ 10 ∷ []
-
--- `refused 6`
-abbrev refused6 : List ℕ
-refused6 = 114 ∷ 101 ∷ 102 ∷ 117 ∷ 115 ∷ 101 ∷ 100 ∷ 9 ∷ 54 ∷ 10 ∷ []
-
--- `listed 1 0 11`
-abbrev listed : List ℕ
-listed = 108 ∷ 105 ∷ 115 ∷ 116 ∷ 101 ∷ 100 ∷ 9 ∷ 49 ∷ 9 ∷ 48 ∷ 9 ∷ 49 ∷ 49 ∷ 10 ∷ []
-
--- `refused 3`
-abbrev refused3 : List ℕ
-refused3 = 114 ∷ 101 ∷ 102 ∷ 117 ∷ 115 ∷ 101 ∷ 100 ∷ 9 ∷ 51 ∷ 10 ∷ []
-
--- `refused 11`
-abbrev refused11 : List ℕ
-refused11 = 114 ∷ 101 ∷ 102 ∷ 117 ∷ 115 ∷ 101 ∷ 100 ∷ 9 ∷ 49 ∷ 49 ∷ 10 ∷ []
-
--- `listed 0 -`
-abbrev listedNone : List ℕ
-listedNone = 108 ∷ 105 ∷ 115 ∷ 116 ∷ 101 ∷ 100 ∷ 9 ∷ 48 ∷ 9 ∷ 45 ∷ 10 ∷ []
-
--- `refused 9`
-abbrev refused9 : List ℕ
-refused9 = 114 ∷ 101 ∷ 102 ∷ 117 ∷ 115 ∷ 101 ∷ 100 ∷ 9 ∷ 57 ∷ 10 ∷ []
-
--- `text 0`
-abbrev textNone : List ℕ
-textNone = 116 ∷ 101 ∷ 120 ∷ 116 ∷ 9 ∷ 48 ∷ 10 ∷ []
-
--- `malformed`
-abbrev noForm : List ℕ
-noForm = 109 ∷ 97 ∷ 108 ∷ 102 ∷ 111 ∷ 114 ∷ 109 ∷ 101 ∷ 100 ∷ 10 ∷ []
-
--- the protocol's example
-pub example : converse opening (map line (enterLine ∷ enterLine ∷ publishLine ∷ dayLine ∷ offLine ∷ roomLine ∷ dayLine ∷ daysLine ∷ takeBackLine ∷ takeBackLine ∷ writeLine ∷ capitalLine ∷ []))
-    ≡ ok ∷ refused6 ∷ ok ∷ listed ∷ refused3 ∷ ok ∷ refused11 ∷ listedNone ∷ ok ∷ refused9 ∷ textNone ∷ noForm ∷ []
-unfolding converse turnOf callText acceptedText foundText refusedText listedText severalText writtenText
-    begins askedBy askedOf readDays digitsOf decimalOf numbersText passed readDigits readDecimal readLetter readValue readUrgency readLine textOnto
-    settle effectOf takeBack ask cover enterRefusal insert remember earlierOf stands isNan toBits ofBits
+-- THE PROTOCOL'S EXAMPLE, and the edges
+pub example : map (λ c. converse opening (map sent c)) (session ∷ edges ∷ []) ≡ map (map (λ x. spelled (x .2))) (session ∷ edges ∷ [])
+unfolding spelled converse turnOf registerOf callText readingText acceptedText foundText refusedText stoppedText listedText severalText writtenText
+    begins askedBy askedOf readDays digitsOf decimalOf hexDigit hexOf numbersText passed readDigits readDecimal hexValue readHex
+    lineText textOnto readLetter readValue readUrgency readLine follows lineRefusal lineAnswer nextLine readLines readText
+    settle effectOf takeBack ask cover enterRefusal strikeRefusal insert remember earlierOf stands isNan toBits ofBits
     onAny daysOk rising filter comparisonsOf below keep count head next parent child leftSibling lastChild fits start onPath formula
 example = refl
