@@ -5,10 +5,13 @@
 
 In mode `one` each request is sent only when the one before it has been answered, so that a program that waits for
 more input than a request shows as a hang. In mode `pieces` the same requests are sent as one stream in random
-pieces. The exit status is 0 where nothing differs, and 1 with the first difference otherwise.
+pieces. Before the random conversation come those of limits.py, one of them in mode `drained`: a small piece is sent
+only when the program has taken the one before it, so that each of its reads is short. The exit status is 0 where
+nothing differs, and 1 with the first difference otherwise.
 """
 
 import argparse
+import fcntl
 import os
 import random
 import select
@@ -16,13 +19,18 @@ import shlex
 import subprocess
 import sys
 import tempfile
+import termios
+import time
 from bisect import bisect_right
 from itertools import accumulate
 from typing import Iterable, Iterator, List, Optional, Sequence, Tuple
 
+import limits
 from generate import ENDINGS, Plan, make_plan
+from plainwire import Wire
 
 SHOWN = 300
+SMALL = 900  # bytes of a piece in mode `drained`
 
 
 class Difference(Exception):
@@ -83,6 +91,12 @@ class Server:
         except BrokenPipeError:
             return b""
 
+    def drained(self, pieces: Iterable[bytes]) -> Iterator[bytes]:
+        """The pieces, each only when the program has taken the one before it, or has ended."""
+        for piece in pieces:
+            yield piece
+            wait_taken(self.input, self.process, self.timeout)
+
     def finish(self, ending: bytes) -> Tuple[bytes, int]:
         """Sends a cut-off request, ends the input, and returns further output and the exit status."""
         self.pump([ending] if ending else [], b"")
@@ -102,6 +116,19 @@ class Server:
         self.process.stdout.close()
         if not self.process.stdin.closed:
             self.process.stdin.close()
+
+
+def wait_taken(pipe: int, process: subprocess.Popen, timeout: float) -> None:
+    """Waits until nothing is left in the pipe."""
+    deadline = time.monotonic() + timeout
+    while int.from_bytes(fcntl.ioctl(pipe, termios.FIONREAD, bytes(4)), sys.byteorder) and process.poll() is None:
+        if time.monotonic() > deadline:
+            raise Hang(b"")
+        time.sleep(0.0001)
+
+
+def small_pieces(stream: bytes) -> Iterator[bytes]:
+    return (stream[at : at + SMALL] for at in range(0, len(stream), SMALL))
 
 
 def differ(number: int, request: bytes, expected: bytes, received: bytes, what: str) -> Difference:
@@ -138,13 +165,12 @@ def first_difference(expected: bytes, received: bytes) -> int:
     return next(same, min(len(expected), len(received)))
 
 
-def talk_pieces(server: Server, plan: Plan, rng: random.Random) -> None:
-    """The whole conversation as one stream, in random pieces."""
-    stream = b"".join(request for request, _ in plan.exchanges)
+def talk_stream(server: Server, plan: Plan, pieces: Iterable[bytes]) -> None:
+    """The whole conversation as one stream, in these pieces."""
     expected = b"".join(answer for _, answer in plan.exchanges)
     what = "difference"
     try:
-        received = server.pump(pieces_of(stream, rng), expected)
+        received = server.pump(pieces, expected)
     except Hang as hang:
         received, what = hang.args[0], "no answer in time"
     if received != expected:
@@ -182,10 +208,13 @@ def converse(command: List[str], plan: Plan, mode: str, timeout: float, seed: in
             command = command + [path]
         server = Server(command, timeout)
         try:
+            stream = b"".join(request for request, _ in plan.exchanges)
             if mode == "one":
                 talk_one(server, plan)
+            elif mode == "pieces":
+                talk_stream(server, plan, pieces_of(stream, random.Random(seed)))
             else:
-                talk_pieces(server, plan, random.Random(seed))
+                talk_stream(server, plan, server.drained(small_pieces(stream)))
             finish(server, plan)
         finally:
             server.stop()
@@ -209,6 +238,39 @@ def check_endings(command: List[str], timeout: float) -> None:
         converse(command, Plan(None, [(b"publish\n", b"ok\n")], ending), "one", timeout, 0)
 
 
+def check_slow_file(command: List[str], timeout: float) -> None:
+    """A file whose bytes come in small pieces: a named pipe, which is read to its end or to one byte more than a text may have."""
+    for text in (limits.LONGEST, limits.TOO_LONG):
+        expected = Wire().read(text)
+        with tempfile.TemporaryDirectory() as folder:
+            path = os.path.join(folder, "register")
+            os.mkfifo(path)
+            pipe = os.open(path, os.O_RDWR)
+            server = Server(command + [path], timeout)
+            try:
+                for piece in small_pieces(text):
+                    os.write(pipe, piece)
+                    wait_taken(pipe, server.process, timeout)
+                os.close(pipe)
+                received = server.pump([], expected)
+            except Hang:
+                received = b""
+            finally:
+                server.stop()
+        if received != expected:
+            raise Difference("a file in small pieces\n  expected %s\n  received %s" % (shown(expected), shown(received)))
+
+
+def check_limits(command: List[str], timeout: float, seed: int) -> None:
+    """The conversations at the limits, each in its modes."""
+    for talk in limits.talks():
+        for mode in talk.modes:
+            try:
+                converse(command, talk.plan, mode, timeout, seed)
+            except Difference as difference:
+                raise Difference("%s, mode %s: %s" % (talk.name, mode, difference)) from None
+
+
 def parse(arguments: Sequence[str]) -> argparse.Namespace:
     parser = argparse.ArgumentParser(description=__doc__, formatter_class=argparse.RawDescriptionHelpFormatter)
     parser.add_argument("--serve", required=True, help="the command that runs the program")
@@ -226,6 +288,8 @@ def main(arguments: Sequence[str]) -> int:
     try:
         check_missing_file(command, options.timeout)
         check_endings(command, options.timeout)
+        check_slow_file(command, options.timeout)
+        check_limits(command, options.timeout, options.seed)
         for mode in ["one", "pieces"] if options.mode == "both" else [options.mode]:
             try:
                 converse(command, plan, mode, options.timeout, options.seed)

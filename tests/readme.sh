@@ -1,7 +1,6 @@
 #!/usr/bin/env bash
 # Runs the commands of README.md and docs/PROTOCOL.md that begin with bin/stand, bin/serve on a file, or printf, as they stand there,
-# and compares what they print. The commands run in a folder
-# of links, so that what they keep does not stay here.
+# and compares what they print. The commands run in a folder of links, so that what they keep does not stay here.
 set -euo pipefail
 top=$(cd "$(dirname "$0")/.." && pwd)
 "$top/bin/build" stand

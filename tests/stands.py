@@ -4,7 +4,7 @@ tells on standard error, with the account's.
 
     stands.py --stand "bin/stand" [--seed N] [--length N] [--timeout SECONDS]
 
-The exit status is 0 where nothing differs, and 1 with the first difference otherwise.
+Two texts come in small pieces too, each sent only when the program has taken the one before it. The exit status is 0 where nothing differs, and 1 with the first difference otherwise.
 """
 
 import argparse
@@ -14,13 +14,14 @@ import subprocess
 import sys
 from typing import Iterator, Sequence
 
+import limits
 import plain
-from conversation import Difference, first_difference, shown
+from conversation import Difference, Hang, Server, first_difference, shown, small_pieces
 from generate import Caller
 from plainwire import Wire
 
 LONGEST = b"x" * plain.LONGEST_TEXT
-FIXED = [b"", plain.REGISTER_A, plain.REGISTER_A[:-1], b"\n", LONGEST, LONGEST + b"x"]
+FIXED = [b"", plain.REGISTER_A, plain.REGISTER_A[:-1], b"\n", LONGEST, LONGEST + b"x"] + limits.TEXTS
 
 
 def texts(seed: int, count: int) -> Iterator[bytes]:
@@ -47,15 +48,31 @@ def check(command: Sequence[str], text: bytes, timeout: float) -> None:
         run = subprocess.run(command, input=text, stdout=subprocess.PIPE, stderr=subprocess.PIPE, timeout=timeout)
     except subprocess.TimeoutExpired:
         raise Difference("no end in time\n  text     %s" % shown(text)) from None
-    printed = run.stdout
     if run.stderr != told(expected):
-        raise Difference("told %s\n  text     %s" % (shown(run.stderr), shown(text)))
+        raise Difference("told %s
+  text     %s" % (shown(run.stderr), shown(text)))
+    compare(text, expected, run.stdout)
+
+
+def compare(text: bytes, expected: bytes, printed: bytes) -> None:
     if printed != expected:
         at = max(0, first_difference(expected, printed) - 40)
         raise Difference(
             "difference near byte %d\n  text     %s\n  expected %s\n  printed  %s"
             % (at, shown(text), shown(expected[at:]), shown(printed[at:]))
         )
+
+
+def check_small_pieces(command: Sequence[str], text: bytes, timeout: float) -> None:
+    """One run of the program, on a text that comes in small pieces."""
+    server = Server(command, timeout)
+    try:
+        printed = server.pump(server.drained(small_pieces(text)), b"") + server.finish(b"")[0]
+    except Hang:
+        raise Difference("no end in time, in small pieces\n  text     %s" % shown(text)) from None
+    finally:
+        server.stop()
+    compare(text, plain.stand(text).encode(), printed)
 
 
 def main(arguments: Sequence[str]) -> int:
@@ -65,10 +82,13 @@ def main(arguments: Sequence[str]) -> int:
     parser.add_argument("--length", type=int, default=100, help="the number of random texts")
     parser.add_argument("--timeout", type=float, default=20.0)
     options = parser.parse_args(arguments)
+    command = shlex.split(options.stand)
     try:
+        for text in (limits.LONGEST, limits.TOO_LONG):
+            check_small_pieces(command, text, options.timeout)
         for number, text in enumerate(texts(options.seed, options.length)):
             try:
-                check(shlex.split(options.stand), text, options.timeout)
+                check(command, text, options.timeout)
             except Difference as difference:
                 raise Difference("seed %d, text %d: %s" % (options.seed, number, difference)) from None
     except Difference as difference:
