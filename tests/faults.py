@@ -1,5 +1,6 @@
 #!/usr/bin/env python3
-"""Tests the test: each fault below is put into a copy of the plain account, and conversation.py must find it.
+"""Tests the tests: each fault below is put into a copy of the plain account, and conversation.py must find it, or stands.py
+where it is one of the program `stand`.
 
     faults.py [--seeds N] [--length N]
 """
@@ -22,7 +23,20 @@ class Fault(NamedTuple):
     file: str
     good: str
     bad: str
+    stand: bool = False
 
+
+# The tail of a line above 1 MiB is taken for a line, and a short read for the end of a long text.
+LONG_LINE = """    while piece and not piece.endswith(b"\\n"):
+        piece = stream.readline(PIECE)
+"""
+LONG_LINE_CUT = "    passed = len(line)\n" + LONG_LINE + """        passed += len(piece)
+        line = piece if passed > 1 << 20 else line
+"""
+LONG_TEXT = "        piece = stream.read(min(left, PIECE))\n"
+LONG_TEXT_CUT = """        piece = stream.read1(min(left, PIECE))
+        left = left if len(piece) == min(left, PIECE) else len(piece)
+"""
 
 FAULTS = [
     # Edits, the past and publishing.
@@ -64,6 +78,16 @@ FAULTS = [
     Fault("plainwire.py", "return line if piece else None", "return line or None"),
     Fault("plainwire.py", "answered = plain.read(text)", "answered = plain.read(text); self.set_room(65536)"),
     Fault("plainserve.py", "        out.write(answer)\n        out.flush()", "        out.write(answer)"),
+    # Around the account: what a program may do wrong with the bytes that it takes and sends.
+    Fault("plainserve.py", "in wire.answers(sys.stdin.buffer)", "in (a for a, _ in zip(wire.answers(sys.stdin.buffer), range(65536)))"),
+    Fault("plainwire.py", "take_text(stream, length)", "take_text(stream, length % (1 << 20))"),
+    Fault("plainwire.py", LONG_LINE, LONG_LINE_CUT),
+    Fault("plainserve.py", "out.write(wire.read(text))", "out.write(wire.read(text)); wire = Wire()"),
+    Fault("plainserve.py", "text = file.read()", "text = file.read1(65537)"),
+    Fault("plainwire.py", LONG_TEXT, LONG_TEXT_CUT),
+    Fault("plainserve.py", "        out.write(answer)", "        out.write(answer if len(answer) < 33792 else b'')"),
+    Fault("plain.py", "    if listed.count == 0:", "    if listed.count == 0 or listed.count > 190:", stand=True),
+    Fault("plain.py", "stand(sys.stdin.buffer.read())", "stand(sys.stdin.buffer.read1(65537))", stand=True),
 ]
 
 
@@ -89,10 +113,12 @@ def caught(fault: Fault, seeds: int, length: int) -> int:
     """The first seed whose conversation finds the fault; 0 where none does."""
     with tempfile.TemporaryDirectory() as folder:
         put_in(fault, folder)
-        serve = "%s %s" % (sys.executable, os.path.join(folder, "plainserve.py"))
         for seed in range(1, seeds + 1):
-            command = [sys.executable, os.path.join(HERE, "conversation.py"), "--serve", serve, "--timeout", "3"]
-            command += ["--seed", str(seed), "--length", str(length)]
+            if fault.stand:
+                command = [os.path.join(HERE, "stands.py"), "--stand", "%s %s stand" % (sys.executable, os.path.join(folder, "plain.py"))]
+            else:
+                command = [os.path.join(HERE, "conversation.py"), "--serve", "%s %s" % (sys.executable, os.path.join(folder, "plainserve.py"))]
+            command = [sys.executable] + command + ["--timeout", "3", "--seed", str(seed), "--length", str(3 if fault.stand else length)]
             if subprocess.run(command, stdout=subprocess.DEVNULL, env=buffered()).returncode == 1:
                 return seed
     return 0
