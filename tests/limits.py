@@ -83,7 +83,7 @@ def many() -> Plan:
 def small() -> Plan:
     """Requests longer than a read brings them: a long text that is dropped, the longest register, the longest line and one above it."""
     days = line("days", *range(1, 4001))
-    return answered([read_request(b"publish\n" * 8_200), b"take-back\n", read_request(LONGEST), b"publish\n", b"day\t3998\n", days, b"x" * LONGEST_LINE + b"publish\n", b"write\n"])
+    return answered([read_request(b"publish\n" * 9_000), b"take-back\n", read_request(LONGEST), b"publish\n", b"day\t3998\n", days, b"x" * LONGEST_LINE + b"publish\n", b"write\n"])
 
 
 def talks() -> Iterator[Talk]:

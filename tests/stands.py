@@ -49,8 +49,7 @@ def check(command: Sequence[str], text: bytes, timeout: float) -> None:
     except subprocess.TimeoutExpired:
         raise Difference("no end in time\n  text     %s" % shown(text)) from None
     if run.stderr != told(expected):
-        raise Difference("told %s
-  text     %s" % (shown(run.stderr), shown(text)))
+        raise Difference("told %s\n  text     %s" % (shown(run.stderr), shown(text)))
     compare(text, expected, run.stdout)
 
 
