@@ -1,46 +1,48 @@
 -- What each call's result is, in terms of the account: pure facts, no code. Assumes nothing.
 use mathlib.Core.Path.{_≡_, refl, sym, ap, _∙_}
 use mathlib.Core.Bool.{true, false}
-use mathlib.Core.List.{List, [], _∷_, _++_}
-use Prim.Native.Nat.{ℕ, suc, _+_, _-_, _≤_, _<_}
+use mathlib.Core.List.{List, [], _∷_, _++_, reverse-reverse}
+use Prim.Native.Nat.{ℕ, suc, _-_, _≤_, _<_}
 use native.Mathlib.Omega.{arith}
-use lib.ListN.{length, getD, take, drop, length-append, length-take, length-drop}
+use lib.ListN.{length, getD, take, drop, length-append, length-take, length-drop, length-reverse, length-replicate}
 use lib.Seq.{length-take-le, getD-take}
 use Rattle.refusal.specs.Table.{accepted, unknownNumber, noHistory}
 use Rattle.spell.specs.declared.Spell.{Spell}
 use Rattle.spell.specs.Order.{ordered}
-use Rattle.spell.specs.Listing.{distinct, Each, Sound, Good}
+use Rattle.spell.specs.Listing.{stands, distinct, Each, Sound, Good}
+use Rattle.register.specs.Answers.{blank}
 use Rattle.model.specs.Edits.{insert, remove, replace, enterRefusal, amendRefusal, strikeRefusal, takeBackRefusal}
 use Rattle.standing.specs.declared.Undo.{Undo}
 use Rattle.standing.specs.declared.Standing.{Standing}
-use Rattle.standing.specs.Standing.{listOf, entries, undo, pastOf, pasts, Goods, Wf, Fresh, Edits, frontOr, restOf, TakesBack}
-use Rattle.standing.specs.Search.{indexOf, Relisted, Pushed}
-use Rattle.standing.proofs.Search.{blank, remove-at}
+use Rattle.standing.specs.Standing.{listOf, entries, undo, pastOf, pasts, Goods, Wf, Fresh, Edits, frontOr, restOf, afterTakeBack, TakesBack}
+use Rattle.standing.specs.Search.{indexOf}
+use Rattle.standing.specs.Places.{onto, relisted, over, blankEntry, freshStanding, entering, replacing, noted}
+use Rattle.standing.proofs.Search.{remove-at}
+use Rattle.standing.proofs.Places.{onto-same, onto-twice, same, over-same, list-over, past-over, wf-over, over-relisted}
 use Rattle.standing.proofs.Edits.{length-insert, length-remove, removed-gone, good-insert, good-remove, remove-none, remove-insert, insert-remove}
 use Rattle.standing.proofs.Checks.{found, missed, strike-refusal, enters, amends}
-use Rattle.standing.proofs.Past.{blankEntry, pop, refused, edited, relisted}
+use Rattle.standing.proofs.Past.{pop, refused, edited}
 
 pub list-length : (st : Standing) → Wf st → length (listOf st) ≡ st .count
 list-length st w = length-take-le (st .count) (st .spells) (omega (arith, w .places, w .count-in))
 
 -- a removal at the place of the number k is the removal of k
-pub removed-is : (st r : Standing) (k p : ℕ) → p ≡ indexOf k (listOf st) → Relisted st (take p (listOf st) ++ drop (suc p) (listOf st)) r → Relisted st (remove k (listOf st)) r
-removed-is st r k p e h = rw (remove-at k (listOf st), ← e) h
+pub removed-is : (k p : ℕ) (l : List Spell) → p ≡ indexOf k l → take p l ++ drop (suc p) l ≡ remove k l
+removed-is k p l e = ap (λ (i : ℕ). take i l ++ drop (suc i) l) e ∙ sym (remove-at k l)
 
 -- the removal of a number that does not stand changes nothing
-pub removed-none : (st : Standing) (k p : ℕ) → length (listOf st) ≡ st .count → p ≡ indexOf k (listOf st) → st .count ≤ p → Relisted st (remove k (listOf st)) st
-removed-none st k p long e h =
-    rw (remove-none k (listOf st) (missed (listOf st) (st .count) k p long e h)) (record { listed = refl; counted = sym long; journal = refl; depth = refl })
+pub removed-none : (st : Standing) (k p : ℕ) → st .count ≤ length (st .spells) → p ≡ indexOf k (listOf st) → st .count ≤ p → st ≡ relisted st (remove k (listOf st))
+removed-none st k p fits e h =
+    let long : length (listOf st) ≡ st .count = length-take-le (st .count) (st .spells) fits in
+    rw (remove-none k (listOf st) (missed (listOf st) (st .count) k p long e h)) (same (sym (onto-same (st .count) (st .spells) fits)) (sym long) refl refl)
 
 -- ---- Enter
 
-pub enter-made : (st : Standing) (s : Spell) (a b : Standing) → Wf st → Sound s → enterRefusal (listOf st) s ≡ accepted
-    → Relisted st (insert s (listOf st)) a → Pushed a (record { number = s .number; stood = false; spell = s }) b
-    → length (b .spells) ≡ 1024 → length (b .journal) ≡ 64
-    → Edits st (record { standing = b; refusal = accepted }) (enterRefusal (listOf st) s) (insert s (listOf st))
-enter-made st s a b w sound done made push places rooms =
+pub enter-made : (st : Standing) (s : Spell) → Wf st → Sound s → enterRefusal (listOf st) s ≡ accepted
+    → Edits st (record { standing = over st (insert s (listOf st)) (noted (entering s) (entries st)); refusal = accepted }) (enterRefusal (listOf st) s) (insert s (listOf st)) (entering s)
+enter-made st s w sound done =
     let e = enters (listOf st) s done in
-    edited st a b (record { number = s .number; stood = false; spell = s }) (enterRefusal (listOf st) s) (insert s (listOf st)) w made push places rooms
+    edited st (enterRefusal (listOf st) s) (insert s (listOf st)) (entering s) w
     (good-insert s (listOf st) (w .good) sound (e .free) (e .room))
     (unfold undo in remove-insert s (listOf st) (e .free))
     done
@@ -48,51 +50,56 @@ enter-made st s a b w sound done made push places rooms =
 -- ---- Strike and amend: the spell that stands at p goes
 
 module _ (st : Standing) (w : Wf st) (k p : ℕ) (e : p ≡ indexOf k (listOf st)) (h : p < st .count) where
-  -- the entry that puts the spell back
-  abbrev entry : Undo
-  entry = record { number = k; stood = true; spell = getD (st .spells) p blank }
+  there : stands (listOf st) k ≡ true
+  there = found (listOf st) (st .count) k p (list-length st w) e h
 
-  put-back : insert (getD (st .spells) p blank) (remove k (listOf st)) ≡ listOf st
-  put-back =
-      ap (λ (x : Spell). insert x (remove k (listOf st))) (sym (getD-take (st .count) (st .spells) p blank h) ∙ ap (λ (i : ℕ). getD (listOf st) i blank) e)
-      ∙ insert-remove k (listOf st) (w .good .in-order) (found (listOf st) (st .count) k p (list-length st w) e h)
+  -- the entry as the code makes it
+  entry-is : record { number = k; stood = true; spell = getD (st .spells) p blank } ≡ replacing k (listOf st)
+  entry-is = rw (← getD-take (st .count) (st .spells) p blank h, e)
 
-  pub strike-made : (a b : Standing) → Relisted st (take p (listOf st) ++ drop (suc p) (listOf st)) a → Pushed a entry b
-      → length (b .spells) ≡ 1024 → length (b .journal) ≡ 64
-      → Edits st (record { standing = b; refusal = accepted }) (strikeRefusal (listOf st) k) (remove k (listOf st))
-  strike-made a b made push places rooms =
-      let there = found (listOf st) (st .count) k p (list-length st w) e h in
-      edited st a b entry (strikeRefusal (listOf st) k) (remove k (listOf st)) w (removed-is st a k p e made) push places rooms
+  put-back : insert (replacing k (listOf st) .spell) (remove k (listOf st)) ≡ listOf st
+  put-back = insert-remove k (listOf st) (w .good .in-order) there
+
+  pub strike-made : Edits st
+      (record { standing = over st (take p (listOf st) ++ drop (suc p) (listOf st)) (noted (record { number = k; stood = true; spell = getD (st .spells) p blank }) (entries st)); refusal = accepted })
+      (strikeRefusal (listOf st) k)
+      (remove k (listOf st))
+      (replacing k (listOf st))
+  strike-made =
+      rw (removed-is k p (listOf st) e, entry-is)
+      (edited st (strikeRefusal (listOf st) k) (remove k (listOf st)) (replacing k (listOf st)) w
       (good-remove k (listOf st) (w .good) there)
       (unfold undo in rw (remove-none k (remove k (listOf st)) (removed-gone k (listOf st) (w .good .unique))) put-back)
-      (unfold strikeRefusal in rw there)
+      (unfold strikeRefusal in rw there))
 
 pub strike-unknown : (st : Standing) (w : Wf st) (k p : ℕ) → p ≡ indexOf k (listOf st) → st .count ≤ p
-    → Edits st (record { standing = st; refusal = unknownNumber }) (strikeRefusal (listOf st) k) (remove k (listOf st))
+    → Edits st (record { standing = st; refusal = unknownNumber }) (strikeRefusal (listOf st) k) (remove k (listOf st)) (replacing k (listOf st))
 strike-unknown st w k p e h =
-    refused st unknownNumber (strikeRefusal (listOf st) k) (remove k (listOf st)) w (λ z. omega arith) (strike-refusal (listOf st) (st .count) k p (list-length st w) e h)
+    refused st unknownNumber (strikeRefusal (listOf st) k) (remove k (listOf st)) (replacing k (listOf st)) w (λ z. omega arith) (strike-refusal (listOf st) (st .count) k p (list-length st w) e h)
 
 -- the removal leaves room for the insertion
-pub amend-room : (st : Standing) (p : ℕ) (a : Standing) → Wf st → p < st .count → Relisted st (take p (listOf st) ++ drop (suc p) (listOf st)) a → a .count < 1024
-amend-room st p a w h gone =
-    omega (arith, gone .counted, length-append (take p (listOf st)) (drop (suc p) (listOf st)), length-take p (listOf st), length-drop (suc p) (listOf st), list-length st w, w .count-in)
+pub amend-room : (st : Standing) (p : ℕ) → Wf st → p < st .count → length (take p (listOf st) ++ drop (suc p) (listOf st)) < 1024
+amend-room st p w h =
+    omega (arith, length-append (take p (listOf st)) (drop (suc p) (listOf st)), length-take p (listOf st), length-drop (suc p) (listOf st), list-length st w, w .count-in)
 
-pub amend-made : (st : Standing) (s : Spell) (w : Wf st) (p : ℕ) (a b d : Standing) (e : p ≡ indexOf (s .number) (listOf st)) (h : p < st .count) → Sound s
+pub amend-made : (st : Standing) (s : Spell) (w : Wf st) (p : ℕ) (e : p ≡ indexOf (s .number) (listOf st)) (h : p < st .count) → Sound s
     → amendRefusal (listOf st) s ≡ accepted
-    → Relisted st (take p (listOf st) ++ drop (suc p) (listOf st)) a → Relisted a (insert s (listOf a)) b
-    → Pushed b (entry st w (s .number) p e h) d → length (d .spells) ≡ 1024 → length (d .journal) ≡ 64
-    → Edits st (record { standing = d; refusal = accepted }) (amendRefusal (listOf st) s) (replace s (listOf st))
-amend-made st s w p a b d e h sound done gone put push places rooms =
+    → let m = relisted st (take p (listOf st) ++ drop (suc p) (listOf st)) in
+    Edits st (record { standing = over m (insert s (listOf m)) (noted (record { number = s .number; stood = true; spell = getD (st .spells) p blank }) (entries st)); refusal = accepted })
+    (amendRefusal (listOf st) s)
+    (replace s (listOf st))
+    (replacing (s .number) (listOf st))
+amend-made st s w p e h sound done =
     let k = s .number in
     let less = remove k (listOf st) in
     let there = amends (listOf st) s done .there in
     let free = removed-gone k (listOf st) (w .good .unique) in
-    let out = removed-is st a k p e gone in
-    let put′ : Relisted a (insert s less) b = rw (out .listed) at put in
-    edited st b d (entry st w k p e h) (amendRefusal (listOf st) s) (insert s less) w (relisted st a b less (insert s less) out put′) push places rooms
+    let es = noted (replacing k (listOf st)) (entries st) in
+    rw (removed-is k p (listOf st) e, entry-is st w k p e h, list-over st less es, over-relisted st less (insert s less) es (omega (arith, length-insert s less)))
+    (edited st (amendRefusal (listOf st) s) (insert s less) (replacing k (listOf st)) w
     (good-insert s less (good-remove k (listOf st) (w .good) there) sound free (omega (arith, length-remove k (listOf st) there, w .good .few)))
     (unfold undo in rw (remove-insert s less free) (put-back st w k p e h))
-    done
+    done)
 
 -- ---- Take back
 
@@ -126,6 +133,10 @@ no-past : (l : List Spell) → pastOf l [] ≡ []
 unfolding pastOf
 no-past l = refl
 
+-- the list l and the entries es are what a take back leaves
+after-is : (st : Standing) (l : List Spell) (es : List Undo) → l ≡ frontOr (listOf st) (pasts st) → es ≡ drop 1 (entries st) → over st l es ≡ afterTakeBack st
+after-is st l es p q = ap (λ (x : List Spell). over st x es) p ∙ ap (over st (frontOr (listOf st) (pasts st))) q
+
 pub takes-none : (st : Standing) → Wf st → st .depth ≡ 0 → TakesBack st (record { standing = st; refusal = noHistory })
 takes-none st w z =
     let none : pasts st ≡ [] = rw z (no-past (listOf st)) in
@@ -135,6 +146,7 @@ takes-none st w z =
       list = list-none (listOf st) (pasts st) none;
       past = past-none (listOf st) (pasts st) none;
       kept = λ _. refl;
+      whole = sym (over-same st w) ∙ after-is st (listOf st) (entries st) (list-none (listOf st) (pasts st) none) (rw z);
     }
 
 -- the journal without its newest entry
@@ -148,74 +160,98 @@ module _ (st : Standing) (w : Wf st) (some : st .depth ≡ 0 → ⊥) where
   abbrev front : List Spell
   front = undo newest (listOf st)
 
-  abbrev rest : List (List Spell)
-  rest = pastOf front (entries (lowered st))
+  abbrev rest : List Undo
+  rest = entries (lowered st)
 
-  past-is : pasts st ≡ front ∷ rest
+  entries-are : entries st ≡ newest ∷ rest
+  entries-are = pop (st .journal) (st .depth) (omega (arith, w .rooms, w .depth-in)) some
+
+  past-is : pasts st ≡ front ∷ pastOf front rest
   unfolding pastOf
-  past-is = rw (pop (st .journal) (st .depth) (omega (arith, w .rooms, w .depth-in)) some)
+  past-is = rw entries-are
 
   -- the front of the past can stand
-  front-good : Good front × Goods rest
+  front-good : Good front × Goods (pastOf front rest)
   unfolding Goods
   front-good = rw past-is at (w .goods)
 
-  pub takes-back : (b : Standing) → Relisted (lowered st) front b → length (b .spells) ≡ 1024 → length (b .journal) ≡ 64
-      → TakesBack st (record { standing = b; refusal = accepted })
-  takes-back b made places rooms =
-      let past : pasts b ≡ rest = rw (made .listed, made .depth, made .journal) in
+  -- the list l with the entries but the newest, as the code makes it
+  lowered-is : (l : List Spell) → relisted (lowered st) l ≡ over st l rest
+  lowered-is l =
+      let d = st .depth - 1 in
+      let fits : d ≤ length (st .journal) = omega (arith, w .rooms, w .depth-in) in
+      same refl refl
+      (sym (ap (λ (j : List Undo). onto j (st .journal)) (reverse-reverse (take d (st .journal))) ∙ onto-same d (st .journal) fits))
+      (sym (length-reverse (take d (st .journal)) ∙ length-take-le d (st .journal) fits))
+
+  takes-back : TakesBack st (record { standing = relisted (lowered st) front; refusal = accepted })
+  takes-back =
+      let is = lowered-is front in
+      let wf = wf-over st front rest w (front-good .0) (omega (arith, length-reverse (take (st .depth - 1) (st .journal)), length-take (st .depth - 1) (st .journal), w .depth-in)) (front-good .1) in
       record {
-        refusal = refusal-some (listOf st) front (pasts st) rest past-is;
-        wf = record {
-          places = places;
-          rooms = rooms;
-          count-in = omega (arith, made .counted, front-good .0 .few);
-          depth-in = omega (arith, made .depth, w .depth-in);
-          good = rw (made .listed) (front-good .0);
-          goods = rw past (front-good .1);
-        };
-        list = made .listed ∙ list-some (listOf st) front (pasts st) rest past-is;
-        past = past ∙ past-some (listOf st) front (pasts st) rest past-is;
+        refusal = refusal-some (listOf st) front (pasts st) (pastOf front rest) past-is;
+        wf = rw is wf;
+        list = list-over st front rest ∙ list-some (listOf st) front (pasts st) (pastOf front rest) past-is;
+        past = ap pasts is ∙ past-over st front rest ∙ past-some (listOf st) front (pasts st) (pastOf front rest) past-is;
         kept = λ none. absurd (never none);
+        whole = is ∙ after-is st front rest (list-some (listOf st) front (pasts st) (pastOf front rest) past-is) (sym (ap (drop 1) entries-are));
       }
     where
       never : pasts st ≡ [] → ⊥
       never none = omega (arith, ap length (sym past-is ∙ none))
 
+  abbrev less : List Spell
+  less = remove (newest .number) (listOf st)
+
   -- the edit was an entry: its number's spell goes
-  pub undo-entered : (a : Standing) → newest .stood ≡ false → Relisted st (remove (newest .number) (listOf st)) a → Relisted (lowered st) front (record { spells = a .spells; count = a .count; journal = a .journal; depth = st .depth - 1 })
-  undo-entered a e h =
-      let is : front ≡ remove (newest .number) (listOf st) = unfold undo in rw e in
-      rw is (record { listed = h .listed; counted = h .counted; journal = h .journal; depth = refl })
+  pub undo-entered : newest .stood ≡ false → TakesBack st (record { standing = relisted (lowered st) less; refusal = accepted })
+  undo-entered e =
+      let is : front ≡ less = unfold undo in rw e in
+      rw (← is) takes-back
+
+  undo-is : newest .stood ≡ true → front ≡ insert (newest .spell) less
+  unfolding undo
+  undo-is e = rw e
 
   -- there is room for the spell that stood before
-  pub undo-room : (a : Standing) → newest .stood ≡ true → Relisted st (remove (newest .number) (listOf st)) a → a .count < 1024
-  undo-room a e h =
-      let is : front ≡ insert (newest .spell) (remove (newest .number) (listOf st)) = unfold undo in rw e in
-      omega (arith, h .counted, length-insert (newest .spell) (remove (newest .number) (listOf st)), rw is at (front-good .0 .few))
+  pub undo-room : newest .stood ≡ true → length less < 1024
+  undo-room e = omega (arith, length-insert (newest .spell) less, rw (undo-is e) at (front-good .0 .few))
 
-  pub undo-stood : (a b : Standing) → newest .stood ≡ true → Relisted st (remove (newest .number) (listOf st)) a
-      → Relisted (record { spells = a .spells; count = a .count; journal = a .journal; depth = st .depth - 1 }) (insert (newest .spell) (listOf a)) b
-      → Relisted (lowered st) front b
-  undo-stood a b e h put =
-      let is : front ≡ insert (newest .spell) (remove (newest .number) (listOf st)) = unfold undo in rw e in
-      let put′ = rw (h .listed) at put in
-      rw is (record { listed = put′ .listed; counted = put′ .counted; journal = put .journal ∙ h .journal; depth = put .depth })
+  pub undo-stood : newest .stood ≡ true
+      → let a = relisted (lowered st) less in TakesBack st (record { standing = relisted a (insert (newest .spell) (listOf a)); refusal = accepted })
+  undo-stood e =
+      let l = insert (newest .spell) less in
+      let twice : relisted (relisted (lowered st) less) l ≡ relisted (lowered st) front = same (onto-twice less l (st .spells) (omega (arith, length-insert (newest .spell) less)) ∙ rw (undo-is e)) (rw (undo-is e)) refl refl in
+      rw (list-over (lowered st) less rest, twice) takes-back
 
 -- ---- A standing list with no past
-
-pub begun-wf : (a : List Spell) (j : List Undo) (n : ℕ) → length a ≡ 1024 → length j ≡ 64 → n ≤ 1024 → Good (take n a)
-    → Wf (record { spells = a; count = n; journal = j; depth = 0 })
-unfolding pastOf Goods
-begun-wf a j n places rooms few good = record { places = places; rooms = rooms; count-in = few; depth-in = omega arith; good = good; goods = tt }
-
-pub begun-past : (a : List Spell) (j : List Undo) (n : ℕ) → pasts (record { spells = a; count = n; journal = j; depth = 0 }) ≡ []
-unfolding pastOf
-begun-past a j n = refl
 
 pub good-none : Good []
 unfolding ordered distinct Each
 good-none = record { each = tt; in-order = refl; unique = refl; few = omega arith }
 
-pub fresh-is : (a : List Spell) (j : List Undo) → length a ≡ 1024 → length j ≡ 64 → Fresh (record { spells = a; count = 0; journal = j; depth = 0 })
-fresh-is a j places rooms = record { wf = begun-wf a j 0 places rooms (omega arith) good-none; list = refl; past = begun-past a j 0 }
+no-goods : (l : List Spell) → Goods (pastOf l [])
+unfolding pastOf Goods
+no-goods l = tt
+
+pub fresh-is : Fresh freshStanding
+fresh-is = record {
+  wf = record {
+    places = length-replicate 1024 blank;
+    rooms = length-replicate 64 blankEntry;
+    count-in = omega arith;
+    depth-in = omega arith;
+    good = good-none;
+    goods = no-goods [];
+  };
+  list = refl;
+  past = no-past [];
+  whole = refl;
+}
+
+-- a good list over a fresh start
+pub begun-wf : (l : List Spell) → Good l → Wf (over freshStanding l [])
+begun-wf l good = wf-over freshStanding l [] (fresh-is .wf) good (omega arith) (no-goods l)
+
+pub begun-past : (l : List Spell) → pasts (over freshStanding l []) ≡ []
+begun-past l = past-over freshStanding l [] ∙ no-past l

@@ -12,6 +12,7 @@ use Rattle.packing.specs.Blocks.{Every}
 use Rattle.packing.specs.Words.{Narrow, spellWords, spellOf}
 use Rattle.packing.proofs.Blocks.{every-map}
 use Rattle.packing.proofs.Words.{spell-back}
+use Rattle.standing.specs.declared.Undo.{Undo}
 use Rattle.standing.specs.declared.Standing.{Standing}
 use Rattle.standing.specs.declared.Edited.{Edited}
 use Rattle.standing.specs.Standing.{listOf, entries, pasts, Wf, Edits, TakesBack}
@@ -24,7 +25,7 @@ use Rattle.standing.proofs.Calls.{refusal-some, list-some, past-some}
 pub past-short : (st : Standing) → Wf st → length (pasts st) ≤ 64
 past-short st w = omega (arith, length-past (listOf st) (entries st), length-reverse (take (st .depth) (st .journal)), length-take (st .depth) (st .journal), w .depth-in)
 
-module _ (st : Standing) (r : Edited) (n : ℕ) (l′ : List Spell) (e : Edits st r n l′) where
+module _ (st : Standing) (r : Edited) (n : ℕ) (l′ : List Spell) (u : Undo) (e : Edits st r n l′ u) where
   -- a refused edit changes nothing
   pub unchanged : (n ≡ accepted → ⊥) → r .standing ≡ st
   unchanged h = e .kept (ne-eqb n accepted h)

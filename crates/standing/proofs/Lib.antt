@@ -1,4 +1,5 @@
 pub mod Lists
+pub mod Places
 pub mod Search
 pub mod Edits
 pub mod Checks
@@ -9,3 +10,4 @@ pub mod Rows
 pub mod Claims
 pub mod Loading
 pub mod Packed
+pub mod Cases

@@ -1,14 +1,14 @@
 -- The past as the journal gives it, and an edit that is pushed on it. Assumes nothing.
 use mathlib.Core.Path.{_≡_, refl, sym, ap, _∙_}
 use mathlib.Core.Bool.{false}
-use mathlib.Core.List.{List, [], _∷_, _++_, reverse, reverse-cons, reverse-append}
+use mathlib.Core.List.{List, [], _∷_, _++_, reverse, reverse-cons, reverse-append, reverse-reverse}
 use Prim.Native.Nat.{ℕ, zero, suc, _+_, _-_, _≤_, _<_}
 use native.Mathlib.Numerals.{add-one}
 use native.Mathlib.Omega.{arith}
 use borrow.Author.Tests.{ne-eqb, eqb-false}
 use lib.Dec.{eqb}
-use lib.ListN.{length, getD, take, drop, set, length-reverse, length-take}
-use lib.Seq.{take-suc, take-all, take-at, take-suc-set, length-take-le}
+use lib.ListN.{length, getD, take, drop, set, length-reverse, length-take, length-set, drop-of-length-le}
+use lib.Seq.{take-suc, take-all, take-at, take-suc-set, drop-set-lt, length-take-le}
 use Rattle.refusal.specs.Table.{accepted}
 use Rattle.spell.specs.declared.Spell.{Spell}
 use Rattle.spell.specs.Listing.{Good}
@@ -16,13 +16,9 @@ use Rattle.model.specs.Edits.{remember}
 use Rattle.standing.specs.declared.Undo.{Undo}
 use Rattle.standing.specs.declared.Standing.{Standing}
 use Rattle.standing.specs.Standing.{listOf, entries, undo, pastOf, pasts, Goods, Wf, Edits}
-use Rattle.standing.specs.Search.{Relisted, Pushed}
-use Rattle.standing.proofs.Lists.{closed, closed-length, close-take}
-use Rattle.standing.proofs.Search.{blank}
-
--- what the checker takes for an entry past the end
-abbrev pub blankEntry : Undo
-blankEntry = record { number = 0; stood = false; spell = blank }
+use Rattle.standing.specs.Places.{onto, rejournaled, over, blankEntry, noted}
+use Rattle.standing.proofs.Lists.{front, closed, front-length, closed-length}
+use Rattle.standing.proofs.Places.{onto-is, same, list-over, past-over, wf-over}
 
 -- ---- The past
 
@@ -53,11 +49,27 @@ past-pushed e l l′ es back = sym (past-take 64 l′ (e ∷ es)) ∙ rw back re
 reverse-more : (j : List Undo) (e : Undo) → reverse (j ++ (e ∷ [])) ≡ e ∷ reverse j
 reverse-more j e = reverse-append j (e ∷ [])
 
+-- the journal b has the entries es in its first m places, and later places as j has them
+module _ (j b : List Undo) (m : ℕ) (es : List Undo) (h : m ≤ length b) (first : reverse (take m b) ≡ es) where
+  journal-is : drop m b ≡ drop m j → b ≡ onto (reverse es) j
+  journal-is rest = onto-is (reverse es) j b m h (sym (reverse-reverse (take m b)) ∙ ap reverse first) rest
+
+  depth-is : m ≡ length es
+  depth-is = sym (length-take-le m b h) ∙ sym (length-reverse (take m b)) ∙ ap length first
+
 -- room for one more
-pub push-room : (j : List Undo) (d : ℕ) (e : Undo) → length j ≡ 64 → d < 64 → reverse (take (d + 1) (set j d e)) ≡ take 64 (e ∷ reverse (take d j))
-push-room j d e long h =
+pub push-room : (st : Standing) (e : Undo) → length (st .journal) ≡ 64 → st .depth < 64
+    → record { spells = st .spells; count = st .count; journal = set (st .journal) (st .depth) e; depth = st .depth + 1 } ≡ rejournaled st (noted e (entries st))
+push-room st e long h =
+    let j = st .journal in
+    let d = st .depth in
     let short : length (reverse (take d j)) ≤ 63 = omega (arith, length-reverse (take d j), length-take d j) in
-    rw (add-one, take-suc-set j d e (omega arith), reverse-more) (sym (take-all 64 (e ∷ reverse (take d j)) (omega arith)))
+    let fits : d + 1 ≤ length (set j d e) = omega (arith, length-set j d e) in
+    let newest : reverse (take (d + 1) (set j d e)) ≡ noted e (reverse (take d j)) =
+    rw (add-one, take-suc-set j d e (omega arith), reverse-more) (sym (take-all 64 (e ∷ reverse (take d j)) (omega arith))) in
+    same refl refl
+    (journal-is j (set j d e) (d + 1) (noted e (entries st)) fits newest (drop-set-lt (d + 1) j d e (omega arith)))
+    (depth-is j (set j d e) (d + 1) (noted e (entries st)) fits newest)
 
 -- the newest n of n + 1 entries: those without the oldest
 drop-oldest : (j : List Undo) (n : ℕ) → length j ≡ suc n → take n (reverse j) ≡ reverse (drop 1 j)
@@ -68,13 +80,25 @@ drop-oldest [] n h = absurd (none h)
 drop-oldest (e ∷ j) n h = rw (reverse-cons e j) (take-at (reverse j) (e ∷ []) n (omega (arith, length-reverse j)))
 
 -- no room: the oldest goes
-pub push-full : (j a : List Undo) (d : ℕ) (e : Undo) → length j ≡ 64 → d ≡ 64 → a ≡ closed 0 63 j
-    → reverse (take d (set a 63 e)) ≡ take 64 (e ∷ reverse (take d j))
-push-full j a d e long full shut =
+push-newest : (j a : List Undo) (e : Undo) → length j ≡ 64 → a ≡ closed 0 63 j → reverse (take 64 (set a 63 e)) ≡ noted e (reverse (take 64 j))
+unfolding closed front
+push-newest j a e long shut =
     let long′ : length a ≡ length j = rw shut (closed-length 0 63 j (omega arith) (omega arith)) in
-    let moved : take 63 a ≡ drop 1 (take 64 j) = rw shut (close-take 0 63 64 j (omega arith) refl (omega arith)) in
-    rw (full, take-suc-set a 63 e (omega arith), reverse-more, moved)
+    let moved : take 63 a ≡ drop 1 (take 64 j) = rw shut (take-at (front 0 63 j) (drop 63 j) 63 (front-length 0 63 j (omega arith) (omega arith))) in
+    rw (take-suc-set a 63 e (omega arith), reverse-more, moved)
     (ap (λ (r : List Undo). e ∷ r) (sym (drop-oldest (take 64 j) 63 (length-take-le 64 j (omega arith)))))
+
+pub push-full : (st a : Standing) (e : Undo) → length (st .journal) ≡ 64 → st .depth ≡ 64 → a .journal ≡ closed 0 63 (st .journal)
+    → a .spells ≡ st .spells → a .count ≡ st .count → a .depth ≡ st .depth
+    → record { spells = a .spells; count = a .count; journal = set (a .journal) 63 e; depth = a .depth } ≡ rejournaled st (noted e (entries st))
+push-full st a e long full shut spells count depth =
+    let j = st .journal in
+    let b = set (a .journal) 63 e in
+    let long′ : length b ≡ 64 = length-set (a .journal) 63 e ∙ rw shut (closed-length 0 63 j (omega arith) (omega arith)) ∙ long in
+    let newest : reverse (take 64 b) ≡ noted e (entries st) = rw full (push-newest j (a .journal) e long shut) in
+    same spells count
+    (journal-is j b 64 (noted e (entries st)) (omega arith) newest (drop-of-length-le b {i = 64} (omega arith) ∙ sym (drop-of-length-le j {i = 64} (omega arith))))
+    (depth ∙ full ∙ depth-is j b 64 (noted e (entries st)) (omega arith) newest)
 
 -- the newest entry, and those before it
 pub pop : (j : List Undo) (d : ℕ) → d ≤ length j → (d ≡ 0 → ⊥) → reverse (take d j) ≡ getD j (d - 1) blankEntry ∷ reverse (take (d - 1) j)
@@ -85,36 +109,26 @@ pop j (suc d) h some =
 
 -- ---- Edits
 
-pub relisted : (st a b : Standing) (m l : List Spell) → Relisted st m a → Relisted a l b → Relisted st l b
-relisted st a b m l p q =
-    record { listed = q .listed; counted = q .counted; journal = q .journal ∙ p .journal; depth = q .depth ∙ p .depth }
-
 -- a refused edit
-pub refused : (st : Standing) (k n : ℕ) (l′ : List Spell) → Wf st → (k ≡ accepted → ⊥) → n ≡ k → Edits st (record { standing = st; refusal = k }) n l′
-refused st k n l′ w differ e =
-    let no : eqb n accepted ≡ false = ne-eqb n accepted (λ z. differ (sym e ∙ z)) in
-    record { refusal = sym e; wf = w; list = rw no; past = rw no; kept = λ _. refl }
+pub refused : (st : Standing) (k n : ℕ) (l′ : List Spell) (e : Undo) → Wf st → (k ≡ accepted → ⊥) → n ≡ k → Edits st (record { standing = st; refusal = k }) n l′ e
+refused st k n l′ e w differ is =
+    let no : eqb n accepted ≡ false = ne-eqb n accepted (λ z. differ (sym is ∙ z)) in
+    record { refusal = sym is; wf = w; list = rw no; past = rw no; kept = λ _. refl; whole = rw no }
 
--- an edit that is made: the list has become l′, and the entry pushed takes it back
-pub edited : (st a b : Standing) (e : Undo) (n : ℕ) (l′ : List Spell) → Wf st → Relisted st l′ a → Pushed a e b → length (b .spells) ≡ 1024 → length (b .journal) ≡ 64
-    → Good l′ → undo e l′ ≡ listOf st → n ≡ accepted → Edits st (record { standing = b; refusal = accepted }) n l′
-edited st a b e n l′ w made push long rooms good back done =
-    let list : listOf b ≡ l′ = rw (push .count, push .spells) (made .listed) in
-    let before : entries a ≡ entries st = rw (made .depth, made .journal) in
-    let past : pasts b ≡ remember (listOf st) (pasts st) = rw (list, push .newest, before) (past-pushed e (listOf st) l′ (entries st) back) in
+-- an edit that is made: the entry noted takes the list l′ back
+pub edited : (st : Standing) (n : ℕ) (l′ : List Spell) (e : Undo) → Wf st → Good l′ → undo e l′ ≡ listOf st → n ≡ accepted
+    → Edits st (record { standing = over st l′ (noted e (entries st)); refusal = accepted }) n l′ e
+edited st n l′ e w good back done =
+    let es = noted e (entries st) in
+    let past : pastOf l′ es ≡ remember (listOf st) (pasts st) = past-pushed e (listOf st) l′ (entries st) back in
+    let goods : Goods (pastOf l′ es) = rw past (unfold remember Goods in goods-take 64 (listOf st ∷ pasts st) (w .good, w .goods)) in
     record {
       refusal = sym done;
-      wf = record {
-        places = long;
-        rooms = rooms;
-        count-in = omega (arith, push .count, made .counted, good .few);
-        depth-in = push .depth-in;
-        good = rw list good;
-        goods = rw past (unfold remember Goods in goods-take 64 (listOf st ∷ pasts st) (w .good, w .goods));
-      };
-      list = rw done list;
-      past = rw done past;
+      wf = wf-over st l′ es w good (omega (arith, length-take 64 (e ∷ entries st))) goods;
+      list = rw done (list-over st l′ es);
+      past = rw done (past-over st l′ es ∙ past);
       kept = λ r. absurd (never r);
+      whole = rw done;
     }
   where
     never : eqb n accepted ≡ false → ⊥

@@ -7,8 +7,8 @@ use native.Mathlib.Omega.{arith}
 use lib.ListN.{length, getD, take, drop, set, length-set, length-map}
 use lib.Seq.{take-suc, drop-cons, set-at, append-snoc, length-take-le}
 use Rattle.spell.specs.declared.Spell.{Spell}
+use Rattle.register.specs.Answers.{blank}
 use Rattle.standing.specs.Standing.{columnOf}
-use Rattle.standing.proofs.Search.{blank}
 
 -- ---- A column is laid out place by place
 

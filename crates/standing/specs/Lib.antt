@@ -1,3 +1,4 @@
 pub mod Standing
 pub mod Search
+pub mod Places
 pub mod Packed

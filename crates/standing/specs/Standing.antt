@@ -13,6 +13,7 @@ use Rattle.standing.specs.declared.Undo.{Undo}
 use Rattle.standing.specs.declared.Standing.{Standing}
 use Rattle.standing.specs.declared.Edited.{Edited}
 use Rattle.standing.specs.declared.Loaded.{Loaded}
+use Rattle.standing.specs.Places.{over, freshStanding, noted}
 use Rattle.register.specs.Text.{Register}
 use Rattle.model.specs.Model.{begun, refusalIn, lineIn}
 
@@ -55,19 +56,25 @@ pub record Wf (st : Standing) : Type 0 where
 
 -- ---- What each call gives
 
--- a fresh start: nothing stands, and there is no past
+-- a fresh start: nothing stands, and there is no past; every place is blank
 pub record Fresh (r : Standing) : Type 0 where
   pub wf : Wf r
   pub list : listOf r ≡ []
   pub past : pasts r ≡ []
+  pub whole : r ≡ freshStanding
+
+-- all places after an edit that is refused with the number n, or, at 0, makes the standing list l′ and notes the entry e
+abbrev pub afterEdit : Standing → ℕ → List Spell → Undo → Standing
+afterEdit st n l′ e = cond (eqb n accepted) (over st l′ (noted e (entries st))) st
 
 -- an edit that is refused with the number n and changes nothing, or, at 0, makes the standing list l′ and remembers the former one
-pub record Edits (st : Standing) (r : Edited) (n : ℕ) (l′ : List Spell) : Type 0 where
+pub record Edits (st : Standing) (r : Edited) (n : ℕ) (l′ : List Spell) (e : Undo) : Type 0 where
   pub refusal : r .refusal ≡ n
   pub wf : Wf (r .standing)
   pub list : listOf (r .standing) ≡ cond (eqb n accepted) l′ (listOf st)
   pub past : pasts (r .standing) ≡ cond (eqb n accepted) (remember (listOf st) (pasts st)) (pasts st)
   pub kept : eqb n accepted ≡ false → r .standing ≡ st
+  pub whole : r .standing ≡ afterEdit st n l′ e
 
 -- the front of the past, or the standing list where there is no past
 unfoldable pub frontOr : List Spell → List (List Spell) → List Spell
@@ -79,6 +86,10 @@ unfoldable pub restOf : List (List Spell) → List (List Spell)
 restOf [] = []
 restOf (p ∷ past) = past
 
+-- all places after a take back: the newest entry goes
+abbrev pub afterTakeBack : Standing → Standing
+afterTakeBack st = over st (frontOr (listOf st) (pasts st)) (drop 1 (entries st))
+
 -- take back: the standing list becomes the front of the past, which loses it
 pub record TakesBack (st : Standing) (r : Edited) : Type 0 where
   pub refusal : r .refusal ≡ takeBackRefusal (pasts st)
@@ -86,8 +97,13 @@ pub record TakesBack (st : Standing) (r : Edited) : Type 0 where
   pub list : listOf (r .standing) ≡ frontOr (listOf st) (pasts st)
   pub past : pasts (r .standing) ≡ restOf (pasts st)
   pub kept : pasts st ≡ [] → r .standing ≡ st
+  pub whole : r .standing ≡ afterTakeBack st
 
 -- ---- The register text
+
+-- all places after a reading: the list with which the account begins, over a fresh start
+abbrev pub afterReading : Register → Standing
+afterReading g = over freshStanding (begun g .standing) []
 
 -- a reading: the standing list and the past with which the account begins, the refusal's number and its line
 pub record Loads (g : Register) (r : Loaded) : Type 0 where
@@ -96,6 +112,7 @@ pub record Loads (g : Register) (r : Loaded) : Type 0 where
   pub past : pasts (r .standing) ≡ begun g .past
   pub refusal : r .refusal ≡ refusalIn g
   pub line : r .line ≡ lineIn g
+  pub whole : r .standing ≡ afterReading g
 
 -- ---- The columns that publish reads
 

@@ -6,10 +6,11 @@ ghost use Prim.Native.Nat.{suc, _≤_, _<_};
 ghost use lib.ListN.{length, take, drop};
 ghost use Rattle.model.specs.Edits.{insert, remove, replace, orElse, enterRefusal, amendRefusal, strikeRefusal};
 ghost use Rattle.refusal.specs.Table.{accepted};
-ghost use Rattle.standing.specs.Search.{placeOf, indexOf, Relisted, Pushed};
+ghost use Rattle.standing.specs.Search.{placeOf, indexOf};
+ghost use Rattle.standing.specs.Places.{relisted, rejournaled, entering, replacing, noted};
 ghost use Rattle.register.specs.Text.{readText, writeAll};
 ghost use Rattle.register.specs.Answers.{Writes};
-ghost use Rattle.standing.specs.Standing.{Loads, listOf, Wf, Fresh, Edits, TakesBack, LaidOut};
+ghost use Rattle.standing.specs.Standing.{Loads, listOf, entries, Wf, Fresh, Edits, TakesBack, LaidOut};
 use refusal::ACCEPTED;
 use refusal::DUPLICATE_NUMBER;
 use refusal::FULL;
@@ -107,7 +108,7 @@ fn find(st: Standing, k: u16) -> usize
 // s put in at its place: the spells from there on move up by one.
 fn inserted(st: Standing, s: Spell) -> Standing
     requires { ⌜ st .count < 1024 ⌝ }
-    ensures { λ r. ⌜ Relisted st (insert s (listOf st)) r ⌝ }
+    ensures { λ r. ⌜ r ≡ relisted st (insert s (listOf st)) ⌝ }
 {
     let p = place(st, s);
     let mut a = st;
@@ -127,7 +128,7 @@ fn inserted(st: Standing, s: Spell) -> Standing
 fn removed_at(st: Standing, p: usize) -> Standing
     requires { ⌜ st .count ≤ 1024 ⌝ }
     requires { ⌜ p < st .count ⌝ }
-    ensures { λ r. ⌜ Relisted st (take p (listOf st) ++ drop (suc p) (listOf st)) r ⌝ }
+    ensures { λ r. ⌜ r ≡ relisted st (take p (listOf st) ++ drop (suc p) (listOf st)) ⌝ }
 {
     let mut a = st;
     let n = a.count;
@@ -144,7 +145,7 @@ fn removed_at(st: Standing, p: usize) -> Standing
 // The spell of the number k taken out, where it stands.
 fn removed(st: Standing, k: u16) -> Standing
     requires { ⌜ st .count ≤ 1024 ⌝ }
-    ensures { λ r. ⌜ Relisted st (remove k (listOf st)) r ⌝ }
+    ensures { λ r. ⌜ r ≡ relisted st (remove k (listOf st)) ⌝ }
 {
     let p = find(st, k);
     let n = st.count;
@@ -159,7 +160,7 @@ fn removed(st: Standing, k: u16) -> Standing
 // The entry e put at the end. Where the journal is full, its oldest entry goes and the others move down by one.
 fn pushed(st: Standing, e: Undo) -> Standing
     requires { ⌜ st .depth ≤ 64 ⌝ }
-    ensures { λ r. ⌜ Pushed st e r ⌝ }
+    ensures { λ r. ⌜ r ≡ rejournaled st (noted e (entries st)) ⌝ }
 {
     let mut a = st;
     let d = a.depth;
@@ -205,7 +206,7 @@ fn first_of(a: u16, b: u16) -> u16
 // Put s in. Checks: 1 to 5, then 6, then 8.
 pub fn enter(st: Standing, s: Spell) -> Edited
     requires { ⌜ Wf st ⌝ }
-    ensures { λ r. ⌜ Edits st r (enterRefusal (listOf st) s) (insert s (listOf st)) ⌝ }
+    ensures { λ r. ⌜ Edits st r (enterRefusal (listOf st) s) (insert s (listOf st)) (entering s) ⌝ }
 {
     let n = st.count;
     let number = s.number;
@@ -234,7 +235,7 @@ pub fn enter(st: Standing, s: Spell) -> Edited
 // Replace the spell of s's number by s. Checks: 1 to 5, then 7.
 pub fn amend(st: Standing, s: Spell) -> Edited
     requires { ⌜ Wf st ⌝ }
-    ensures { λ r. ⌜ Edits st r (amendRefusal (listOf st) s) (replace s (listOf st)) ⌝ }
+    ensures { λ r. ⌜ Edits st r (amendRefusal (listOf st) s) (replace s (listOf st)) (replacing (s .number) (listOf st)) ⌝ }
 {
     let n = st.count;
     let number = s.number;
@@ -264,7 +265,7 @@ pub fn amend(st: Standing, s: Spell) -> Edited
 // Remove the spell of the number. Check: 7.
 pub fn strike(st: Standing, number: u16) -> Edited
     requires { ⌜ Wf st ⌝ }
-    ensures { λ r. ⌜ Edits st r (strikeRefusal (listOf st) number) (remove number (listOf st)) ⌝ }
+    ensures { λ r. ⌜ Edits st r (strikeRefusal (listOf st) number) (remove number (listOf st)) (replacing number (listOf st)) ⌝ }
 {
     let n = st.count;
     let p = find(st, number);

@@ -1,12 +1,12 @@
 use borrow.Author.Needs.{needs}
-use mathlib.Core.Path.{_≡_, _∙_}
+use mathlib.Core.Path.{_≡_, ap, _∙_}
 use Prim.Native.Nat.{_<_}
 use native.Mathlib.Omega.{arith}
-use lib.ListN.{length}
 use Rattle.refusal.specs.Table.{accepted}
 use Rattle.model.specs.Edits.{replace, amendRefusal}
+use Rattle.standing.specs.declared.Standing.{Standing}
 use Rattle.standing.specs.Standing.{listOf}
-use Rattle.standing.proofs.Lists.{unmapped}
+use Rattle.standing.specs.Places.{replacing}
 use Rattle.standing.proofs.Held.{sound}
 use Rattle.standing.proofs.Checks.{amend-refusal, amends, place-in}
 use Rattle.standing.proofs.Past.{refused}
@@ -45,7 +45,7 @@ returns : tie.Need-returns
 returns c =
     let start = c .before .before .before .before .before in
     let l = listOf (start .args .t1) in
-    refused (start .args .t1) (c .before .first-of .result) (amendRefusal l (start .args .s)) (replace (start .args .s) l) (start .pre) (c .if1 .taken) (checked (c .before))
+    refused (start .args .t1) (c .before .first-of .result) (amendRefusal l (start .args .s)) (replace (start .args .s) l) (replacing (start .args .s .number) l) (start .pre) (c .if1 .taken) (checked (c .before))
 
 mul-old : tie.Need-mul-old
 mul-old c = omega (arith, there c)
@@ -60,13 +60,12 @@ inserted-requires : tie.Need-inserted-requires
 inserted-requires c κs =
     let e1 = c .before .before in
     let found = e1 .before .before .before .before in
-    amend-room (found .before .args .t1) (found .find .result) (c .removed-at .result) (found .before .pre) (there e1) (c .removed-at .ensures)
+    omega (arith, ap (λ (r : Standing). r .count) (c .removed-at .ensures), amend-room (found .before .args .t1) (found .find .result) (found .before .pre) (there e1))
 
-places : (c : tie.After-pushed) → length (c .pushed .result .spells) ≡ 1024
-places c = search (unmapped, needs)
-
-rooms : (c : tie.After-pushed) → length (c .pushed .result .journal) ≡ 64
-rooms c = search (unmapped, needs)
+pushed-requires : tie.Need-pushed-requires
+pushed-requires c κs =
+    let gone = c .before in
+    rw (c .inserted .ensures, gone .removed-at .ensures) (gone .before .before .before .before .before .before .before .pre .depth-in)
 
 returns-2 : tie.Need-returns-2
 returns-2 c =
@@ -76,16 +75,8 @@ returns-2 c =
     let start = found .before in
     let st = start .args .t1 in
     let s = start .args .s in
-    amend-made st s (start .pre) (found .find .result) (gone .removed-at .result) (c .before .inserted .result) (c .pushed .result)
-    (found .find .ensures)
-    (there e1)
-    (sound s _ (start .good .1 .0) (amends (listOf st) s (passed e1) .passes))
-    (passed e1)
-    (gone .removed-at .ensures)
-    (c .before .inserted .ensures)
-    (c .pushed .ensures)
-    (places c)
-    (rooms c)
+    rw (c .pushed .ensures, c .before .inserted .ensures, gone .removed-at .ensures)
+    (amend-made st s (start .pre) (found .find .result) (found .find .ensures) (there e1) (sound s _ (start .good .1 .0) (amends (listOf st) s (passed e1) .passes)) (passed e1))
 
 pub amend-spec : {M : Type 1} → statement M
 amend-spec =
@@ -97,5 +88,5 @@ amend-spec =
     element-copy-out-old
     removed-at-requires
     inserted-requires
-    (λ c κs. search needs)
+    pushed-requires
     returns-2)

@@ -1,11 +1,10 @@
 use borrow.Author.Needs.{needs}
 use mathlib.Core.Path.{_≡_, _∙_}
 use native.Mathlib.Omega.{arith}
-use lib.ListN.{length}
 use Rattle.refusal.specs.Table.{accepted}
 use Rattle.model.specs.Edits.{insert, enterRefusal}
 use Rattle.standing.specs.Standing.{listOf}
-use Rattle.standing.proofs.Lists.{unmapped}
+use Rattle.standing.specs.Places.{entering}
 use Rattle.standing.proofs.Held.{sound}
 use Rattle.standing.proofs.Checks.{enter-refusal, enters}
 use Rattle.standing.proofs.Past.{refused}
@@ -42,7 +41,7 @@ returns : tie.Need-returns
 returns c =
     let start = c .before .before .before .before .before .before .before in
     let l = listOf (start .args .st) in
-    refused (start .args .st) (c .before .first-of2 .result) (enterRefusal l (start .args .s)) (insert (start .args .s) l) (start .pre) (c .if1 .taken) (checked (c .before))
+    refused (start .args .st) (c .before .first-of2 .result) (enterRefusal l (start .args .s)) (insert (start .args .s) l) (entering (start .args .s)) (start .pre) (c .if1 .taken) (checked (c .before))
 
 inserted-requires : tie.Need-inserted-requires
 inserted-requires c κs =
@@ -50,11 +49,10 @@ inserted-requires c κs =
     let st = start .args .st in
     omega (arith, list-length st (start .pre), enters (listOf st) (start .args .s) (passed c) .room)
 
-places : (c : tie.After-pushed) → length (c .pushed .result .spells) ≡ 1024
-places c = search (unmapped, needs)
-
-rooms : (c : tie.After-pushed) → length (c .pushed .result .journal) ≡ 64
-rooms c = search (unmapped, needs)
+pushed-requires : tie.Need-pushed-requires
+pushed-requires c κs =
+    let start = c .before .before .before .before .before .before .before .before in
+    rw (c .inserted .ensures) (start .pre .depth-in)
 
 returns-2 : tie.Need-returns-2
 returns-2 c =
@@ -62,13 +60,8 @@ returns-2 c =
     let start = e1 .before .before .before .before .before .before .before in
     let st = start .args .st in
     let s = start .args .s in
-    enter-made st s (c .before .inserted .result) (c .pushed .result) (start .pre)
-    (sound s _ (start .good .1 .0) (enters (listOf st) s (passed e1) .passes))
-    (passed e1)
-    (c .before .inserted .ensures)
-    (c .pushed .ensures)
-    (places c)
-    (rooms c)
+    rw (c .pushed .ensures, c .before .inserted .ensures)
+    (enter-made st s (start .pre) (sound s _ (start .good .1 .0) (enters (listOf st) s (passed e1) .passes)) (passed e1))
 
 pub enter-spec : {M : Type 1} → statement M
 enter-spec =
@@ -78,5 +71,5 @@ enter-spec =
     (λ c κs. search needs) (λ c κs. search needs)
     returns
     inserted-requires
-    (λ c κs. search needs)
+    pushed-requires
     returns-2)

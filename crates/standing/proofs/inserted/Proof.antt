@@ -1,14 +1,16 @@
 use borrow.Author.Needs.{needs}
 use mathlib.Core.Path.{_≡_, refl}
-use Prim.Native.Nat.{_-_, _≤_}
+use Prim.Native.Nat.{_≤_}
 use native.Mathlib.Omega.{arith}
 use lib.ListN.{length}
 use lib.Seq.{length-take-le}
 use Rattle.spell.specs.Order.{earlierOf}
+use Rattle.register.specs.Answers.{blank}
 use Rattle.standing.specs.Standing.{listOf}
 use Rattle.standing.proofs.Edits.{length-insert}
 use Rattle.standing.proofs.Lists.{unmapped, shifted, shift-none, shift-down}
-use Rattle.standing.proofs.Search.{blank, lead-le, insert-shifted}
+use Rattle.standing.proofs.Places.{same}
+use Rattle.standing.proofs.Search.{lead-le, insert-shifted}
 use Rattle.standing.proofs.inserted.Statement.{statement}
 use Rattle.standing.proofs.inserted.Tie as tie
 
@@ -72,13 +74,12 @@ returns c =
     let head = c .before in
     let start = head .before .before in
     let st = start .args .st in
-    record {
-      counted = omega (arith, length-insert (start .args .s) (listOf st), length-take-le (st .count) (st .spells) (omega (arith, whole start)));
-      journal = head .loop .inv .3;
-      depth = head .loop .inv .4;
-      listed = insert-shifted (start .args .s) (st .spells) (head .loop .a .spells) (st .count) (head .loop .i) (omega (arith, whole start)) (head .loop .inv .2)
-          (omega (arith, head .before .place .ensures));
-    }
+    same
+    (insert-shifted (start .args .s) (st .spells) (head .loop .a .spells) (st .count) (head .loop .i) (omega (arith, whole start)) (head .loop .inv .2)
+    (omega (arith, head .before .place .ensures)))
+    (omega (arith, length-insert (start .args .s) (listOf st), length-take-le (st .count) (st .spells) (omega (arith, whole start))))
+    (head .loop .inv .3)
+    (head .loop .inv .4)
 
 pub inserted-spec : {M : Type 1} → statement M
 inserted-spec =

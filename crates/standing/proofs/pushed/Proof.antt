@@ -3,8 +3,9 @@ use mathlib.Core.Path.{_≡_, refl}
 use Prim.Native.Nat.{_-_, _≤_}
 use native.Mathlib.Omega.{arith}
 use lib.ListN.{length}
+use Rattle.standing.specs.Places.{blankEntry}
 use Rattle.standing.proofs.Lists.{unmapped, closed, close-none, close-step}
-use Rattle.standing.proofs.Past.{blankEntry, push-room, push-full}
+use Rattle.standing.proofs.Past.{push-room, push-full}
 use Rattle.standing.proofs.pushed.Statement.{statement}
 use Rattle.standing.proofs.pushed.Tie as tie
 
@@ -28,13 +29,7 @@ add-a c = omega arith
 
 returns : tie.Need-returns Inv-loop μ-loop
 returns c =
-    let st = c .before .args .st in
-    record {
-      spells = refl;
-      count = refl;
-      newest = push-room (st .journal) (st .depth) (c .before .args .e) (whole (c .before)) (omega arith);
-      depth-in = omega arith;
-    }
+    push-room (c .before .args .st) (c .before .args .e) (whole (c .before)) (omega arith)
 
 loop-holds : tie.Need-loop-holds Inv-loop μ-loop
 loop-holds c = (omega arith, close-none 0 (c .before .args .st .journal), refl, refl, refl)
@@ -83,12 +78,7 @@ returns-2 c =
     let all : head .loop .i ≡ 63 = omega arith in
     let deep : st .depth ≡ 64 = omega (arith, start .pre) in
     let shut : head .loop .a .journal ≡ closed 0 63 (st .journal) = rw all at (head .loop .inv .1) in
-    record {
-      spells = head .loop .inv .2;
-      count = head .loop .inv .3;
-      newest = rw (head .loop .inv .4) (push-full (st .journal) (head .loop .a .journal) (st .depth) (start .args .e) (whole start) deep shut);
-      depth-in = omega (arith, head .loop .inv .4);
-    }
+    push-full st (head .loop .a) (start .args .e) (whole start) deep shut (head .loop .inv .2) (head .loop .inv .3) (head .loop .inv .4)
 
 pub pushed-spec : {M : Type 1} → statement M
 pushed-spec =

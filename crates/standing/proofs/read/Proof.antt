@@ -9,7 +9,7 @@ returns : tie.Need-returns
 returns c =
     let f = c .before in
     let r = f .before .before in
-    rw (r .read .ensures) (loads _ _ (f .fresh .ensures .wf .rooms) _ refl)
+    rw (r .read .ensures, f .fresh .ensures .whole) (loads _ _ refl)
 
 pub read-spec : {M : Type 1} → statement M
 read-spec = tie.close (tie.spec (λ c κs. search needs) (λ c κs. search needs) returns)

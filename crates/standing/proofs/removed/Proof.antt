@@ -1,8 +1,9 @@
 use borrow.Author.Needs.{needs}
-use mathlib.Core.Path.{_≡_}
+use mathlib.Core.Path.{_≡_, ap, _∙_}
 use native.Mathlib.Omega.{arith}
 use lib.ListN.{length}
-use lib.Seq.{length-take-le}
+use Rattle.standing.specs.Standing.{listOf}
+use Rattle.standing.specs.Places.{relisted}
 use Rattle.standing.proofs.Lists.{unmapped}
 use Rattle.standing.proofs.Calls.{removed-is, removed-none}
 use Rattle.standing.proofs.removed.Statement.{statement}
@@ -14,13 +15,13 @@ whole c = search (unmapped, needs)
 returns : tie.Need-returns
 returns c =
     let found = c .before .before in
-    removed-is (found .before .args .st) (c .removed-at .result) (found .before .args .k) (found .find .result) (found .find .ensures) (c .removed-at .ensures)
+    c .removed-at .ensures ∙ ap (relisted (found .before .args .st)) (removed-is (found .before .args .k) (found .find .result) (listOf (found .before .args .st)) (found .find .ensures))
 
 returns-2 : tie.Need-returns-2
 returns-2 c =
     let start = c .before .before in
     let st = start .args .st in
-    removed-none st (start .args .k) (c .before .find .result) (length-take-le (st .count) (st .spells) (omega (arith, whole start))) (c .before .find .ensures) (c .if1 .left)
+    removed-none st (start .args .k) (c .before .find .result) (omega (arith, whole start)) (c .before .find .ensures) (c .if1 .left)
 
 pub removed-spec : {M : Type 1} → statement M
 removed-spec = tie.close (tie.spec (λ c κs. search needs) (λ c κs. search needs) returns returns-2)

@@ -1,12 +1,13 @@
 use borrow.Author.Needs.{needs}
-use mathlib.Core.Path.{_≡_, refl, _∙_, ap}
+use mathlib.Core.Path.{_≡_, refl, _∙_}
 use Prim.Native.Nat.{suc, _-_, _≤_, _<_}
 use native.Mathlib.Omega.{arith}
 use lib.ListN.{length, take, drop, length-append, length-drop}
 use lib.Seq.{length-take-le}
+use Rattle.register.specs.Answers.{blank}
 use Rattle.standing.specs.Standing.{listOf}
-use Rattle.standing.proofs.Lists.{unmapped, closed, close-none, close-step, close-take}
-use Rattle.standing.proofs.Search.{blank}
+use Rattle.standing.proofs.Lists.{unmapped, closed, close-none, close-step, close-all}
+use Rattle.standing.proofs.Places.{same}
 use Rattle.standing.proofs.removed_at.Statement.{statement}
 use Rattle.standing.proofs.removed_at.Tie as tie
 
@@ -69,12 +70,11 @@ returns c =
     let p = start .args .p in
     let l = listOf st in
     let long : length l ≡ st .count = length-take-le (st .count) (st .spells) (omega (arith, whole start)) in
-    record {
-      listed = ap (take (st .count - 1)) (head .loop .inv .2) ∙ close-take p (head .loop .i) (st .count) (st .spells) (head .loop .inv .0) (omega arith) (omega (arith, whole start));
-      counted = omega (arith, length-append (take p l) (drop (suc p) l), length-take-le p l (omega arith), length-drop (suc p) l);
-      journal = head .loop .inv .3;
-      depth = head .loop .inv .4;
-    }
+    same
+    (head .loop .inv .2 ∙ close-all p (head .loop .i) (st .count) (st .spells) (head .loop .inv .0) (omega arith) (omega (arith, whole start)))
+    (omega (arith, length-append (take p l) (drop (suc p) l), length-take-le p l (omega arith), length-drop (suc p) l))
+    (head .loop .inv .3)
+    (head .loop .inv .4)
 
 pub removed-at-spec : {M : Type 1} → statement M
 removed-at-spec =

@@ -1,7 +1,4 @@
 use borrow.Author.Needs.{needs}
-use mathlib.Core.Path.{_≡_}
-use lib.ListN.{length}
-use Rattle.standing.proofs.Lists.{unmapped}
 use Rattle.standing.proofs.Calls.{strike-unknown, strike-made}
 use Rattle.standing.proofs.strike.Statement.{statement}
 use Rattle.standing.proofs.strike.Tie as tie
@@ -11,23 +8,15 @@ returns c =
     let start = c .before .before in
     strike-unknown (start .args .t1) (start .pre) (start .args .number) (c .before .find .result) (c .before .find .ensures) (c .if1 .taken)
 
-places : (c : tie.After-pushed) → length (c .pushed .result .spells) ≡ 1024
-places c = search (unmapped, needs)
-
-rooms : (c : tie.After-pushed) → length (c .pushed .result .journal) ≡ 64
-rooms c = search (unmapped, needs)
+pushed-requires : tie.Need-pushed-requires
+pushed-requires c κs = rw (c .removed-at .ensures) (c .before .before .before .before .pre .depth-in)
 
 returns-2 : tie.Need-returns-2
 returns-2 c =
     let here = c .before .before .before in
     let start = here .before .before in
-    strike-made (start .args .t1) (start .pre) (start .args .number) (here .before .find .result) (here .before .find .ensures) (here .if1 .left)
-    (c .before .removed-at .result)
-    (c .pushed .result)
-    (c .before .removed-at .ensures)
-    (c .pushed .ensures)
-    (places c)
-    (rooms c)
+    rw (c .pushed .ensures, c .before .removed-at .ensures)
+    (strike-made (start .args .t1) (start .pre) (start .args .number) (here .before .find .result) (here .before .find .ensures) (here .if1 .left))
 
 pub strike-spec : {M : Type 1} → statement M
 strike-spec =
@@ -35,5 +24,6 @@ strike-spec =
     (tie.spec
     (λ c κs. search needs)
     returns
-    (λ c. search needs) (λ c. search needs) (λ c κs. search needs) (λ c κs. search needs)
+    (λ c. search needs) (λ c. search needs) (λ c κs. search needs)
+    pushed-requires
     returns-2)

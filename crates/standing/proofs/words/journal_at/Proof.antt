@@ -8,7 +8,7 @@ use lib.ListN.{drop}
 use Rattle.packing.specs.Blocks.{parts}
 use Rattle.packing.proofs.Blocks.{parts-more, parts-done}
 use Rattle.standing.specs.Packed.{entryOf}
-use Rattle.standing.proofs.Past.{blankEntry}
+use Rattle.standing.specs.Places.{blankEntry}
 use Rattle.standing.proofs.words.journal_at.Statement.{statement}
 use Rattle.standing.proofs.words.journal_at.Tie as tie
 

@@ -7,7 +7,7 @@ use lib.ListN.{length}
 use denote.Ref.{now}
 use Rattle.packing.proofs.Blocks.{Laid, laid-none, laid-more, laid-length, laid-all}
 use Rattle.standing.specs.Packed.{entryWords, entryOf}
-use Rattle.standing.proofs.Past.{blankEntry}
+use Rattle.standing.specs.Places.{blankEntry}
 use Rattle.standing.proofs.Packed.{entry-long}
 use Rattle.standing.proofs.words.put_journal.Statement.{statement}
 use Rattle.standing.proofs.words.put_journal.Tie as tie

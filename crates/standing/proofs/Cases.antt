@@ -1,0 +1,77 @@
+-- Worked examples: an entry's words, and the places of small arrays after an edit and after a take back. Assumes nothing.
+use mathlib.Core.Path.{_≡_, refl}
+use mathlib.Core.Bool.{true}
+use mathlib.Core.List.{List, [], _∷_}
+use Prim.Native.Nat.{ℕ}
+use lib.Ieee.{binary32, ofBits, toBits}
+use Rattle.spell.specs.declared.Urgency.the-variants.{Grade, Reading}
+use Rattle.spell.specs.declared.Spell.{Spell}
+use Rattle.spell.specs.Order.{earlierOf}
+use Rattle.spell.specs.Listing.{stands}
+use Rattle.model.specs.Edits.{insert, remove, enterRefusal, strikeRefusal}
+use Rattle.packing.specs.Words.{spellWords, spellOf, urgencyOf}
+use Rattle.standing.specs.declared.Undo.{Undo}
+use Rattle.standing.specs.declared.Standing.{Standing}
+use Rattle.standing.specs.Search.{lead}
+use Rattle.standing.specs.Places.{blankEntry, entering, replacing}
+use Rattle.standing.specs.Standing.{listOf, undo, pastOf, afterEdit, frontOr, afterTakeBack}
+use Rattle.standing.specs.Packed.{entryWords, entryOf}
+
+-- ---- An entry's words
+
+abbrev entry : Undo
+entry = record { number = 0x0102; stood = true; spell = record { number = 65535; candidate = 0x0304; first = 0x0506; last = 0x0708; urgency = Reading (ofBits binary32 0x3F80_0001) } }
+
+abbrev words : List ℕ
+words = 0x0102 ∷ 1 ∷ 65535 ∷ 0x0304 ∷ 0x0506 ∷ 0x0708 ∷ 1 ∷ 0x0001 ∷ 0x3F80 ∷ []
+
+entry-written : entryWords entry ≡ words
+unfolding entryWords spellWords toBits ofBits
+entry-written = refl
+
+entry-read : entryOf words ≡ entry
+unfolding entryOf spellOf urgencyOf
+entry-read = refl
+
+none-written : entryWords blankEntry ≡ 0 ∷ 0 ∷ 0 ∷ 0 ∷ 0 ∷ 0 ∷ 0 ∷ 0 ∷ 0 ∷ []
+unfolding entryWords spellWords
+none-written = refl
+
+-- ---- Places, used or not: two of four spells stand, and one of three entries counts
+
+abbrev spell : ℕ → ℕ → Spell
+spell n d = record { number = n; candidate = n; first = d; last = d; urgency = Grade 1 }
+
+abbrev a : Spell
+a = spell 1 10
+
+abbrev b : Spell
+b = spell 2 20
+
+abbrev standing : List Spell → ℕ → List Undo → ℕ → Standing
+standing l n j d = record { spells = l; count = n; journal = j; depth = d }
+
+abbrev st : Standing
+st = standing (a ∷ b ∷ spell 3 30 ∷ spell 4 40 ∷ []) 2 (entering b ∷ entering (spell 5 50) ∷ blankEntry ∷ []) 1
+
+-- a third spell goes between, over what the third place held; the next entry goes over what the second place held
+entered : afterEdit st (enterRefusal (listOf st) (spell 6 15)) (insert (spell 6 15) (listOf st)) (entering (spell 6 15))
+    ≡ standing (a ∷ spell 6 15 ∷ b ∷ spell 4 40 ∷ []) 3 (entering b ∷ entering (spell 6 15) ∷ blankEntry ∷ []) 2
+unfolding enterRefusal insert earlierOf stands
+entered = refl
+
+-- the first spell goes: the second moves down, and its former place keeps it
+struck : afterEdit st (strikeRefusal (listOf st) 1) (remove 1 (listOf st)) (replacing 1 (listOf st))
+    ≡ standing (b ∷ b ∷ spell 3 30 ∷ spell 4 40 ∷ []) 1 (entering b ∷ record { number = 1; stood = true; spell = a } ∷ blankEntry ∷ []) 2
+unfolding strikeRefusal remove stands lead
+struck = refl
+
+-- refused: every place is kept
+unknown : afterEdit st (strikeRefusal (listOf st) 3) (remove 3 (listOf st)) (replacing 3 (listOf st)) ≡ st
+unfolding strikeRefusal stands
+unknown = refl
+
+-- the entry taken back stays in its place, past the depth
+back : afterTakeBack st ≡ standing (a ∷ b ∷ spell 3 30 ∷ spell 4 40 ∷ []) 1 (entering b ∷ entering (spell 5 50) ∷ blankEntry ∷ []) 0
+unfolding frontOr pastOf undo remove
+back = refl

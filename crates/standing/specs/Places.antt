@@ -1,0 +1,52 @@
+-- All places of a standing list's arrays, used or not: what stands in each after a call. Assumes nothing.
+use Prim.Native.Nat.{ℕ}
+use mathlib.Core.Bool.{true, false}
+use mathlib.Core.List.{List, _∷_, _++_, reverse}
+use lib.ListN.{length, getD, take, drop, replicate}
+use Rattle.spell.specs.declared.Spell.{Spell}
+use Rattle.register.specs.Answers.{blank}
+use Rattle.standing.specs.declared.Undo.{Undo}
+use Rattle.standing.specs.declared.Standing.{Standing}
+use Rattle.standing.specs.Search.{indexOf}
+
+-- ---- Values in the first places
+
+-- the values l in the first places of an array; later places keep what they held
+abbrev pub onto : {A : Type 0} → List A → List A → List A
+onto l a = l ++ drop (length l) a
+
+-- the standing list becomes l
+abbrev pub relisted : Standing → List Spell → Standing
+relisted st l = record { spells = onto l (st .spells); count = length l; journal = st .journal; depth = st .depth }
+
+-- the entries of the journal become es, newest first
+abbrev pub rejournaled : Standing → List Undo → Standing
+rejournaled st es = record { spells = st .spells; count = st .count; journal = onto (reverse es) (st .journal); depth = length es }
+
+-- the list l and the entries es
+abbrev pub over : Standing → List Spell → List Undo → Standing
+over st l es = rejournaled (relisted st l) es
+
+-- ---- The beginning
+
+-- a place of the journal that holds no entry
+abbrev pub blankEntry : Undo
+blankEntry = record { number = 0; stood = false; spell = blank }
+
+-- a fresh start
+abbrev pub freshStanding : Standing
+freshStanding = record { spells = replicate 1024 blank; count = 0; journal = replicate 64 blankEntry; depth = 0 }
+
+-- ---- The entry of an edit
+
+-- s is entered: no spell stood under its number; the entry holds s
+abbrev pub entering : Spell → Undo
+entering s = record { number = s .number; stood = false; spell = s }
+
+-- the spell of the number k goes from the list l, by an amend or a strike: the entry holds it
+abbrev pub replacing : ℕ → List Spell → Undo
+replacing k l = record { number = k; stood = true; spell = getD l (indexOf k l) blank }
+
+-- the entry e goes to the front, and a 65th falls off
+abbrev pub noted : Undo → List Undo → List Undo
+noted e es = take 64 (e ∷ es)
