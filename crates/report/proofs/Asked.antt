@@ -6,16 +6,13 @@ use mathlib.Core.Bool.{Bool, true, false, cond}
 use mathlib.Core.List.{List, [], _∷_, map}
 use borrow.Author.Tests.{le-leb, leb-true}
 use lib.Dec.{leb}
-use lib.ListN.{length, take, drop, replicate, length-replicate, length-map}
+use lib.ListN.{length, take, drop, length-map}
 use lib.Seq.{take-append-seam}
 use Rattle.spell.specs.declared.Spell.{Spell}
 use Rattle.spell.specs.Entry.{dayOk}
 use Rattle.spell.specs.Listing.{Each, Sound, Good}
 use Rattle.spell.proofs.Entered.{both, entered}
 use Rattle.stabbing.proofs.Marks.{clash}
-use Rattle.standing.specs.Standing.{Fresh}
-use Rattle.standing.proofs.Search.{blank}
-use Rattle.standing.proofs.Past.{blankEntry}
 use Rattle.standing.proofs.Calls.{fresh-is}
 use Rattle.model.specs.declared.Call.the-variants.{Ask}
 use Rattle.model.specs.declared.Question.the-variants.{Day}
@@ -101,18 +98,14 @@ module _ (m : State) (q : Request) (g : Good (m .published)) (room : 1024 ≤ le
         comparisons-few = omega arith;
       })
 
--- a service that stands beside any index: a fresh one
-nobody : Fresh (record { spells = replicate 1024 blank; count = 0; journal = replicate 64 blankEntry; depth = 0 })
-nobody = fresh-is (replicate 1024 blank) (replicate 64 blankEntry) (length-replicate 1024 blank) (length-replicate 64 blankEntry)
-
--- a question's answer does not go by what stands, so the state may be one in which nothing does
+-- a question's answer does not go by what stands, so the service beside the index may be a fresh one, and the state one in which nothing stands
 pub day-tells : (ix : List ℕ) (m : State) (d : ℕ) (days ns : List ℕ) (o : Outcome) (ns′ : List ℕ) → 1024 ≤ length ns → Shows ix m
     → Asked ix (Day d) days ns o ns′ → Told (m .published) d (o .count) (o .comparisons) ns′
 unfolding effectOf
 day-tells ix m d days ns o ns′ room s a =
     let alone : State = record { standing = []; past = []; published = m .published } in
     let shown : Shows ix alone = record { good = s .good; index = s .index } in
-    let met = a .met _ [] (record { wf = nobody .wf; published = record { state = alone; shows = shown } }) in
-    let same = met .answer alone (record { wf = nobody .wf; standing = nobody .list; past = nobody .past; shows = shown }) in
+    let met = a .met _ [] (record { wf = fresh-is .wf; published = record { state = alone; shows = shown } }) in
+    let same = met .answer alone (record { wf = fresh-is .wf; standing = fresh-is .list; past = fresh-is .past; shows = shown }) in
     subst (λ (x : Answer). Told (m .published) d (x .count) (x .comparisons) (x .numbers)) (sym same)
     (told alone (asking (Ask (Day d)) days ns []) (s .good) room d)

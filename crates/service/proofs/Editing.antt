@@ -10,6 +10,8 @@ use Rattle.spell.specs.declared.Spell.{Spell}
 use Rattle.stabbing.proofs.Marks.{by-test}
 use Rattle.standing.specs.declared.Standing.{Standing}
 use Rattle.standing.specs.declared.Edited.{Edited}
+use Rattle.standing.specs.declared.Undo.{Undo}
+use Rattle.standing.specs.Places.{entering, replacing}
 use Rattle.standing.specs.Standing.{Wf, listOf, pasts, Edits, TakesBack, frontOr, restOf}
 use Rattle.model.specs.declared.Call.{Call}
 use Rattle.model.specs.declared.Call.the-variants.{Enter, Amend, Strike, TakeBack}
@@ -48,9 +50,9 @@ same-shows : (ix : List ℕ) (m n : State) → m .published ≡ n .published →
 same-shows ix m n e s = record { good = rw (← e) (s .good); index = s .index ∙ rw e }
 
 -- ---- Enter, amend, strike
-module _ (sv : Standing) (c : Call) (e : Edited) (n : List Spell → ℕ) (f : List Spell → List Spell)
+module _ (sv : Standing) (c : Call) (e : Edited) (n : List Spell → ℕ) (f : List Spell → List Spell) (u : Undo)
     (is : (m : State) (days : List ℕ) → effectOf c days m ≡ edit (n (m .standing)) (f (m .standing)) m)
-    (d : Edits sv e (n (listOf sv)) (f (listOf sv))) where
+    (d : Edits sv e (n (listOf sv)) (f (listOf sv)) u) where
   pub edit-changed : Changed sv c (steppedOf e)
   unfolding settle
   edit-changed = changed sv c e (d .wf) (λ t. d .kept (rw (d .refusal) at t)) (λ m ix days h.
@@ -71,17 +73,17 @@ module _ (sv : Standing) (c : Call) (e : Edited) (n : List Spell → ℕ) (f : L
         record { wf = d .wf; standing = d .list ∙ rw t (h .standing); past = d .past ∙ rw t (h .past); shows = h .shows },
       )))))
 
-pub enter-changed : (sv : Standing) (s : Spell) (e : Edited) → Edits sv e (enterRefusal (listOf sv) s) (insert s (listOf sv)) → Changed sv (Enter s) (steppedOf e)
+pub enter-changed : (sv : Standing) (s : Spell) (e : Edited) → Edits sv e (enterRefusal (listOf sv) s) (insert s (listOf sv)) (entering s) → Changed sv (Enter s) (steppedOf e)
 unfolding effectOf
-enter-changed sv s e d = edit-changed sv (Enter s) e (λ l. enterRefusal l s) (insert s) (λ m ds. refl) d
+enter-changed sv s e d = edit-changed sv (Enter s) e (λ l. enterRefusal l s) (insert s) (entering s) (λ m ds. refl) d
 
-pub amend-changed : (sv : Standing) (s : Spell) (e : Edited) → Edits sv e (amendRefusal (listOf sv) s) (replace s (listOf sv)) → Changed sv (Amend s) (steppedOf e)
+pub amend-changed : (sv : Standing) (s : Spell) (e : Edited) → Edits sv e (amendRefusal (listOf sv) s) (replace s (listOf sv)) (replacing (s .number) (listOf sv)) → Changed sv (Amend s) (steppedOf e)
 unfolding effectOf
-amend-changed sv s e d = edit-changed sv (Amend s) e (λ l. amendRefusal l s) (replace s) (λ m ds. refl) d
+amend-changed sv s e d = edit-changed sv (Amend s) e (λ l. amendRefusal l s) (replace s) (replacing (s .number) (listOf sv)) (λ m ds. refl) d
 
-pub strike-changed : (sv : Standing) (k : ℕ) (e : Edited) → Edits sv e (strikeRefusal (listOf sv) k) (remove k (listOf sv)) → Changed sv (Strike k) (steppedOf e)
+pub strike-changed : (sv : Standing) (k : ℕ) (e : Edited) → Edits sv e (strikeRefusal (listOf sv) k) (remove k (listOf sv)) (replacing k (listOf sv)) → Changed sv (Strike k) (steppedOf e)
 unfolding effectOf
-strike-changed sv k e d = edit-changed sv (Strike k) e (λ l. strikeRefusal l k) (remove k) (λ m ds. refl) d
+strike-changed sv k e d = edit-changed sv (Strike k) e (λ l. strikeRefusal l k) (remove k) (replacing k (listOf sv)) (λ m ds. refl) d
 
 -- ---- Take back
 
