@@ -11,11 +11,13 @@ use Rattle.model.specs.Model.{State, fresh, begun, Request, Answer, run}
 use Rattle.packing.specs.Blocks.{Every}
 use Rattle.packing.specs.Words.{Narrow}
 use Rattle.standing.specs.declared.Standing.{Standing}
-use Rattle.standing.specs.Standing.{Wf}
+use Rattle.standing.specs.Standing.{Wf, afterReading}
 use Rattle.standing.specs.Packed.{packed, unpacked}
 use Rattle.standing.proofs.Claims.{packing-identity}
+use Rattle.model.specs.declared.Call.{Call}
 use Rattle.service.specs.declared.Outcome.{Outcome}
-use Rattle.service.specs.Service.{Represents, Given, Met, Begins}
+use Rattle.service.specs.Places.{leaves}
+use Rattle.service.specs.Service.{Represents, Given, Met, Changed, Begins}
 use Rattle.service.proofs.Represented.{represented}
 use Rattle.service.proofs.Beginning.{publishes-met}
 use Rattle.service.specs.History as history
@@ -29,6 +31,16 @@ use Rattle.phayaklit.specs.History.{Opens, Called, edited, published, wr
 pub packed-back : (st : Standing) → Wf st → Every (λ s. Narrow (s .urgency)) (st .spells) → Every (λ e. Narrow (e .spell .urgency)) (st .journal)
     → unpacked (packed st) ≡ st
 packed-back = packing-identity
+
+-- EVERY WORD after an edit or a take back is given by the words before and the call
+pub edited-words : {words words′ : List ℕ} {c : Call} {r : Reply} → Laid words′ → Changed (unpacked words) c (steppedOf words′ r)
+    → words′ ≡ packed (leaves (unpacked words) c)
+edited-words a d = a ∙ ap packed (d .whole)
+
+-- and after a reading by the text alone
+pub read-words : {words ix register : List ℕ} {r : Opened} → Laid words → Begins (readText register) (startedOf words r) ix
+    → words ≡ packed (afterReading (readText register))
+read-words a b = a ∙ ap packed (b .whole)
 
 -- EACH EXPORTED CALL is a step of the service that the words hold
 pub called-met : {words words′ ix ix′ numbers text : List ℕ} {q : Request} {r : Reply} → Called words ix q r words′ ix′ numbers text

@@ -47,6 +47,7 @@ begun-none (refused n line) = refl
 pub begins : (g : Register) (l : Loaded) (ix : List ℕ) → Loads g l → ix ≡ indexOf []
     → Begins g (record { service = l .standing; refusal = l .refusal; line = l .line }) ix
 begins g l ix d e = record {
+  whole = d .whole;
   represents = record {
     wf = d .wf;
     standing = d .list;

@@ -9,7 +9,7 @@ use Rattle.spell.specs.declared.Spell.{Spell}
 use Rattle.spell.specs.Listing.{Good}
 use Rattle.stabbing.specs.Index.{blockOf}
 use Rattle.standing.specs.declared.Standing.{Standing}
-use Rattle.standing.specs.Standing.{Wf, listOf, pasts}
+use Rattle.standing.specs.Standing.{Wf, listOf, pasts, afterReading}
 use Rattle.model.specs.declared.Call.{Call}
 use Rattle.model.specs.declared.Question.{Question}
 use Rattle.model.specs.Questions.{firstsOf, lastsOf}
@@ -18,6 +18,7 @@ use Rattle.model.specs.Model.{State, begun, refusalIn, lineIn, Request, Answer,
 use Rattle.service.specs.declared.Outcome.{Outcome}
 use Rattle.service.specs.declared.Stepped.{Stepped}
 use Rattle.service.specs.declared.Started.{Started}
+use Rattle.service.specs.Places.{leaves}
 
 -- ---- What stands for the account's state
 
@@ -72,9 +73,10 @@ pub record Met (sv : Standing) (ix : List ℕ) (q : Request) (r : Stepped) (ix�
   pub after : (m : State) → Represents sv ix m → Represents (r .service) ix′ (step m q .state)
 
 -- the same of an edit or a take back, which is lent nothing: whatever index and lists stand beside it, they are as they were; and where
--- it is refused, so is the service
+-- it is refused, so is the service, of which every place is given
 pub record Changed (sv : Standing) (c : Call) (r : Stepped) : Type 0 where
   pub wf : Wf (r .service)
+  pub whole : r .service ≡ leaves sv c
   pub kept : eqb (r .outcome .refusal) accepted ≡ false → r .service ≡ sv
   pub met : (ix days numbers text : List ℕ) → Given sv ix → Met sv ix (asking c days numbers text) r ix numbers text
 
@@ -98,8 +100,9 @@ pub record Publishes (sv : Standing) (r : Stepped) (ix′ : List ℕ) : Type 0 w
 
 -- ---- The beginning
 
--- a reading: service and index stand for the state with which the account begins
+-- a reading: service and index stand for the state with which the account begins, and every place of the service is given
 pub record Begins (g : Register) (r : Started) (ix : List ℕ) : Type 0 where
+  pub whole : r .service ≡ afterReading g
   pub represents : Represents (r .service) ix (begun g)
   pub refusal : r .refusal ≡ refusalIn g
   pub line : r .line ≡ lineIn g
