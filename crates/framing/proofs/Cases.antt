@@ -3,8 +3,8 @@ use mathlib.Core.Path.{_≡_, refl}
 use mathlib.Core.List.{List, [], _∷_, _++_}
 use Prim.Native.Nat.{ℕ}
 use Rattle.fields.specs.Fields.{passed, readDigits, readDecimal}
-use Rattle.requests.specs.Requests.{begins, askedBy, askedOf}
-use Rattle.framing.specs.Stream.{begun, kept, following, wants, settled, lineFed, feed, onward, cutFrom, cut, leftBy, left, cutPieces}
+use Rattle.requests.specs.Requests.{begins, askedBy, askedOf, following}
+use Rattle.framing.specs.Stream.{begun, kept, wants, settled, lineFed, feed, onward, cutFrom, cut, leftBy, left, cutPieces}
 
 -- `publish`
 abbrev publishLine : List ℕ

@@ -1,9 +1,8 @@
 -- What framing is for: in whatever pieces a stream arrives, its requests are those of the whole stream. Assumes nothing.
-use Prim.Native.Nat.{ℕ, _≤_}
+use Prim.Native.Nat.{ℕ}
 use mathlib.Core.Path.{_≡_, ap, _∙_}
 use mathlib.Core.List.{List, _∷_, _++_, flatten}
-use native.Mathlib.Omega.{arith}
-use lib.ListN.{length, drop}
+use lib.ListN.{drop}
 use Rattle.model.specs.Model.{fresh}
 use Rattle.standing.specs.declared.Standing.{Standing}
 use Rattle.service.specs.Service.{Represents}
@@ -14,29 +13,23 @@ use Rattle.wire.specs.History.{Spoken}
 use Rattle.wire.proofs.Claims.{spoken-converse, spoken-fresh, spoken-begun}
 use Rattle.framing.specs.declared.Frame.{Frame}
 use Rattle.framing.specs.Stream.{cutFrom, cut}
-use Rattle.framing.specs.Advancing.{Ready, partialOf, partOf}
+use Rattle.framing.specs.Advancing.{partialOf, partOf}
 use Rattle.framing.specs.History.{opened, Heard, request, more, ended}
 use Rattle.framing.proofs.Cutting.{cutAfter, cut-piece}
 
--- a frame that is opened is ready at any place of what has arrived
-ready : (a : List ℕ) (at : ℕ) → at ≤ length a → Ready opened a at
-ready a at h = record { fits = record { line = omega arith; payload = omega arith }; place = h }
-
 -- THE PIECES DO NOT MATTER: what is heard of a stream in pieces are the requests of the whole stream
-pub heard-cut : {f : Frame} {line payload arrived : List ℕ} {at : ℕ} {pieces : List (List ℕ)} {qs : List Sent} → Ready f arrived at
+pub heard-cut : {f : Frame} {line payload arrived : List ℕ} {at : ℕ} {pieces : List (List ℕ)} {qs : List Sent}
     → Heard f line payload arrived at pieces qs → qs ≡ cutFrom (partialOf f line payload) (drop at arrived ++ flatten pieces)
 unfolding cutFrom cutAfter flatten partOf
-heard-cut {arrived = arrived} h (request n m at′ line′ payload′ line″ payload″ met rest) =
-    rw (cut-piece, ← met h .progress, heard-cut (ready arrived at′ (met h .within .1)) rest)
-heard-cut h (more f′ line′ payload′ met rest) =
-    rw (cut-piece, ← met h .progress) (heard-cut (record { fits = met h .within; place = omega arith }) rest)
-heard-cut h (ended f′ line′ payload′ met) = rw (cut-piece, ← met h .progress)
+heard-cut (request n m at′ line′ payload′ line″ payload″ met rest) = rw (cut-piece, ← met .progress, heard-cut rest)
+heard-cut (more f′ line′ payload′ met rest) = rw (cut-piece, ← met .progress) (heard-cut rest)
+heard-cut (ended f′ line′ payload′ met) = rw (cut-piece, ← met .progress)
 
 -- from the beginning of the stream
 pub heard-stream : {line payload piece : List ℕ} {pieces : List (List ℕ)} {qs : List Sent}
     → Heard opened line payload piece 0 pieces qs → qs ≡ cut (flatten (piece ∷ pieces))
 unfolding flatten partOf
-heard-stream {piece = piece} r = heard-cut (ready piece 0 (omega arith)) r
+heard-stream r = heard-cut r
 
 -- THE ANSWERS TO A STREAM, in whatever pieces it arrives, on a service that stands for v: those of the conversation on its requests
 pub stream-converse : {sv : Standing} {ix : List ℕ} {room : ℕ} {line payload piece : List ℕ} {pieces : List (List ℕ)} {qs : List Sent} {replies : List (List ℕ)} (v : Conv)

@@ -48,6 +48,23 @@ unfolding cutFrom next cutAfter
 cut-piece p [] t = refl
 cut-piece p (b ∷ s) t = after-by (feed p b) s t (λ p′. cut-piece p′ s t)
 
+-- what has come, and further bytes after it
+unfoldable pub goOn : Progress → List ℕ → Progress
+goOn (done q s) t = done q (s ++ t)
+goOn (going p) t = next p t
+
+on-by : (x : Step) (s t : List ℕ) → ((p : Partial) → next p (s ++ t) ≡ goOn (next p s) t)
+    → through x (s ++ t) (λ p. next p (s ++ t)) ≡ goOn (through x s (λ p. next p s)) t
+unfolding through goOn
+on-by (whole q) s t h = refl
+on-by (part p) s t h = h p
+
+-- bytes, and others after them: the others go on from what the first make
+pub next-append : (p : Partial) (s t : List ℕ) → next p (s ++ t) ≡ goOn (next p s) t
+unfolding next goOn
+next-append p [] t = refl
+next-append p (b ∷ s) t = on-by (feed p b) s t (λ p′. next-append p′ s t)
+
 -- fewer bytes are left after a request
 Fewer : Progress → ℕ → Type 0
 Fewer (done q s) n = length s < n

@@ -6,8 +6,8 @@ use native.Mathlib.Omega.{arith}
 use borrow.Author.Tests.{lt-leb}
 use lib.ListN.{length, take, length-append}
 use lib.Seq.{length-take-le}
-use Rattle.requests.specs.Requests.{malformed, askedOf}
-use Rattle.framing.specs.Stream.{inLine, kept, following, wants, settled, lineFed, feed, onward, cutFrom, cut, Plain}
+use Rattle.requests.specs.Requests.{malformed, askedOf, following}
+use Rattle.framing.specs.Stream.{inLine, kept, wants, settled, lineFed, feed, onward, cutFrom, cut, Plain}
 
 kept-take : (most : ℕ) (s : List ℕ) (b : ℕ) → kept most (take most s) b ≡ take most (s ++ b ∷ [])
 unfolding kept

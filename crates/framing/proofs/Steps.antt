@@ -1,22 +1,51 @@
 -- The laws that the code follows: a byte put into its place, a byte of a line, a byte of a text. Assumes nothing.
-use Prim.Native.Nat.{ℕ, zero, suc, _+_, _≤_, _<_}
+use Prim.Native.Nat.{ℕ, zero, suc, _+_, _-_, _≤_, _<_}
 use mathlib.Core.Path.{_≡_, refl, sym, ap, _∙_}
 use mathlib.Core.List.{List, [], _∷_, _++_}
 use native.Mathlib.Numerals.{add-one}
 use native.Mathlib.Omega.{arith}
-use borrow.Author.Tests.{eq-eqb, ne-eqb}
+use borrow.Author.Tests.{eq-eqb, ne-eqb, leb-true, leb-false}
+use mathlib.Core.Bool.{Bool, true, false, cond}
+use lib.Dec.{leb}
 use lib.ListN.{length, take, drop, getD, set, length-set, length-append, drop-of-length-le}
-use lib.Seq.{drop-cons, take-suc-set, take-all, take-length, take-append-seam, length-take-le}
-use Rattle.requests.specs.declared.Request.{Request}
-use Rattle.requests.specs.Requests.{Asked, asksCall, asksRoom, asksRead, malformed, askedOf}
-use Rattle.requests.specs.Parsing.{requestOf, Parses}
+use lib.Seq.{drop-drop, drop-set-lt, drop-length, drop-cons, take-suc-set, take-all, take-length, take-append-seam, length-take-le}
 use Rattle.framing.specs.declared.Frame.{Frame}
 use Rattle.framing.specs.declared.Framed.{Framed}
 use Rattle.framing.specs.declared.Framed.the-variants.{Whole, Part}
 use Rattle.framing.specs.declared.Taken.{Taken}
 use Rattle.framing.specs.declared.Taken.the-variants.{Whole as LineWhole, Part as LinePart}
-use Rattle.framing.specs.Stream.{Partial, inLine, inText, kept, following, wants, settled, lineFed, feed}
-use Rattle.framing.specs.Advancing.{Progress, going, through, next, after, partOf, Puts, TakesLine, TakesText, followingIn, Advances}
+use Rattle.framing.specs.Stream.{Partial, inLine, inText, kept, wants, settled, lineFed, feed}
+use Rattle.framing.specs.Advancing.{Progress, going, through, next, after, partOf, Fits, Kept, lineIn, textIn, Puts, TakesLine, TakesText, least, Advances}
+
+-- ---- Places that keep what they held
+
+-- those from a place on, and so those from a later one on
+pub kept-on : (n m : ℕ) (a b : List ℕ) → Kept n a b → n ≤ m → Kept m a b
+kept-on n m a b e h =
+    let k : m ≡ n + (m - n) = omega arith in
+    rw (k, ← drop-drop (m - n) n b, ← drop-drop (m - n) n a, e)
+
+-- of a number and a list's length the less takes and drops as many of its bytes as the number
+take-by : (l : List ℕ) (n : ℕ) (t : Bool) → leb n (length l) ≡ t → take (cond t n (length l)) l ≡ take n l
+take-by l n true e = refl
+take-by l n false e = let h : length l < n = leb-false n (length l) e in take-length l ∙ sym (take-all n l (omega arith))
+
+drop-by : (l : List ℕ) (n : ℕ) (t : Bool) → leb n (length l) ≡ t → drop (cond t n (length l)) l ≡ drop n l
+drop-by l n true e = refl
+drop-by l n false e = let h : length l < n = leb-false n (length l) e in drop-length l ∙ sym (drop-of-length-le l {i = n} (omega arith))
+
+pub take-least : (l : List ℕ) (n : ℕ) → take (least n (length l)) l ≡ take n l
+take-least l n = take-by l n (leb n (length l)) refl
+
+pub drop-least : (l : List ℕ) (n : ℕ) → drop (least n (length l)) l ≡ drop n l
+drop-least l n = drop-by l n (leb n (length l)) refl
+
+least-by : (n k : ℕ) (t : Bool) → leb n k ≡ t → cond t n k ≤ k
+least-by n k true e = leb-true n k e
+least-by n k false e = omega arith
+
+pub least-le : (n k : ℕ) → least n k ≤ k
+least-le n k = least-by n k (leb n k) refl
 
 -- ---- A byte put into its place
 
@@ -26,6 +55,8 @@ module _ (into : List ℕ) (n b : ℕ) where
   put-one h = record {
     sized = length-set into n b;
     within = omega arith;
+    on = omega arith;
+    rest = drop-set-lt (n + 1) into n b (omega arith);
     bytes = rw (add-one, take-suc-set) (sym (take-all (length into) (take n into ++ b ∷ []) (omega (arith, length-append (take n into) (b ∷ []), length-take-le n into (omega arith)))));
   }
 
@@ -36,6 +67,8 @@ module _ (into : List ℕ) (n b : ℕ) where
       record {
         sized = refl;
         within = k;
+        on = omega arith;
+        rest = refl;
         bytes = rw (e, take-length, take-append-seam);
       }
 
@@ -51,11 +84,12 @@ next-end p a at h = rw drop-of-length-le
 
 -- ---- A line
 
--- n bytes of it are kept, and the bytes from the place on make P
-pub record LineSoFar (P : Progress) (a line : List ℕ) (n at : ℕ) : Type 0 where
+-- n bytes of it are kept, the bytes from the place on make P, and the places past those kept are as they were
+pub record LineSoFar (P : Progress) (line₀ a line : List ℕ) (n at : ℕ) : Type 0 where
   pub within : n ≤ 65537
   pub place : at ≤ length a
   pub rest : next (inLine (take n line)) (drop at a) ≡ P
+  pub kept : Kept n line₀ line
 
 fed-on : (l s : List ℕ) (b : ℕ) → (b ≡ 10 → ⊥) → after (feed (inLine l) b) s ≡ next (inLine (kept 65537 l b)) s
 unfolding feed lineFed through
@@ -65,36 +99,43 @@ fed-lf : (l s : List ℕ) (b : ℕ) → b ≡ 10 → after (feed (inLine l) b) s
 unfolding feed lineFed
 fed-lf l s b h = rw (eq-eqb b 10 h)
 
-module _ {P : Progress} {a line : List ℕ} {n at : ℕ} (i : LineSoFar P a line n at) where
+module _ {P : Progress} {line₀ a line : List ℕ} {n at : ℕ} (i : LineSoFar P line₀ a line n at) where
   module _ (h : at < length a) (sized : length line ≡ 65537) {n′ : ℕ} {line′ : List ℕ} (p : Puts line n (getD a at 0) n′ line′) where
+    later : Kept n′ line₀ line′
+    later = p .rest ∙ kept-on n n′ line₀ line (i .kept) (p .on)
+
     bytes : take n′ line′ ≡ kept 65537 (take n line) (getD a at 0)
     bytes = p .bytes ∙ ap (λ (m : ℕ). kept m (take n line) (getD a at 0)) sized
 
-    pub line-on : (getD a at 0 ≡ 10 → ⊥) → LineSoFar P a line′ n′ (at + 1)
+    pub line-on : (getD a at 0 ≡ 10 → ⊥) → LineSoFar P line₀ a line′ n′ (at + 1)
     line-on k = record {
       within = omega (arith, p .within);
       place = omega arith;
       rest = rw bytes (sym (fed-on (take n line) (drop (at + 1) a) (getD a at 0) k) ∙ sym (next-byte (inLine (take n line)) a at h) ∙ i .rest);
+      kept = later;
     }
 
-    pub line-whole : getD a at 0 ≡ 10 → {n₀ from : ℕ} {line₀ : List ℕ} → P ≡ next (inLine (take n₀ line₀)) (drop from a) → TakesLine n₀ a from line₀ (LineWhole n′ (at + 1)) line′
+    pub line-whole : getD a at 0 ≡ 10 → {n₀ from : ℕ} → P ≡ next (inLine (take n₀ line₀)) (drop from a) → TakesLine n₀ a from line₀ (LineWhole n′ (at + 1)) line′
     line-whole k e = record {
       progress = rw bytes (sym (fed-lf (take n line) (drop (at + 1) a) (getD a at 0) k) ∙ sym (next-byte (inLine (take n line)) a at h) ∙ i .rest ∙ e);
       within = (omega (arith, p .within), omega arith);
+      rest = later;
     }
 
-  pub line-part : length a ≤ at → {n₀ from : ℕ} {line₀ : List ℕ} → P ≡ next (inLine (take n₀ line₀)) (drop from a) → TakesLine n₀ a from line₀ (LinePart n) line
+  pub line-part : length a ≤ at → {n₀ from : ℕ} → P ≡ next (inLine (take n₀ line₀)) (drop from a) → TakesLine n₀ a from line₀ (LinePart n) line
   line-part h e = record {
     progress = sym (next-end (inLine (take n line)) a at h) ∙ i .rest ∙ e;
     within = i .within;
+    rest = i .kept;
   }
 
 -- ---- A text
 
 -- m bytes of it are kept and w still wanted, and the bytes from the place on make P, whatever line of n bytes it comes after
-pub record TextSoFar (P : List ℕ → Progress) (n : ℕ) (a payload : List ℕ) (m w at : ℕ) : Type 0 where
+pub record TextSoFar (P : List ℕ → Progress) (n : ℕ) (payload₀ a payload : List ℕ) (m w at : ℕ) : Type 0 where
   pub within : m ≤ 65536
   pub place : at ≤ length a
+  pub kept : Kept m payload₀ payload
   pub rest : (line : List ℕ) → after (settled (take n line) (take m payload) w) (drop at a) ≡ P line
 
 pub settled-part : (l p s : List ℕ) (w : ℕ) → 0 < w → after (settled l p w) s ≡ next (partOf l p w) s
@@ -110,44 +151,36 @@ text-byte l p a (suc w) w′ at e h =
     let k : w ≡ w′ = omega arith in
     next-byte (inText l p w) a at h ∙ rw k
 
-module _ {P : List ℕ → Progress} {n : ℕ} {a payload : List ℕ} {m w at : ℕ} (i : TextSoFar P n a payload m w at) where
+module _ {P : List ℕ → Progress} {n : ℕ} {payload₀ a payload : List ℕ} {m w at : ℕ} (i : TextSoFar P n payload₀ a payload m w at) where
   pub text-on : at < length a → length payload ≡ 65536 → {m′ w′ : ℕ} {payload′ : List ℕ} → w ≡ suc w′ → Puts payload m (getD a at 0) m′ payload′
-      → TextSoFar P n a payload′ m′ w′ (at + 1)
+      → TextSoFar P n payload₀ a payload′ m′ w′ (at + 1)
   text-on h sized {m′} {w′} e p = record {
     within = omega (arith, p .within);
     place = omega arith;
+    kept = p .rest ∙ kept-on m m′ payload₀ payload (i .kept) (p .on);
     rest = λ line. rw (p .bytes, sized) (sym (text-byte (take n line) (take m payload) a w w′ at e h) ∙ i .rest line);
   }
 
-  pub text-part : n ≤ 65537 → length a ≤ at → 0 < w → {m₀ w₀ from : ℕ} {payload₀ : List ℕ}
+  pub text-part : n ≤ 65537 → length a ≤ at → 0 < w → {m₀ w₀ from : ℕ}
       → ((line : List ℕ) → P line ≡ after (settled (take n line) (take m₀ payload₀) w₀) (drop from a))
       → TakesText n m₀ w₀ a from payload₀ (Part (record { line = n; payload = m; wanted = w })) payload
   text-part f h k e = record {
     progress = λ line. sym (next-end (partOf (take n line) (take m payload) w) a at h) ∙ sym (settled-part (take n line) (take m payload) (drop at a) w k) ∙ i .rest line ∙ e line;
-    within = record { line = f; payload = i .within };
+    within = record { fits = record { line = f; payload = i .within }; bare = λ z. absurd (omega arith) };
+    line = refl;
+    rest = i .kept;
   }
 
-  pub text-whole : n ≤ 65537 → w ≡ 0 → {m₀ w₀ from : ℕ} {payload₀ : List ℕ}
+  pub text-whole : n ≤ 65537 → w ≡ 0 → {m₀ w₀ from : ℕ}
       → ((line : List ℕ) → P line ≡ after (settled (take n line) (take m₀ payload₀) w₀) (drop from a))
       → TakesText n m₀ w₀ a from payload₀ (Whole n m at) payload
   unfolding settled through
   text-whole f k e = record {
     progress = λ line. rw k at (i .rest line) ∙ e line;
     within = (record { line = f; payload = i .within }, i .place);
+    line = refl;
+    rest = i .kept;
   }
-
--- ---- How many bytes follow a line
-
-following-in : (q : Asked) → followingIn (requestOf q) ≡ following q
-unfolding following
-following-in (asksCall c ds) = refl
-following-in (asksRoom n) = refl
-following-in (asksRead n) = refl
-following-in malformed = refl
-
-pub parsed-wants : {line days : List ℕ} {r : Request} {days′ : List ℕ} → length days ≡ 32768 → Parses line days r days′ → followingIn r ≡ wants line
-unfolding wants
-parsed-wants {line} sized p = rw (p .answer, sized) (following-in (askedOf 32768 line))
 
 -- ---- A request
 
@@ -156,25 +189,60 @@ unfolding partOf
 part-line l p zero h = refl
 part-line l p (suc w) h = absurd (omega arith)
 
-module _ {f : Frame} {a : List ℕ} {from : ℕ} {line payload : List ℕ} where
-  pub text-advances : 0 < f .wanted → {r : Framed} {payload′ : List ℕ} → TakesText (f .line) (f .payload) (f .wanted) a from payload r payload′
-      → Advances f a from line payload r line payload′
-  text-advances h t = record {
-    progress = t .progress line ∙ settled-part (take (f .line) line) (take (f .payload) payload) (drop from a) (f .wanted) h;
-    within = t .within;
+-- what is begun from: as much of both lists as there is, and a place of what has arrived
+pub record Begun (f : Frame) (a : List ℕ) (from : ℕ) (line payload : List ℕ) (n₀ m₀ start : ℕ) : Type 0 where
+  pub lines : length line ≡ 65537
+  pub texts : length payload ≡ 65536
+  pub line-least : n₀ ≡ least (f .line) (length line)
+  pub text-least : m₀ ≡ least (f .payload) (length payload)
+  pub place-least : start ≡ least from (length a)
+
+module _ {f : Frame} {a : List ℕ} {from : ℕ} {line payload : List ℕ} {n₀ m₀ start : ℕ} (b : Begun f a from line payload n₀ m₀ start) where
+  pub begun-fits : Fits n₀ m₀
+  begun-fits = record {
+    line = rw (b .line-least, ← b .lines) (least-le (f .line) (length line));
+    payload = rw (b .text-least, ← b .texts) (least-le (f .payload) (length payload));
   }
 
-  module _ (h : f .wanted ≤ 0) {t : Taken} {line′ : List ℕ} (l : TakesLine (f .line) a from line t line′) {n : ℕ} where
+  pub begun-place : start ≤ length a
+  begun-place = rw (b .place-least) (least-le from (length a))
+
+  line-is : take n₀ line ≡ take (f .line) line
+  line-is = rw (b .line-least) (take-least line (f .line))
+
+  text-is : take m₀ payload ≡ take (f .payload) payload
+  text-is = rw (b .text-least) (take-least payload (f .payload))
+
+  place-is : drop start a ≡ drop from a
+  place-is = rw (b .place-least) (drop-least a from)
+
+  pub text-advances : 0 < f .wanted → {r : Framed} {payload′ : List ℕ} → TakesText n₀ m₀ (f .wanted) a start payload r payload′
+      → Advances f a from line payload r line payload′
+  text-advances h t = record {
+    progress = t .progress line ∙ rw (line-is, text-is, place-is) (settled-part (take (f .line) line) (take (f .payload) payload) (drop from a) (f .wanted) h);
+    within = t .within;
+    line-rest = refl;
+    text-rest = t .rest;
+  }
+
+  line-begun : f .wanted ≤ 0 → next (inLine (take n₀ line)) (drop start a) ≡ next (partOf (take (f .line) line) (take (f .payload) payload) (f .wanted)) (drop from a)
+  line-begun h = rw (line-is, place-is, part-line (take (f .line) line) (take (f .payload) payload) (f .wanted) h)
+
+  module _ (h : f .wanted ≤ 0) {t : Taken} {line′ : List ℕ} (l : TakesLine n₀ a start line t line′) {n : ℕ} where
     pub line-advances : {at : ℕ} → t ≡ LineWhole n at → {w : ℕ} → w ≡ wants (take n line′)
         → {r : Framed} {payload′ : List ℕ} → TakesText n 0 w a at payload r payload′ → Advances f a from line payload r line′ payload′
     line-advances e {w} k p = record {
-      progress = rw (part-line (take (f .line) line) (take (f .payload) payload) (f .wanted) h) (rw k at (p .progress line′) ∙ rw e at (l .progress));
+      progress = rw k at (p .progress line′) ∙ rw e at (l .progress) ∙ line-begun h;
       within = p .within;
+      line-rest = rw (p .line) (rw e at (l .rest));
+      text-rest = p .rest;
     }
 
     pub part-advances : t ≡ LinePart n → Advances f a from line payload (Part (record { line = n; payload = 0; wanted = 0 })) line′ payload
     unfolding partOf
     part-advances e = record {
-      progress = rw (part-line (take (f .line) line) (take (f .payload) payload) (f .wanted) h) (rw e at (l .progress));
-      within = record { line = rw e at (l .within); payload = omega arith };
+      progress = rw e at (l .progress) ∙ line-begun h;
+      within = record { fits = record { line = rw e at (l .within); payload = omega arith }; bare = λ z. refl };
+      line-rest = rw e at (l .rest);
+      text-rest = refl;
     }

@@ -1,5 +1,5 @@
--- The step of `Heard` is the contract of `advance` itself, as the prover reads it: by computation, and not by copying.
--- Assumes nothing.
+-- The step of `Heard` is the contract of `advance` itself, as the prover reads it: by computation, and not by copying. Neither `advance`
+-- nor its form for a host asks anything of its caller. Assumes nothing.
 use mathlib.Core.Path.{_≡_, refl}
 use mathlib.Core.List.{List}
 use Prim.Native.Nat.{ℕ}
@@ -7,14 +7,17 @@ use contract.Lifetimes.{Lfts}
 use denote.Ref.{RefT, now}
 use Rattle.framing.specs.declared.Frame.{Frame}
 use Rattle.framing.specs.declared.Framed.{Framed}
-use Rattle.framing.specs.Advancing.{Ready, Advances}
+use Rattle.framing.specs.Advancing.{Advances}
 use Rattle.framing.proofs.advance.Reads as advance-reads
+use Rattle.framing.proofs.phayaklit_advance.Reads as host-reads
 
-module _ (κs : Lfts 4) (f : Frame) (from : ℕ) (r : Framed) (arrived line line′ payload payload′ days days′ : RefT (List ℕ)) where
-  pub requires-is : advance-reads.Pre κs (f, (arrived, (from, (line, (payload, (days, tt)))))) ≡ Ready f (now arrived) from
+module _ (κs : Lfts 3) (f : Frame) (from : ℕ) (arrived line line′ payload payload′ : RefT (List ℕ)) where
+  pub requires-is : advance-reads.Pre κs (f, (arrived, (from, (line, (payload, tt))))) ≡ Unit {0}
   requires-is = refl
 
-  pub ensures-is : advance-reads.Post κs (f, (arrived, (from, (line, (payload, (days, tt)))))) r
-      (f, (arrived, (from, (line′, (payload′, (days′, tt))))))
+  pub host-requires-is : host-reads.Pre κs (f, (arrived, (from, (line, (payload, tt))))) ≡ Unit {0}
+  host-requires-is = refl
+
+  pub ensures-is : (r : Framed) → advance-reads.Post κs (f, (arrived, (from, (line, (payload, tt))))) r (f, (arrived, (from, (line′, (payload′, tt)))))
       ≡ Advances f (now arrived) from (now line) (now payload) r (now line′) (now payload′)
-  ensures-is = refl
+  ensures-is r = refl

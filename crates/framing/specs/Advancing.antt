@@ -1,11 +1,10 @@
 -- What the program holds of a request that has come in part, and the postcondition of `advance`. Assumes nothing.
 use Prim.Native.Nat.{ℕ, zero, suc, _≤_}
 use mathlib.Core.Path.{_≡_}
-use mathlib.Core.Bool.{cond}
+use mathlib.Core.Bool.{Bool, _&&_, _||_, cond}
 use mathlib.Core.List.{List, [], _∷_}
+use lib.Dec.{leb, ltb, eqb}
 use lib.ListN.{length, take, drop}
-use Rattle.requests.specs.declared.Request.{Request}
-use Rattle.requests.specs.declared.Request.the-variants.{Call as RequestCall, Room as RequestRoom, Read as RequestRead, Malformed as RequestMalformed}
 use Rattle.wire.specs.Conversation.{Sent}
 use Rattle.framing.specs.declared.Advanced.{Advanced}
 use Rattle.framing.specs.declared.Frame.{Frame}
@@ -51,10 +50,10 @@ pub record Fits (n m : ℕ) : Type 0 where
   pub line : n ≤ 65537
   pub payload : m ≤ 65536
 
--- what `advance` requires: so also the place that is begun from
-pub record Ready (f : Frame) (arrived : List ℕ) (from : ℕ) : Type 0 where
+-- a frame that the calls give: where nothing is wanted, nothing is kept of a text
+pub record Sound (f : Frame) : Type 0 where
   pub fits : Fits (f .line) (f .payload)
-  pub place : from ≤ length arrived
+  pub bare : f .wanted ≡ 0 → f .payload ≡ 0
 
 -- what the program answers, with the lists as it leaves them
 abbrev pub progressOf : Framed → List ℕ → List ℕ → List ℕ → Progress
@@ -63,12 +62,28 @@ progressOf (Part f) arrived line payload = going (partialOf f line payload)
 
 abbrev pub Within : Framed → ℕ → Type 0
 Within (Whole n m at) size = (Fits n m) × (at ≤ size)
-Within (Part f) size = Fits (f .line) (f .payload)
+Within (Part f) size = Sound f
 
--- THE POSTCONDITION of `advance`: the next request of the bytes that have arrived, from a place on
+-- the places from n on keep what they held
+abbrev pub Kept : ℕ → List ℕ → List ℕ → Type 0
+Kept n l l′ = drop n l′ ≡ drop n l
+
+-- so many bytes of the line, and of the text
+abbrev pub lineIn : Framed → ℕ
+lineIn (Whole n m at) = n
+lineIn (Part f) = f .line
+
+abbrev pub textIn : Framed → ℕ
+textIn (Whole n m at) = m
+textIn (Part f) = f .payload
+
+-- THE POSTCONDITION of `advance`: the next request of the bytes that have arrived, from a place on; and in both lists the places past
+-- what is kept of it are as they were. A frame may say anything: a list has no more bytes than places.
 pub record Advances (f : Frame) (arrived : List ℕ) (from : ℕ) (line payload : List ℕ) (r : Framed) (line′ payload′ : List ℕ) : Type 0 where
   pub progress : progressOf r arrived line′ payload′ ≡ next (partialOf f line payload) (drop from arrived)
   pub within : Within r (length arrived)
+  pub line-rest : Kept (lineIn r) line line′
+  pub text-rest : Kept (textIn r) payload payload′
 
 -- ---- The postconditions of its parts
 
@@ -76,7 +91,9 @@ pub record Advances (f : Frame) (arrived : List ℕ) (from : ℕ) (line payload 
 pub record Puts (into : List ℕ) (n b r : ℕ) (into′ : List ℕ) : Type 0 where
   pub sized : length into′ ≡ length into
   pub within : r ≤ length into
+  pub on : n ≤ r
   pub bytes : take r into′ ≡ kept (length into) (take n into) b
+  pub rest : Kept r into into′
 
 -- a line that is taken up to its LF, or not whole
 abbrev pub takenOf : Taken → List ℕ → List ℕ → Progress
@@ -87,24 +104,53 @@ abbrev pub TakenWithin : Taken → ℕ → Type 0
 TakenWithin (LineWhole n at) size = (n ≤ 65537) × (at ≤ size)
 TakenWithin (LinePart n) size = n ≤ 65537
 
+abbrev pub bytesIn : Taken → ℕ
+bytesIn (LineWhole n at) = n
+bytesIn (LinePart n) = n
+
 pub record TakesLine (n : ℕ) (arrived : List ℕ) (from : ℕ) (line : List ℕ) (r : Taken) (line′ : List ℕ) : Type 0 where
   pub progress : takenOf r arrived line′ ≡ next (inLine (take n line)) (drop from arrived)
   pub within : TakenWithin r (length arrived)
+  pub rest : Kept (bytesIn r) line line′
 
 -- a text of which so many bytes are wanted, whatever line it comes after
 pub record TakesText (n m wanted : ℕ) (arrived : List ℕ) (from : ℕ) (payload : List ℕ) (r : Framed) (payload′ : List ℕ) : Type 0 where
   pub progress : (line : List ℕ) → progressOf r arrived line payload′ ≡ after (settled (take n line) (take m payload) wanted) (drop from arrived)
   pub within : Within r (length arrived)
+  pub line : lineIn r ≡ n
+  pub rest : Kept (textIn r) payload payload′
 
--- how many bytes follow a line that the program holds as this
-abbrev pub followingIn : Request → ℕ
-followingIn (RequestCall c k) = 0
-followingIn (RequestRoom n) = 0
-followingIn (RequestRead n) = n
-followingIn RequestMalformed = 0
+-- the less of two numbers
+abbrev pub least : ℕ → ℕ → ℕ
+least a b = cond (leb a b) a b
 
 -- ---- For a host
 
--- what a host is told
-abbrev pub framedOf : Advanced → Framed
-framedOf r = cond (r .whole) (Whole (r .line) (r .payload) (r .next)) (Part (record { line = r .line; payload = r .payload; wanted = r .wanted }))
+-- whether the calls give such a frame, and the place lies in what has arrived
+abbrev pub ready : Frame → ℕ → ℕ → Bool
+ready f size from = leb (f .line) 65537 && leb (f .payload) 65536 && (ltb 0 (f .wanted) || eqb (f .payload) 0) && leb from size
+
+-- what a host is told: 1 for a whole request, 0 for a part of one
+abbrev pub toldOf : Framed → ℕ → Advanced
+toldOf (Whole n m at) size = record { outcome = 1; line = n; payload = m; wanted = 0; next = at }
+toldOf (Part f) size = record { outcome = 0; line = f .line; payload = f .payload; wanted = f .wanted; next = size }
+
+-- 2 for a frame that no call gave, or a place that is not there
+abbrev pub refusedFrame : Advanced
+refusedFrame = record { outcome = 2; line = 0; payload = 0; wanted = 0; next = 0 }
+
+-- the host is told what `advance` gives
+pub record Tells (f : Frame) (arrived : List ℕ) (from : ℕ) (line payload : List ℕ) (r : Advanced) (line′ payload′ : List ℕ) : Type 0 where
+  pub framed : Framed
+  pub advances : Advances f arrived from line payload framed line′ payload′
+  pub told : r ≡ toldOf framed (length arrived)
+
+-- both lists are as they were
+pub record Refuses (line payload : List ℕ) (r : Advanced) (line′ payload′ : List ℕ) : Type 0 where
+  pub told : r ≡ refusedFrame
+  pub line-kept : line′ ≡ line
+  pub text-kept : payload′ ≡ payload
+
+abbrev pub HostAdvances : Frame → List ℕ → ℕ → List ℕ → List ℕ → Advanced → List ℕ → List ℕ → Type 0
+HostAdvances f arrived from line payload r line′ payload′ =
+    cond (ready f (length arrived) from) (Tells f arrived from line payload r line′ payload′) (Refuses line payload r line′ payload′)

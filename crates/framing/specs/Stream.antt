@@ -5,7 +5,7 @@ use mathlib.Core.Bool.{false, cond}
 use mathlib.Core.List.{List, [], _∷_, _++_}
 use lib.Dec.{eqb}
 use lib.ListN.{take}
-use Rattle.requests.specs.Requests.{Asked, asksCall, asksRoom, asksRead, malformed, askedOf}
+use Rattle.requests.specs.Requests.{askedOf, following}
 use Rattle.wire.specs.Conversation.{Sent}
 
 -- a request that has come in part: these bytes of its line, and not its LF; or its line, these bytes after it, and n + 1 still to come
@@ -26,13 +26,7 @@ pub data Step : Type 0 where
 unfoldable pub kept : ℕ → List ℕ → ℕ → List ℕ
 kept most s b = take most (s ++ b ∷ [])
 
--- how many bytes follow a line that asks this: those of the text of a `read`
-unfoldable pub following : Asked → ℕ
-following (asksCall c ds) = 0
-following (asksRoom n) = 0
-following (asksRead n) = n
-following malformed = 0
-
+-- how many bytes follow a line: those of the text that it asks to read
 unfoldable pub wants : List ℕ → ℕ
 wants line = following (askedOf 32768 line)
 

@@ -3,10 +3,8 @@ ghost use mathlib.Core.Path.{_≡_};
 ghost use Prim.Native.Nat.{_≤_};
 ghost use lib.ListN.{length, take};
 ghost use Rattle.framing.specs.Stream.{wants};
-ghost use Rattle.framing.specs.Advancing.{Fits, Puts, TakesLine, TakesText, followingIn, Ready, Advances, framedOf};
+ghost use Rattle.framing.specs.Advancing.{Fits, Puts, TakesLine, TakesText, least, Advances, ready, refusedFrame, HostAdvances};
 ghost use Rattle.framing.specs.History.{opened};
-use requests::Request;
-use wire::DAYS;
 
 const LF: u8 = 10;
 
@@ -108,52 +106,45 @@ fn take_text(
     Framed::Whole(n, m, at)
 }
 
-// How many bytes follow a line that asks this.
-fn following(request: Request) -> u64
-    ensures { λ r. ⌜ r ≡ followingIn request ⌝ }
-{
-    match request {
-        Request::Call(_, _) => 0,
-        Request::Room(_) => 0,
-        Request::Read(n) => n,
-        Request::Malformed => 0,
-    }
-}
-
 // How many bytes follow the line of n bytes.
-fn text_length(line: &[u8], n: usize, days: &mut [u16; DAYS]) -> u64
+fn text_length(line: &[u8], n: usize) -> u64
     requires { ⌜ n ≤ length (now line) ⌝ }
     ensures { λ r. ⌜ r ≡ wants (take n (now (line .entry))) ⌝ }
 {
-    following(requests::parse(&line[..n], days))
+    requests::text_length(&line[..n])
+}
+
+// The place n of a list, or its end where it has fewer places.
+fn within(n: usize, list: &[u8]) -> usize
+    ensures { λ r. ⌜ r ≡ least n (length (now (list .entry))) ⌝ }
+{
+    let size = list.len();
+    if n <= size {
+        return n;
+    }
+    size
 }
 
 // Goes on with a request that has come in part, by the bytes that have arrived from the place `from` on. `line` and `payload` hold
-// what is kept of it; `days` is lent to the reading of its line.
+// what is kept of it in their first places, and their later places keep what they held.
 pub fn advance(
     frame: Frame,
     arrived: &[u8],
     from: usize,
     line: &mut [u8; LINE],
     payload: &mut [u8; TEXT],
-    days: &mut [u16; DAYS],
 ) -> Framed
-    requires { ⌜ Ready frame (now arrived) from ⌝ }
     ensures { λ r. ⌜ Advances frame (now (arrived .entry)) from (now (line .entry)) (now (payload .entry)) r (now (line .exit)) (now (payload .exit)) ⌝ }
 {
+    let n = within(frame.line, line);
+    let m = within(frame.payload, payload);
+    let start = within(from, arrived);
     if frame.wanted > 0 {
-        return take_text(
-            frame.line,
-            frame.payload,
-            frame.wanted,
-            arrived,
-            from,
-            payload,
-        );
+        return take_text(n, m, frame.wanted, arrived, start, payload);
     }
-    match take_line(frame.line, arrived, from, line) {
+    match take_line(n, arrived, start, line) {
         Taken::Whole(n, at) => {
-            let wanted = text_length(line, n, days);
+            let wanted = text_length(line, n);
             take_text(n, 0, wanted, arrived, at, payload)
         }
         Taken::Part(n) => Framed::Part(Frame {
@@ -166,15 +157,49 @@ pub fn advance(
 
 // ---- For other software
 
-// What a host is told: a whole request, so many bytes of its line and of its text, with the place after it; or, where `whole` is
-// false, the frame to go on with.
+// What a host is told. Outcome 1 is a whole request: so many bytes of its line and of its text, with the place after it. Outcome 0 is a
+// part of one: the frame to go on with. Outcome 2 refuses a frame that no call gave and a place that is not there: all else is 0, and
+// both lists are as they were.
 #[repr(C)]
 pub struct Advanced {
-    pub whole: bool,
+    pub outcome: u32,
     pub line: usize,
     pub payload: usize,
     pub wanted: u64,
     pub next: usize,
+}
+
+// Whether the calls give such a frame, and the place lies in what has arrived. (What the lists hold is not tested: whatever it is, it
+// counts as what has come.)
+fn is_ready(frame: Frame, size: usize, from: usize) -> bool
+    ensures { λ r. ⌜ r ≡ ready frame size from ⌝ }
+{
+    if frame.line > LINE {
+        return false;
+    }
+    if frame.payload > TEXT {
+        return false;
+    }
+    if frame.wanted > 0 {
+        return from <= size;
+    }
+    if frame.payload != 0 {
+        return false;
+    }
+    from <= size
+}
+
+fn refused() -> Advanced
+    ensures { λ r. ⌜ r ≡ refusedFrame ⌝ }
+{
+    let none = 0;
+    Advanced {
+        outcome: 2,
+        line: none,
+        payload: none,
+        wanted: 0,
+        next: none,
+    }
 }
 
 // `advance` for a host. The frame of a request of which nothing has come is all zeros.
@@ -185,23 +210,24 @@ pub extern "C" fn phayaklit_advance(
     from: usize,
     line: &mut [u8; LINE],
     payload: &mut [u8; TEXT],
-    days: &mut [u16; DAYS],
 ) -> Advanced
-    requires { ⌜ Ready frame (now arrived) from ⌝ }
-    ensures { λ r. ⌜ Advances frame (now (arrived .entry)) from (now (line .entry)) (now (payload .entry)) (framedOf r) (now (line .exit)) (now (payload .exit)) ⌝ }
+    ensures { λ r. ⌜ HostAdvances frame (now (arrived .entry)) from (now (line .entry)) (now (payload .entry)) r (now (line .exit)) (now (payload .exit)) ⌝ }
 {
     let size = arrived.len();
-    let r = advance(frame, arrived, from, line, payload, days);
+    if !is_ready(frame, size, from) {
+        return refused();
+    }
+    let r = advance(frame, arrived, from, line, payload);
     match r {
         Framed::Whole(n, m, at) => Advanced {
-            whole: true,
+            outcome: 1,
             line: n,
             payload: m,
             wanted: 0,
             next: at,
         },
         Framed::Part(f) => Advanced {
-            whole: false,
+            outcome: 0,
             line: f.line,
             payload: f.payload,
             wanted: f.wanted,

@@ -2,6 +2,7 @@ pub mod Words
 pub mod Fields
 pub mod DayLists
 pub mod Forms
+pub mod Following
 pub mod Asking
 pub mod Enough
 pub mod Claims

@@ -13,7 +13,7 @@ use Rattle.register.specs.declared.Line.the-variants.{Value as LineValue, Malfo
 use Rattle.model.specs.declared.Call.{Call}
 use Rattle.requests.specs.declared.Request.{Request}
 use Rattle.requests.specs.declared.Request.the-variants.{Call as RequestCall, Room as RequestRoom, Read as RequestRead, Malformed as RequestMalformed}
-use Rattle.requests.specs.Requests.{Asked, asksCall, asksRoom, asksRead, malformed, askDays, DayList, askedOf, daysOf}
+use Rattle.requests.specs.Requests.{Asked, asksCall, asksRoom, asksRead, malformed, askDays, DayList, askedOf, following, daysOf}
 
 -- the program's form of what is asked: the days of a call stand in the first places of the lent list, and their count beside it
 abbrev pub requestOf : Asked → Request
@@ -78,3 +78,13 @@ roomIn (RequestCall c k) = 0
 roomIn (RequestRoom n) = n
 roomIn (RequestRead n) = 0
 roomIn RequestMalformed = 0
+
+-- ---- The text after a line
+
+abbrev pub announcedIn : Length → ℕ
+announcedIn (LengthValue n next) = n
+announcedIn LengthMalformed = 0
+
+-- r bytes follow the line, whatever room there is for days
+abbrev pub Announces : List ℕ → ℕ → Type 0
+Announces line r = (room : ℕ) → r ≡ following (askedOf room line)

@@ -177,6 +177,13 @@ askedBy Unknown room s = malformed
 unfoldable pub askedOf : ℕ → List ℕ → Asked
 askedOf room s = cond (leb (length s) 65536) (askedBy (wordOf s) room s) malformed
 
+-- how many bytes follow a line that asks this: those of the text of a `read`
+unfoldable pub following : Asked → ℕ
+following (asksCall c ds) = 0
+following (asksRoom n) = 0
+following (asksRead n) = n
+following malformed = 0
+
 -- whether a list of days follows the word
 unfoldable pub isDays : Word → Bool
 isDays EnterWord = false

@@ -8,7 +8,7 @@ ghost use Rattle.fields.specs.Answers.{fieldOf, lengthOf};
 ghost use Rattle.register.specs.Text.{readLine};
 ghost use Rattle.register.specs.Answers.{lineOf};
 ghost use Rattle.requests.specs.Requests.{begins, wordOf, ended, asking, asks, readSpan, bare, lastDay, readDays};
-ghost use Rattle.requests.specs.Parsing.{requestOf, lineAsked, numberAsked, lengthAsked, after, ReadsDays, Parses};
+ghost use Rattle.requests.specs.Parsing.{requestOf, lineAsked, numberAsked, lengthAsked, after, ReadsDays, Parses, announcedIn, Announces};
 use fields::Field;
 use fields::Length;
 use model::Call;
@@ -277,4 +277,30 @@ pub fn parse(line: &[u8], days: &mut [u16]) -> Request
         Word::Read => read_asked(last_length(line, 5, LARGEST_LENGTH)),
         Word::Unknown => Request::Malformed,
     }
+}
+
+// ---- The text after a line
+
+// The length that is read, or none.
+fn announced(l: Length) -> u64
+    ensures { λ r. ⌜ r ≡ announcedIn l ⌝ }
+{
+    match l {
+        Length::Value(n, _) => n,
+        Length::Malformed => 0,
+    }
+}
+
+// How many bytes follow a line: those of the text that a `read` announces. Only the word `read` is tried, so that a line need not be
+// taken apart to know where its request ends.
+pub fn text_length(line: &[u8]) -> u64
+    ensures { λ r. ⌜ Announces (now (line .entry)) r ⌝ }
+{
+    if line.len() > LONGEST_LINE {
+        return 0;
+    }
+    if !begins(line, b"read\t") {
+        return 0;
+    }
+    announced(last_length(line, 5, LARGEST_LENGTH))
 }

@@ -2,8 +2,10 @@
 // ends. With a file's name it begins by reading that register.
 ghost use Prim.Native.Nat.{_≤_};
 ghost use lib.ListN.{length, take};
-ghost use Rattle.framing.specs.Advancing.{Fits, Advances};
+ghost use Rattle.framing.specs.Advancing.{Advances};
 ghost use Rattle.service.specs.Service.{Given};
+ghost use Rattle.wire.specs.Answering.{Served};
+ghost use Rattle.serve.specs.Serving.{Takes, Turns};
 use framing::Frame;
 use framing::Framed;
 use framing::LINE;
@@ -48,12 +50,11 @@ fn advance(
     end: usize,
     line: &mut [u8; LINE],
     payload: &mut [u8; TEXT],
-    days: &mut [u16; DAYS],
 ) -> Framed
-    requires { ⌜ (Fits (frame .line) (frame .payload)) × (start ≤ end) × (end ≤ length (now arrived)) ⌝ }
+    requires { ⌜ end ≤ length (now arrived) ⌝ }
     ensures { λ r. ⌜ Advances frame (take end (now (arrived .entry))) start (now (line .entry)) (now (payload .entry)) r (now (line .exit)) (now (payload .exit)) ⌝ }
 {
-    framing::advance(frame, &arrived[..end], start, line, payload, days)
+    framing::advance(frame, &arrived[..end], start, line, payload)
 }
 
 // ---- Requests
@@ -76,17 +77,16 @@ fn next(
     end: usize,
     line: &mut [u8; LINE],
     payload: &mut [u8; TEXT],
-    days: &mut [u16; DAYS],
 ) -> Incoming
-    requires { ⌜ (start ≤ end) × (end ≤ 65536) ⌝ }
-    ensures { λ r. ⌜ (r .line ≤ 65537) × (r .payload ≤ 65536) × (r .start ≤ r .end) × (r .end ≤ 65536) ⌝ }
+    requires { ⌜ end ≤ 65536 ⌝ }
+    ensures { λ r. ⌜ Takes (now (arrived .entry)) start end r (now (arrived .exit)) (now (line .exit)) (now (payload .exit)) ⌝ }
 {
     let mut frame = framing::opened();
     let mut at = start;
     let mut to = end;
     let mut turns = u64::MAX;
     while turns > 0 {
-        let r = advance(frame, arrived, at, to, line, payload, days);
+        let r = advance(frame, arrived, at, to, line, payload);
         match r {
             Framed::Whole(n, m, place) => {
                 return Incoming {
@@ -147,7 +147,7 @@ fn reply(
 ) -> Answered
     requires { ⌜ Given service (now index) ⌝ }
     requires { ⌜ (n ≤ length (now line)) × (m ≤ length (now payload)) ⌝ }
-    ensures { λ r. ⌜ Given (r .service) (now (index .exit)) ⌝ }
+    ensures { λ r. ⌜ Served service (now (index .entry)) room (take n (now (line .entry))) (take m (now (payload .entry))) (now (days .entry)) (now (numbers .entry)) (now (text .entry)) (now (out .entry)) r (now (index .exit)) (now (days .exit)) (now (numbers .exit)) (now (text .exit)) (now (out .exit)) ⌝ }
 {
     wire::answer(
         service,
@@ -162,10 +162,15 @@ fn reply(
     )
 }
 
-// The service and the room after a request, the input that has arrived and is not taken yet, and whether there is more to serve.
+// The service and the room after a request, the place from which on its answer stands, the request as it was taken, and whether there is
+// more to serve.
 struct Session {
     service: Service,
     room: usize,
+    place: usize,
+    line: usize,
+    payload: usize,
+    whole: bool,
     start: usize,
     end: usize,
     open: bool,
@@ -187,15 +192,18 @@ fn turn(
     out: &mut [u8; OUT],
 ) -> Session
     requires { ⌜ Given service (now index) ⌝ }
-    requires { ⌜ (start ≤ end) × (end ≤ 65536) ⌝ }
-    ensures { λ r. ⌜ Given (r .service) (now (index .exit)) ⌝ }
-    ensures { λ r. ⌜ (r .start ≤ r .end) × (r .end ≤ 65536) ⌝ }
+    requires { ⌜ end ≤ 65536 ⌝ }
+    ensures { λ r. ⌜ Turns service (now (index .entry)) room (now (arrived .entry)) start end (now (days .entry)) (now (numbers .entry)) (now (text .entry)) (now (out .entry)) r (now (index .exit)) (now (arrived .exit)) (now (line .exit)) (now (payload .exit)) (now (days .exit)) (now (numbers .exit)) (now (text .exit)) (now (out .exit)) ⌝ }
 {
-    let q = next(arrived, start, end, line, payload, days);
+    let q = next(arrived, start, end, line, payload);
     if !q.whole {
         return Session {
             service,
             room,
+            place: 0,
+            line: q.line,
+            payload: q.payload,
+            whole: q.whole,
             start: q.start,
             end: q.end,
             open: false,
@@ -219,6 +227,10 @@ fn turn(
     Session {
         service: after,
         room: a.room,
+        place: a.place,
+        line: q.line,
+        payload: q.payload,
+        whole: q.whole,
         start: q.start,
         end: q.end,
         open,

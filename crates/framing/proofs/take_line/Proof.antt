@@ -12,13 +12,13 @@ use Rattle.framing.proofs.take_line.Statement.{statement}
 use Rattle.framing.proofs.take_line.Tie as tie
 
 abbrev Inv-loop : tie.InvT-loop
-Inv-loop n₀ arrived from line₀ n₁ at₀ line n at = LineSoFar (next (inLine (take n₀ line₀)) (drop from arrived)) arrived line n at
+Inv-loop n₀ arrived from line₀ n₁ at₀ line n at = LineSoFar (next (inLine (take n₀ line₀)) (drop from arrived)) line₀ arrived line n at
 
 abbrev μ-loop : tie.MeasureT-loop
 μ-loop n₀ arrived from line₀ n₁ at₀ line n at = length arrived - at
 
 loop-holds : tie.Need-loop-holds Inv-loop μ-loop
-loop-holds c = record { within = c .before .pre .0; place = c .before .pre .1; rest = refl }
+loop-holds c = record { within = c .before .pre .0; place = c .before .pre .1; rest = refl; kept = refl }
 
 returns : tie.Need-returns Inv-loop μ-loop
 returns c =

@@ -12,13 +12,13 @@ use Rattle.framing.proofs.take_text.Tie as tie
 
 abbrev Inv-loop : tie.InvT-loop
 Inv-loop n m₀ wanted arrived from payload₀ m₁ left₀ at₀ payload m left at =
-    TextSoFar (λ line. after (settled (take n line) (take m₀ payload₀) wanted) (drop from arrived)) n arrived payload m left at
+    TextSoFar (λ line. after (settled (take n line) (take m₀ payload₀) wanted) (drop from arrived)) n payload₀ arrived payload m left at
 
 abbrev μ-loop : tie.MeasureT-loop
 μ-loop n m₀ wanted arrived from payload₀ m₁ left₀ at₀ payload m left at = left
 
 loop-holds : tie.Need-loop-holds Inv-loop μ-loop
-loop-holds c = record { within = c .before .pre .0 .payload; place = c .before .pre .1; rest = λ line. refl }
+loop-holds c = record { within = c .before .pre .0 .payload; place = c .before .pre .1; kept = refl; rest = λ line. refl }
 
 returns : tie.Need-returns Inv-loop μ-loop
 returns c =

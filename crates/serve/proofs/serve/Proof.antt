@@ -7,7 +7,7 @@ use Rattle.serve.proofs.serve.Tie as tie
 
 abbrev Inv-loop : tie.InvT-loop
 Inv-loop index₀ arrived₀ line₀ payload₀ days₀ numbers₀ text₀ out₀ s₀ room₀ start₀ end₀ turns₀ index arrived line payload days numbers text out s room start end turns =
-    Given s index × (start ≤ end) × (end ≤ 65536)
+    Given s index × (end ≤ 65536)
 
 abbrev μ-loop : tie.MeasureT-loop
 μ-loop index₀ arrived₀ line₀ payload₀ days₀ numbers₀ text₀ out₀ s₀ room₀ start₀ end₀ turns₀ index arrived line payload days numbers text out s room start end turns =

@@ -1,15 +1,36 @@
 -- `serve::turn` meets its contract. Assumes nothing.
 use borrow.Author.Needs.{needs}
+use borrow.Author.Tests.{not-true}
 use native.Mathlib.Omega.{arith}
-use borrow.Author.Needs.{needs}
+use mathlib.Core.Path.{sym, _∙_}
+use mathlib.Core.Bool.{false≢true}
 use Rattle.serve.proofs.turn.Statement.{statement}
 use Rattle.serve.proofs.turn.Tie as tie
+
+returns : tie.Need-returns
+returns c =
+    let framed = c .before .before in
+    record {
+      given = framed .before .before .before .before .pre .0;
+      takes = framed .next .ensures;
+      serves = λ e. absurd (false≢true (sym (not-true _ (c .if1 .taken)) ∙ e));
+    }
 
 reply-requires : tie.Need-reply-requires
 reply-requires c κs =
     let framed = c .before .before .before .before .before .before .before .before .before .before .before in
-    let pre = framed .before .before .before .before .before .pre in
-    (pre .0, (omega (arith, framed .next .ensures), omega (arith, framed .next .ensures)))
+    let pre = framed .before .before .before .before .pre in
+    (pre .0, (omega (arith, framed .next .ensures .line-in), omega (arith, framed .next .ensures .text-in)))
+
+returns-2 : tie.Need-returns-2
+returns-2 c =
+    let replied = c .before .before .before in
+    let framed = replied .before .before .before .before .before .before .before .before .before .before .before .before in
+    record {
+      given = replied .reply .ensures .answers .turned .given;
+      takes = framed .next .ensures;
+      serves = λ _. replied .reply .ensures;
+    }
 
 pub turn-spec : {M : Type 1} → statement M
-turn-spec = tie.close (tie.spec (λ c κs. search needs) (λ c. search needs) reply-requires (λ c κs. search needs) (λ c. search needs))
+turn-spec = tie.close (tie.spec (λ c κs. search needs) returns reply-requires (λ c κs. search needs) returns-2)

@@ -1,0 +1,15 @@
+-- `framing::is_ready` meets its contract: each test in its turn. Assumes nothing.
+use borrow.Author.Needs.{needs}
+use borrow.Author.Tests.{le-leb, lt-leb, lt-ltb, le-ltb, eq-eqb, ne-eqb}
+use Rattle.framing.proofs.is_ready.Statement.{statement}
+use Rattle.framing.proofs.is_ready.Tie as tie
+
+pub is-ready-spec : {M : Type 1} → statement M
+is-ready-spec =
+    tie.close
+    (tie.spec
+    (λ c. rw (lt-leb _ 65537 (c .if1 .taken)))
+    (λ c. rw (le-leb _ 65537 (c .before .before .if1 .left), lt-leb _ 65536 (c .if2 .taken)))
+    (λ c. rw (le-leb _ 65537 (c .before .before .before .before .if1 .left), le-leb _ 65536 (c .before .before .if2 .left), lt-ltb 0 _ (c .if3 .taken)))
+    (λ c. rw (le-leb _ 65537 (c .before .before .before .before .before .before .if1 .left), le-leb _ 65536 (c .before .before .before .before .if2 .left), le-ltb 0 _ (c .before .before .if3 .left), ne-eqb _ 0 (c .if4 .taken)))
+    (λ c. rw (le-leb _ 65537 (c .before .before .before .before .before .before .if1 .left), le-leb _ 65536 (c .before .before .before .before .if2 .left), le-ltb 0 _ (c .before .before .if3 .left), eq-eqb _ 0 (c .if4 .left))))

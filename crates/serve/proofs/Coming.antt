@@ -1,0 +1,46 @@
+-- A request that is coming in pieces: what has come of it is what the bytes read so far make. Assumes nothing.
+use Prim.Native.Nat.{ℕ, _≤_}
+use mathlib.Core.Path.{_≡_, _∙_}
+use mathlib.Core.Bool.{true}
+use mathlib.Core.List.{List, [], _++_, append-assoc, append-nil}
+use lib.ListN.{take, drop}
+use Rattle.framing.specs.declared.Frame.{Frame}
+use Rattle.framing.specs.declared.Framed.the-variants.{Whole, Part}
+use Rattle.framing.specs.Stream.{begun}
+use Rattle.framing.specs.Advancing.{next, partOf, partialOf, Advances}
+use Rattle.framing.specs.History.{opened}
+use Rattle.framing.proofs.Cutting.{goOn, next-append}
+use Rattle.serve.specs.Serving.{between, Takes}
+
+-- what is kept of it, and the bytes from `at` to `to`, make what the bytes s and those read since make
+pub record Coming (s arrived line payload : List ℕ) (f : Frame) (at to : ℕ) : Type 0 where
+  pub end-in : to ≤ 65536
+  pub bytes : List ℕ
+  pub is : next (partialOf f line payload) (between arrived at to) ≡ next begun (s ++ bytes)
+
+pub comes : {arrived line payload : List ℕ} {f : Frame} {start end : ℕ} → f ≡ opened → end ≤ 65536 → Coming (between arrived start end) arrived line payload f start end
+unfolding partOf
+comes e h = record { end-in = h; bytes = []; is = rw (e, append-nil) }
+
+module _ {s arrived line payload : List ℕ} {f : Frame} {at to : ℕ} (c : Coming s arrived line payload f at to) where
+  -- a part of it is taken, and a read brings the first n bytes of a list
+  pub goes-on : {f′ : Frame} {line′ payload′ : List ℕ} → Advances f (take to arrived) at line payload (Part f′) line′ payload′
+      → (arrived′ : List ℕ) {n : ℕ} → n ≤ 65536 → Coming s arrived′ line′ payload′ f′ 0 n
+  unfolding goOn
+  goes-on a arrived′ {n} h = record {
+    end-in = h;
+    bytes = c .bytes ++ take n arrived′;
+    is = rw (← append-assoc s (c .bytes) (take n arrived′), next-append begun (s ++ c .bytes) (take n arrived′), ← c .is, ← a .progress);
+  }
+
+  -- it is whole
+  pub is-whole : {n m place : ℕ} {line′ payload′ : List ℕ} → Advances f (take to arrived) at line payload (Whole n m place) line′ payload′
+      → {arrived₀ : List ℕ} {start end : ℕ} → s ≡ between arrived₀ start end
+      → Takes arrived₀ start end (record { line = n; payload = m; whole = true; start = place; end = to }) arrived line′ payload′
+  is-whole a e = record {
+    line-in = a .within .0 .line;
+    text-in = a .within .0 .payload;
+    end-in = c .end-in;
+    bytes = c .bytes;
+    came = λ _. rw (← e) (a .progress ∙ c .is);
+  }
