@@ -1,3 +1,4 @@
 pub mod Asked
+pub mod Cases
 pub mod Lines
 pub mod Parts

@@ -13,10 +13,13 @@ use lib.ListN.{length, take, drop, length-append, length-drop, drop-of-length-le
 use lib.Seq.{take-at, take-all, take-length, drop-at, drop-append-add, drop-drop, length-take-le}
 use Rattle.spell.specs.declared.Spell.{Spell}
 use Rattle.stabbing.proofs.Marks.{clash}
-use Rattle.model.specs.Model.{State}
-use Rattle.service.specs.Service.{Shows, Published}
+use Rattle.register.specs.Text.{accepted, readText}
+use Rattle.model.specs.declared.Call.the-variants.{Publish}
+use Rattle.model.specs.Effects.{settle}
+use Rattle.model.specs.Model.{State, begun, refusalIn, effectOf, step}
+use Rattle.service.specs.Service.{Shows, Published, asking}
 use Rattle.report.specs.declared.Part.{Part}
-use Rattle.report.specs.Report.{dayLine, linesOf, textOf, taken, partDays, partOf, nextOf, Come, none, more, Reached, Printed, Ends, DayEnds, Appends, Stands, PartStands}
+use Rattle.report.specs.Report.{dayLine, linesOf, textOf, taken, partDays, partOf, nextOf, Come, none, more, Reached, Printed, PrintedOn, PrintedOf, Ends, DayEnds, Appends, Stands, PartStands}
 
 -- ---- Lines
 
@@ -216,12 +219,27 @@ module _ {ix : List ℕ} {d : ℕ} (f : Printing ix d) where
         record { text = so .text ++ partOf d (m .published); come = rw (s .part m shows .next) (more (so .come)) };
   }
 
-  pub printing-all : 4000 < d → Printed ix d true
-  printing-all h = record { reached = f .reached; all = λ _. omega (arith, f .upto) }
+  pub printing-all : 4000 < d → PrintedOn ix d true
+  printing-all h m shows = record { reached = f .reached m shows; all = λ _. omega (arith, f .upto) }
 
-  pub printing-some : Printed ix d false
-  printing-some = record { reached = f .reached; all = λ e. absurd (clash e refl) }
+  pub printing-some : PrintedOn ix d false
+  printing-some m shows = record { reached = f .reached m shows; all = λ e. absurd (clash e refl) }
 
 -- where all parts are printed, they are the text of all days
-pub printed-whole : {ix : List ℕ} {next : ℕ} (s : Printed ix next true) (m : State) (shows : Shows ix m) → s .reached m shows .text ≡ textOf (m .published)
-printed-whole s m shows = come-whole (rw (s .all refl) at (s .reached m shows .come))
+pub printed-whole : {p : List Spell} {next : ℕ} (s : Printed p next true) → s .reached .text ≡ textOf p
+printed-whole s = come-whole (rw (s .all refl) at (s .reached .come))
+
+-- the account that reads a register and publishes it
+abbrev published : List ℕ → State
+published text = step (begun (readText text)) (asking Publish [] [] []) .state
+
+-- what is printed of the index that shows its list is printed of the register's spells
+pub printed-of : (text : List ℕ) {ix : List ℕ} {next : ℕ} {whole : Bool} → PrintedOn ix next whole → Shows ix (published text) → PrintedOf text next whole
+unfolding begun effectOf settle
+printed-of text s shows l e =
+    let same : published text .published ≡ l = rw e in
+    rw same at (s (published text) shows)
+
+-- a refused register has no spells to print
+pub refused-none : (text : List ℕ) {next n : ℕ} {whole : Bool} → n ≡ refusalIn (readText text) → (n ≡ 0 → ⊥) → PrintedOf text next whole
+refused-none text is some l e = absurd (some (is ∙ ap refusalIn e))

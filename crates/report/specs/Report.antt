@@ -8,6 +8,7 @@ use lib.Dec.{leb}
 use lib.ListN.{length, take, drop}
 use Rattle.fields.specs.Fields.{numbersText}
 use Rattle.spell.specs.declared.Spell.{Spell}
+use Rattle.register.specs.Text.{accepted, readText}
 use Rattle.model.specs.Questions.{onDay, listed, comparisonsOf}
 use Rattle.model.specs.Model.{State}
 use Rattle.service.specs.Service.{Shows}
@@ -80,21 +81,6 @@ partOf d p = linesOf (partDays d p) d p
 abbrev pub nextOf : ℕ → List Spell → ℕ
 nextOf d p = d + partDays d p
 
--- parts, one after another from day 1 on, make a text and have come to day d
-pub data Come (p : List Spell) : ℕ → List ℕ → Type 0 where
-  none : Come p 1 []
-  more : {d : ℕ} {text : List ℕ} → Come p d text → Come p (nextOf d p) (text ++ partOf d p)
-
--- the day d that parts come to, and their text
-pub record Reached (p : List Spell) (d : ℕ) : Type 0 where
-  pub text : List ℕ
-  pub come : Come p d text
-
--- parts are printed one after another from day 1 on, and the next begins on day `next`: one past the last day where all are printed
-pub record Printed (ix : List ℕ) (next : ℕ) (whole : Bool) : Type 0 where
-  pub reached : (m : State) → Shows ix m → Reached (m .published) next
-  pub all : whole ≡ true → next ≡ 4001
-
 -- a part stands in the first places, and the places after keep what they held
 pub record Stands (p : List Spell) (d : ℕ) (entry : List ℕ) (r : Part) (exit : List ℕ) : Type 0 where
   pub bytes : r .bytes ≡ length (partOf d p)
@@ -107,3 +93,28 @@ pub record PartStands (ix : List ℕ) (d : ℕ) (entry : List ℕ) (r : Part) (e
   pub onward : d ≤ 4000 → d < r .next
   pub within : d ≤ 4001 → r .next ≤ 4001
   pub part : (m : State) → Shows ix m → Stands (m .published) d entry r exit
+
+-- ---- What is printed
+
+-- parts, one after another from day 1 on, make a text and have come to day d
+pub data Come (p : List Spell) : ℕ → List ℕ → Type 0 where
+  none : Come p 1 []
+  more : {d : ℕ} {text : List ℕ} → Come p d text → Come p (nextOf d p) (text ++ partOf d p)
+
+-- the day d that parts come to, and their text
+pub record Reached (p : List Spell) (d : ℕ) : Type 0 where
+  pub text : List ℕ
+  pub come : Come p d text
+
+-- parts are printed one after another from day 1 on, and the next begins on day `next`: one past the last day where all are printed
+pub record Printed (p : List Spell) (next : ℕ) (whole : Bool) : Type 0 where
+  pub reached : Reached p next
+  pub all : whole ≡ true → next ≡ 4001
+
+-- of whatever published list the index shows
+abbrev pub PrintedOn : List ℕ → ℕ → Bool → Type 0
+PrintedOn ix next whole = (m : State) → Shows ix m → Printed (m .published) next whole
+
+-- of the spells of a register's text, where it is not refused
+abbrev pub PrintedOf : List ℕ → ℕ → Bool → Type 0
+PrintedOf text next whole = (l : List Spell) → readText text ≡ accepted l → Printed l next whole

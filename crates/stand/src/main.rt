@@ -4,7 +4,7 @@
 ghost use Prim.Native.Nat.{_≤_};
 ghost use lib.ListN.{length};
 ghost use Rattle.service.specs.Service.{Published};
-ghost use Rattle.report.specs.Report.{Printed};
+ghost use Rattle.report.specs.Report.{PrintedOn, PrintedOf};
 use input::Input;
 use libc::STDERR_FILENO;
 use libc::STDIN_FILENO;
@@ -65,7 +65,7 @@ struct Days {
 // Prints the text of all days, part after part, as long as each can be written.
 fn print_days(index: &[u16; INDEX]) -> Days
     requires { ⌜ Published (now index) ⌝ }
-    ensures { λ r. ⌜ Printed (now (index .entry)) (r .next) (r .whole) ⌝ }
+    ensures { λ r. ⌜ PrintedOn (now (index .entry)) (r .next) (r .whole) ⌝ }
 {
     let mut out = [0u8; PART];
     let mut d = 1;
@@ -87,17 +87,22 @@ fn print_days(index: &[u16; INDEX]) -> Days
 
 // ---- The program
 
-// Publishes the register and prints the text of all days, or its refusal.
-fn stand(text: &[u8]) {
+// Publishes the register and prints the text of all days, or its refusal and no day.
+fn stand(text: &[u8]) -> Days
+    ensures { λ r. ⌜ PrintedOf (now (text .entry)) (r .next) (r .whole) ⌝ }
+{
     let mut index = [0u16; INDEX];
     let started = service::read(text, &mut index);
     if started.refusal != 0 {
         print_refusal(started.refusal, started.line);
-        return;
+        return Days {
+            next: 1,
+            whole: false,
+        };
     }
     let service = started.service;
     service::publish(service, &mut index);
-    print_days(&index);
+    print_days(&index)
 }
 
 fn usage() {
@@ -115,7 +120,9 @@ fn main() {
     let mut text = [0u8; TEXT];
     let got = input::fill(STDIN_FILENO, &mut text);
     match got {
-        Input::Read(n) => stand(&text[..n]),
+        Input::Read(n) => {
+            stand(&text[..n]);
+        }
         Input::Failed => os::fail(b"stand: standard input"),
     }
 }

@@ -1,11 +1,32 @@
--- `stand::stand` is safe: publish leaves an index that it built. Assumes nothing.
+-- `stand::stand` meets its contract: publish leaves an index that shows the register's spells. Assumes nothing.
 use borrow.Author.Needs.{needs}
-use Rattle.service.proofs.Beginning.{publishes-given}
+use mathlib.Core.List.{[]}
+use Rattle.service.proofs.Beginning.{publishes-given, publishes-met}
+use Rattle.report.proofs.Parts.{printed-of, refused-none}
 use Rattle.stand.proofs.stand.Statement.{statement}
 use Rattle.stand.proofs.stand.Tie as tie
+
+returns : tie.Need-returns
+returns c =
+    let read = c .before .before .before in
+    refused-none (read .before .before .before .args .text .now) (read .read .ensures .refusal) (c .before .if1 .taken)
 
 print-days-requires : tie.Need-print-days-requires
 print-days-requires c κs = publishes-given (c .before .before .before .before .before .before .read .ensures .represents .wf) (c .before .publish .ensures) .published
 
+returns-2 : tie.Need-returns-2
+returns-2 c =
+    let publish = c .before .before in
+    let read = publish .before .before .before .before .before in
+    let met = publishes-met (read .read .ensures .represents .wf) (publish .publish .ensures) _ [] [] [] in
+    printed-of (read .before .before .before .args .text .now) (c .print-days .ensures) (met .after _ (read .read .ensures .represents) .shows)
+
 pub stand-spec : {M : Type 1} → statement M
-stand-spec = tie.close (tie.spec (λ c κs. search needs) (λ c κs. search needs) (λ c. search needs) (λ c κs. search needs) print-days-requires (λ c. search needs))
+stand-spec =
+    tie.close
+    (tie.spec
+    (λ c κs. search needs) (λ c κs. search needs)
+    returns
+    (λ c κs. search needs)
+    print-days-requires
+    returns-2)
