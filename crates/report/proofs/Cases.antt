@@ -41,3 +41,11 @@ a-printed : textOf register ≡ (
     )
 unfolding below keep count head next parent child leftSibling lastChild fits start onPath formula digitsOf decimalOf numbersText filter comparisonsOf lineOf linesOf
 a-printed = refl
+
+-- the last day has its line, and the day after it none
+last-printed : textOf (spell 17 7 3999 4000 (Grade 1) ∷ []) ≡ (
+    51 ∷ 57 ∷ 57 ∷ 57 ∷ 9 ∷ 49 ∷ 9 ∷ 48 ∷ 9 ∷ 49 ∷ 55 ∷ 10
+    ∷ 52 ∷ 48 ∷ 48 ∷ 48 ∷ 9 ∷ 49 ∷ 9 ∷ 48 ∷ 9 ∷ 49 ∷ 55 ∷ 10 ∷ []
+    )
+unfolding below keep count head next parent child leftSibling lastChild fits start onPath formula digitsOf decimalOf numbersText filter comparisonsOf lineOf linesOf
+last-printed = refl

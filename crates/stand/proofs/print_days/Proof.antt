@@ -17,7 +17,7 @@ loop-less : tie.Need-loop-less Inv-loop μ-loop
 loop-less c =
     let part = c .before .before .before in
     let test = part .before .before in
-    omega (arith, test .loop-test .taken, part .days-part .ensures .onward (test .loop-test .taken))
+    omega (arith, test .loop-test .taken, part .days-part .ensures .onward (omega (arith, test .loop-test .taken)))
 
 loop-again : tie.Need-loop-again Inv-loop μ-loop
 loop-again c =
