@@ -1,2 +1,3 @@
 pub mod Skipping
+pub mod Closing
 pub mod Several

@@ -7,7 +7,7 @@ use mathlib.Core.List.{List, [], _∷_, _++_, map, map-append, append-assoc, app
 use mathlib.Core.Path.{_≡_, refl, sym, ap, _∙_}
 use lib.Dec.{ltb}
 use lib.ListN.{take-append-drop, length, getD, take, drop, length-append, length-drop, length-map, drop-of-length-le}
-use lib.Seq.{getD-drop, drop-cons, drop-drop, drop-append-le, take-at, drop-at, take-all, length-take-le}
+use lib.Seq.{getD-drop, drop-cons, drop-drop, take-at, drop-at, take-all, length-take-le}
 use borrow.Rule.Slice.PartMut.{putMid, postOf}
 use borrow.Author.Tests.{lt-ltb, le-ltb, ltb-true}
 use Rattle.stabbing.specs.Tree.{keep, fits, start, latest, formula}
@@ -15,7 +15,7 @@ use Rattle.stabbing.specs.Index.{Built, numbers, firsts, lasts}
 use Rattle.buffer.specs.Buffer.{overlaid}
 use Rattle.buffer.proofs.Overlaid.{overlaid-all}
 use Rattle.stabbing.specs.declared.Listed.{Listed}
-use Rattle.stabbing.specs.Answer.{Outcome, Gave, refused, give, question, calendar, calendars, risingFrom, containsAny, dayIn, daysOf}
+use Rattle.stabbing.specs.Answer.{Outcome, Gave, refused, give, question, calendar, calendars, risingFrom, containsAny, dayIn, daysOf, daysIn}
 use Rattle.stabbing.proofs.Marks.{both}
 use Rattle.stabbing.proofs.Starts.{latest-is}
 use Rattle.stabbing.proofs.Steps.{keep-room}
@@ -24,8 +24,9 @@ use Rattle.stabbing.proofs.Days.{from, keep-from, added, added-room, added-none
 use Rattle.stabbing_query.specs.Code.{numbered}
 use Rattle.stabbing_query.proofs.Answering.{give-all, give-none, refusal, keep-map, day-in}
 use Rattle.stabbing_query.proofs.Answering as Answers
-use Rattle.stabbing_days.specs.Code.{Skips, past, dayFrom, daysFrom, AddAsks, GatherAsks, Added}
+use Rattle.stabbing_days.specs.Code.{Skips, past, dayFrom, daysFrom, asked, askedAll, AddAsks, GatherAsks, Added, Gathered}
 use Rattle.stabbing_days.proofs.Skipping.{drop-map, rest-from, keep-within}
+use Rattle.stabbing_days.proofs.Closing.{closed}
 
 -- ---- The checks, day by day
 
@@ -65,8 +66,8 @@ module _ (ds : List ℕ) (i : ℕ) (h : length ds ≤ i) where
 
 -- ---- What one day adds
 
--- after the day is asked with a list of 1,024 places
-module _ (ix : List ℕ) (d m : ℕ) (answer : List ℕ) (q : AddAsks ix d m answer) (before xs : List ℕ) (n : length before ≡ 1024) (r : Listed) (g : Gave r xs (dayIn ix d before)) where
+-- the day is asked into the part
+module _ {ix : List ℕ} {d : ℕ} {part : List ℕ} (q : AddAsks ix d part) where
   abbrev fs : List ℕ
   fs = firsts ix
 
@@ -85,69 +86,63 @@ module _ (ix : List ℕ) (d m : ℕ) (answer : List ℕ) (q : AddAsks ix d m ans
   listed-length : length (numbered ix finds) ≡ length finds
   listed-length = length-map finds (λ (p : ℕ). getD ix p 0)
 
-  few : length finds ≤ 1024
+  few : length (numbered ix finds) ≤ length part
   unfolding keep
-  few = omega (arith, keep-room (fits fs ls d d) 0 (length fs) zero-le, held .few)
+  few = omega (arith, listed-length, keep-room (fits fs ls d d) 0 (length fs) zero-le, q .room)
 
   -- it is not refused: its finds stand in the first places
-  given : dayIn ix d before ≡ record { result = record { refusal = 0; count = length (numbered ix finds); comparisons = formula fs ls (start fs ls d d) finds }; out = numbered ix finds ++ drop (length (numbered ix finds)) before }
+  given : dayIn ix d part ≡ record { result = record { refusal = 0; count = length (numbered ix finds); comparisons = formula fs ls (start fs ls d d) finds }; out = numbered ix finds ++ drop (length (numbered ix finds)) part }
   unfolding question
-  given = day-in ix d before (q .dated) ∙ rw listed (give-all (numbered ix finds) (formula fs ls (start fs ls d d) finds) before (omega (arith, n, listed-length, few)))
+  given = day-in ix d part (q .dated) ∙ rw listed (give-all (numbered ix finds) (formula fs ls (start fs ls d d) finds) part few)
 
-  count-is : r .count ≡ length finds
-  count-is = ap (λ (l : Listed). l .count) (g .result ∙ ap (λ (o : Outcome). o .result) given) ∙ listed-length
+  asked-is : asked ix d part ≡ numbered ix finds ++ drop (length (numbered ix finds)) part
+  asked-is = ap (λ (o : Outcome). o .out) given
 
-  places-are : xs ≡ numbered ix finds ++ drop (length (numbered ix finds)) before
-  places-are = g .out ∙ ap (λ (o : Outcome). o .out) given
+  pub asked-length : length (asked ix d part) ≡ length part
+  asked-length = ap length asked-is ∙ length-append (numbered ix finds) (drop (length (numbered ix finds)) part) ∙ omega (arith, length-drop (length (numbered ix finds)) part, few)
 
-  pub count-in : r .count ≤ 1024
-  count-in = omega (arith, count-is, few)
+  module _ {r : Listed} {xs : List ℕ} (g : Gave r xs (dayIn ix d part)) where
+    count-is : r .count ≡ length (numbered ix finds)
+    count-is = ap (λ (l : Listed). l .count) (g .result ∙ ap (λ (o : Outcome). o .result) given)
 
-  -- with the place that is reached by skipping
-  module _ (at : ℕ) (z : Skips ix (take (r .count) xs) m at) where
+    pub count-in : r .count ≤ length xs
+    count-in = omega (arith, count-is, few, ap length (g .out), asked-length)
+
     found-is : take (r .count) xs ≡ numbered ix finds
-    found-is = rw places-are (take-at (numbered ix finds) (drop (length (numbered ix finds)) before) (r .count) (listed-length ∙ sym count-is))
+    found-is = rw (g .out ∙ asked-is) (take-at (numbered ix finds) (drop (length (numbered ix finds)) part) (r .count) (sym count-is))
 
-    at-is : at + past m finds ≡ length finds
-    at-is = z .skips finds (keep-within (fits fs ls d d) (length fs)) found-is ∙ ap length found-is ∙ listed-length
+    -- with the place that is reached by skipping
+    module _ {m f : ℕ} (z : Skips ix (take (r .count) xs) m f) where
+      f-is : f + past m finds ≡ length finds
+      f-is = z .skips finds (keep-within (fits fs ls d d) (length fs)) found-is ∙ ap length found-is ∙ listed-length
 
-    pub at-in : at ≤ r .count
-    at-in = omega (arith, at-is, count-is)
+      pub f-in : f ≤ r .count
+      f-in = omega (arith, f-is, count-is, listed-length)
 
-    new : drop at (numbered ix finds) ≡ dayFrom ix m d
-    new =
-        let n : at ≡ length finds - past m finds = omega (arith, at-is) in
-        rw n (drop-map (λ (p : ℕ). getD ix p 0) (length finds - past m finds) finds ∙ ap (numbered ix) (rest-from (fits fs ls d d) m (length fs)))
+      pub f-within : f ≤ length (take (r .count) xs)
+      f-within = omega (arith, length-take-le (r .count) xs count-in, f-in)
 
-    new-count : length (drop at (numbered ix finds)) ≡ r .count - at
-    new-count = length-drop at (numbered ix finds) ∙ omega (arith, listed-length, count-is)
+      new : drop f (take (r .count) xs) ≡ dayFrom ix m d
+      new =
+          let n : f ≡ length finds - past m finds = omega (arith, f-is) in
+          ap (drop f) found-is ∙ rw n (drop-map (λ (p : ℕ). getD ix p 0) (length finds - past m finds) finds ∙ ap (numbered ix) (rest-from (fits fs ls d d) m (length fs)))
 
-    rest-is : take (r .count - at) (drop at xs) ≡ dayFrom ix m d
-    rest-is =
-        let ys : List ℕ = drop (length (numbered ix finds)) before in
-        rw places-are (ap (take (r .count - at)) (drop-append-le at (numbered ix finds) ys (omega (arith, at-in, listed-length, count-is)))
-        ∙ take-at (drop at (numbered ix finds)) ys (r .count - at) new-count ∙ new)
+      new-count : r .count - f ≡ length (dayFrom ix m d)
+      new-count = sym (length-drop f (take (r .count) xs) ∙ omega (arith, length-take-le (r .count) xs count-in)) ∙ ap length new
 
-    rest-count : r .count - at ≡ length (dayFrom ix m d)
-    rest-count = sym new-count ∙ ap length new
-
-    fits-in : length (take (r .count - at) (drop at xs)) ≤ length answer
-    fits-in = rw rest-is (omega (arith, length-map (keep (from m (fits fs ls d d)) (length fs)) (λ (p : ℕ). getD ix p 0), keep-from (fits fs ls d d) m (length fs) (q .within), q .room))
-
-    pub adds : (after : List ℕ) → after ≡ overlaid (take (r .count - at) (drop at xs)) answer → Added (dayFrom ix m d) answer after (r .count - at)
-    adds after y = record { count = rest-count; places = y ∙ overlaid-all (take (r .count - at) (drop at xs)) answer fits-in ∙ rw (rest-is, ← rest-count) }
+      pub adds : {ys : List ℕ} → ys ≡ overlaid (drop f (take (r .count) xs)) (take (r .count) xs) → Added (dayFrom ix m d) (asked ix d part) (ys ++ drop (r .count) xs) (r .count - f)
+      adds y = record {
+        count = new-count;
+        places = ap (λ (zs : List ℕ). zs ++ drop (r .count) xs) y ∙ closed xs (r .count) f count-in f-in ∙ rw (new, g .out);
+      }
 
 -- ---- What several days add
-
--- how many rows begin by a day, as it is stored
-pub begun-stored : (ix : List ℕ) (b : Built ix) (d x m : ℕ) → d ≤ 4000 → x ≡ d → m ≡ getD ix (x + 14241) 0 → m ≡ latest (firsts ix) (lasts ix) d
-begun-stored ix b d x m h e z = z ∙ ap (λ (y : ℕ). getD ix (y + 14241) 0) e ∙ built-holds ix b .begun d h
 
 -- the rest of a list from the place a on, as it is lent
 pub lent : (xs : List ℕ) (a : ℕ) → take (length xs - a) (drop a xs) ≡ drop a xs
 lent xs a = take-all (length xs - a) (drop a xs) (omega (arith, length-drop a xs))
 
-module _ (ix ds : List ℕ) (m : ℕ) (answer : List ℕ) (q : GatherAsks ix ds m answer) where
+module _ {ix ds : List ℕ} {m : ℕ} {part : List ℕ} (q : GatherAsks ix ds m part) where
   abbrev gs : List ℕ
   gs = firsts ix
 
@@ -158,10 +153,16 @@ module _ (ix ds : List ℕ) (m : ℕ) (answer : List ℕ) (q : GatherAsks ix ds 
   holds = built-holds ix (q .built)
 
   -- no day is left
-  pub none-left : length ds ≡ 0 → daysFrom ix m ds ≡ []
-  none-left h =
-      let e : ds ≡ [] = drop-of-length-le ds {i = 0} (omega arith) in
-      rw e (ap (numbered ix) (added-none gs ks (holds .sorted) m))
+  module _ (h : length ds ≡ 0) where
+    nil-is : ds ≡ []
+    nil-is = drop-of-length-le ds {i = 0} (omega arith)
+
+    pub none-left : daysFrom ix m ds ≡ []
+    none-left = rw nil-is (ap (numbered ix) (added-none gs ks (holds .sorted) m))
+
+    pub none-asked : askedAll ix m ds part ≡ part
+    unfolding askedAll
+    none-asked = rw nil-is
 
   m-in : m ≤ length gs
   m-in = rw (q .begun) (latest-is gs ks (holds .sorted) (q .b) .within)
@@ -185,10 +186,10 @@ module _ (ix ds : List ℕ) (m : ℕ) (answer : List ℕ) (q : GatherAsks ix ds 
     after-b : q .b < x
     after-b = ltb-true (q .b) x (rises .0)
 
-    pub asks-add : AddAsks ix x m answer
-    asks-add = record { built = q .built; dated = dates .0; room = q .room; within = m-in }
+    pub asks-add : AddAsks ix x part
+    asks-add = record { built = q .built; dated = dates .0; room = omega (arith, q .room, m-in) }
 
-    module _ (M : ℕ) (e : M ≡ latest gs ks x) where
+    module _ {M : ℕ} (e : M ≡ latest gs ks x) where
       M-in : M ≤ length gs
       M-in = rw e (latest-is gs ks (holds .sorted) x .within)
 
@@ -203,140 +204,151 @@ module _ (ix ds : List ℕ) (m : ℕ) (answer : List ℕ) (q : GatherAsks ix ds 
           = rw (q .begun, e) (added gs ks (holds .sorted) (q .b) x after-b (drop 1 ds) (rises .1)) in
           ap (daysFrom ix m) cons-is ∙ ap (numbered ix) es ∙ map-append f (keep (from m (fits gs ks x x)) (length gs)) (keep (from M (containsAny gs ks (drop 1 ds))) (length gs))
 
-      module _ (after : List ℕ) (k : ℕ) (a : Added (dayFrom ix m x) answer after k) where
+      module _ {k : ℕ} (n : k ≡ length (dayFrom ix m x)) where
+        pub both-asked : askedAll ix m ds part ≡ dayFrom ix m x ++ askedAll ix M (drop 1 ds) (drop k (asked ix x part))
+        unfolding askedAll
+        both-asked = ap (λ (zs : List ℕ). askedAll ix m zs part) cons-is ∙ rw (e, n)
+
         pub k-room : k + m ≤ M
         k-room =
-            let n : k ≡ length (keep (from m (fits gs ks x x)) (length gs)) = a .count ∙ length-map (keep (from m (fits gs ks x x)) (length gs)) (λ (p : ℕ). getD ix p 0) in
-            rw (n, q .begun, e) (added-room gs ks (holds .sorted) (q .b) x after-b)
+            let l : k ≡ length (keep (from m (fits gs ks x x)) (length gs)) = n ∙ length-map (keep (from m (fits gs ks x x)) (length gs)) (λ (p : ℕ). getD ix p 0) in
+            rw (l, q .begun, e) (added-room gs ks (holds .sorted) (q .b) x after-b)
 
-        pub k-in : k ≤ length answer
-        k-in = omega (arith, k-room, M-in, q .room)
-
-        pub asks-rest : GatherAsks ix (drop 1 ds) M (drop k answer)
+        pub asks-rest : GatherAsks ix (drop 1 ds) M (drop k (asked ix x part))
         asks-rest = record {
           built = q .built;
           dated = dates .1;
           b = x;
           rising = rises .1;
           begun = e;
-          room = omega (arith, length-drop k answer, k-room, k-in, q .room);
+          room = omega (arith, length-drop k (asked ix x part), asked-length asks-add, k-room, q .room);
         }
 
--- Day by day: the first `at` places hold what the first i days give, and no more of it than the m rows that begin by the last of these; the
--- later places are as they were.
-module _ (ix ds answer₀ : List ℕ) where
-  pub record Going (answer : List ℕ) (m at i : ℕ) : Type 0 where
-    pub same : length answer ≡ length answer₀
-    pub within : at ≤ length answer
-    pub few : at ≤ m
-    pub asks : GatherAsks ix (drop i ds) m (drop at answer)
-    pub part : daysFrom ix 0 ds ≡ take at answer ++ daysFrom ix m (drop i ds)
-    pub kept : drop at answer ≡ drop at answer₀
+-- Day by day: the first `at` places hold what the first i days give, no more of it than the m rows that begin by the last of these; and what
+-- the days still to come make of the later places, all days make of the list as it was.
+pub record Going (ix ds answer₀ answer : List ℕ) (m at i : ℕ) : Type 0 where
+  pub same : length answer ≡ length answer₀
+  pub within : at ≤ length answer
+  pub few : at ≤ m
+  pub asks : GatherAsks ix (drop i ds) m (drop at answer)
+  pub part : daysFrom ix 0 ds ≡ take at answer ++ daysFrom ix m (drop i ds)
+  pub places : askedAll ix 0 ds answer₀ ≡ take at answer ++ askedAll ix m (drop i ds) (drop at answer)
 
-  pub starts : GatherAsks ix ds 0 answer₀ → Going answer₀ 0 0 0
-  starts q = record { same = refl; within = zero-le; few = zero-le; asks = q; part = refl; kept = refl }
+pub starts : {ix ds answer : List ℕ} → GatherAsks ix ds 0 answer → Going ix ds answer answer 0 0 0
+starts q = record { same = refl; within = zero-le; few = zero-le; asks = q; part = refl; places = refl }
 
-  module _ (answer : List ℕ) (m at i : ℕ) (g : Going answer m at i) where
-    pub ends : length ds ≤ i → Added (daysFrom ix 0 ds) answer₀ answer at
-    ends h =
-        let z : daysFrom ix 0 ds ≡ take at answer = g .part ∙ rw (none-left ix (drop i ds) m (drop at answer) (g .asks) (omega (arith, length-drop i ds)), append-nil) in
-        record {
-          count = sym (ap length z ∙ length-take-le at answer (g .within));
-          places = sym (take-append-drop at answer) ∙ rw (z, g .kept);
-        }
+module _ {ix ds answer₀ answer : List ℕ} {m at i : ℕ} (g : Going ix ds answer₀ answer m at i) where
+  pub ends : length ds ≤ i → Gathered ix ds answer₀ answer at
+  ends h =
+      let l : length (drop i ds) ≡ 0 = length-drop i ds ∙ omega arith in
+      let z : take at answer ≡ daysFrom ix 0 ds = sym (g .part ∙ rw (none-left (g .asks) l, append-nil)) in
+      record {
+        count = sym (length-take-le at answer (g .within)) ∙ ap length z;
+        first = z;
+        places = sym (g .places ∙ rw (none-asked (g .asks) l) (take-append-drop at answer));
+      }
 
-    module _ (h : i < length ds) where
-      -- the days still to come, and the places not yet written, as they are lent
-      abbrev rest : List ℕ
-      rest = take (length ds - i) (drop i ds)
+  module _ (h : i < length ds) where
+    -- the days still to come, and the places not yet written, as they are lent
+    abbrev rest : List ℕ
+    rest = take (length ds - i) (drop i ds)
 
-      abbrev free : List ℕ
-      free = take (length answer - at) (drop at answer)
+    abbrev free : List ℕ
+    free = take (length answer - at) (drop at answer)
 
-      abbrev today : ℕ
-      today = getD rest 0 0
+    abbrev today : ℕ
+    today = getD rest 0 0
 
-      pub some-left : 0 < length rest
-      some-left = rw (lent ds i) (omega (arith, length-drop i ds))
+    pub some-left : 0 < length rest
+    some-left = rw (lent ds i) (omega (arith, length-drop i ds))
 
-      q : GatherAsks ix rest m free
-      q = rw (lent ds i, lent answer at) (g .asks)
+    q : GatherAsks ix rest m free
+    q = rw (lent ds i, lent answer at) (g .asks)
 
-      pub asks-day : AddAsks ix today m free
-      asks-day = asks-add ix rest m free q some-left
+    pub asks-day : AddAsks ix today free
+    asks-day = asks-add q some-left
 
-      today-is : today ≡ getD ds i 0
-      today-is = let z : i + 0 ≡ i = omega arith in rw (lent ds i) (getD-drop i ds 0 0 ∙ ap (λ (n : ℕ). getD ds n 0) z)
+    today-is : today ≡ getD ds i 0
+    today-is = let z : i + 0 ≡ i = omega arith in rw (lent ds i) (getD-drop i ds 0 0 ∙ ap (λ (n : ℕ). getD ds n 0) z)
 
-      pub late : getD ds i 0 ≤ 4000
-      late = rw (← today-is) (Answers.dated today (asks-day .dated) .1)
+    pub late : getD ds i 0 ≤ 4000
+    late = rw (← today-is) (Answers.dated today (asks-day .dated) .1)
 
-      module _ (M : ℕ) (e : M ≡ latest (firsts ix) (lasts ix) (getD ds i 0)) (ys : List ℕ) (k : ℕ) (a : Added (dayFrom ix m today) free ys k) where
-        e′ : M ≡ latest (firsts ix) (lasts ix) today
-        e′ = e ∙ ap (latest (firsts ix) (lasts ix)) (sym today-is)
+    -- how many rows begin by it, as it is stored
+    pub begun-is : {x M : ℕ} → x ≡ getD ds i 0 → M ≡ getD ix (x + 14241) 0 → M ≡ latest (firsts ix) (lasts ix) (getD ds i 0)
+    begun-is e z = z ∙ ap (λ (y : ℕ). getD ix (y + 14241) 0) e ∙ built-holds ix (asks-day .built) .begun (getD ds i 0) late
 
-        room : k + m ≤ M
-        room = k-room ix rest m free q some-left M e′ ys k a
+    module _ {M : ℕ} (e : M ≡ latest (firsts ix) (lasts ix) (getD ds i 0)) {ys : List ℕ} {k : ℕ} (a : Added (dayFrom ix m today) (asked ix today free) ys k) where
+      e′ : M ≡ latest (firsts ix) (lasts ix) today
+      e′ = e ∙ ap (latest (firsts ix) (lasts ix)) (sym today-is)
 
-        k-fits : k ≤ length (drop at answer)
-        k-fits = rw (lent answer at) at (k-in ix rest m free q some-left M e′ ys k a)
+      room : k + m ≤ M
+      room = k-room q some-left e′ (a .count)
 
-        pub small : at + k ≤ 1024
-        small = omega (arith, room, g .few, M-small ix rest m free q some-left M e′)
+      pub small : at + k ≤ 1024
+      small = omega (arith, room, g .few, M-small q some-left e′)
 
-        -- what stands then in the answer
-        abbrev after : List ℕ
-        after = putMid at (length answer - at) answer ys
+      -- what stands then in the answer: what is written, and the part that is left
+      abbrev after : List ℕ
+      after = putMid at (length answer - at) answer ys
 
-        abbrev so-far : List ℕ
-        so-far = take at answer ++ dayFrom ix m today
+      abbrev so-far : List ℕ
+      so-far = take at answer ++ dayFrom ix m today
 
-        after-is : after ≡ so-far ++ drop (at + k) answer
-        after-is =
-            let p : postOf at (length answer - at) answer ≡ [] = drop-of-length-le (drop at answer) {i = length answer - at} (omega (arith, length-drop at answer)) in
-            rw (p, append-nil, a .places, lent answer at, drop-drop) (sym (append-assoc (take at answer) (dayFrom ix m today) (drop (at + k) answer)))
+      abbrev left : List ℕ
+      left = drop k (asked ix today free)
 
-        long : length so-far ≡ at + k
-        long = length-append (take at answer) (dayFrom ix m today) ∙ omega (arith, length-take-le at answer (g .within), a .count)
+      after-is : after ≡ so-far ++ left
+      after-is =
+          let p : postOf at (length answer - at) answer ≡ [] = drop-of-length-le (drop at answer) {i = length answer - at} (omega (arith, length-drop at answer)) in
+          rw (p, append-nil, a .places) (sym (append-assoc (take at answer) (dayFrom ix m today) left))
 
-        taken : take (at + k) after ≡ so-far
-        taken = rw after-is (take-at so-far (drop (at + k) answer) (at + k) long)
+      long : length so-far ≡ at + k
+      long = length-append (take at answer) (dayFrom ix m today) ∙ omega (arith, length-take-le at answer (g .within), a .count)
 
-        left : drop (at + k) after ≡ drop (at + k) answer
-        left = rw after-is (drop-at so-far (drop (at + k) answer) (at + k) long)
+      written : take (at + k) after ≡ so-far
+      written = rw after-is (take-at so-far left (at + k) long)
 
-        pub goes-on : Going after M (at + k) (i + 1)
-        goes-on =
-            let n : length after ≡ length answer
-            = ap length after-is ∙ length-append so-far (drop (at + k) answer) ∙ omega (arith, long, length-drop (at + k) answer, length-drop at answer, k-fits, g .within) in
-            let d : drop 1 rest ≡ drop (i + 1) ds = rw (lent ds i) (drop-drop 1 i ds) in
-            let f : drop k free ≡ drop (at + k) answer = rw (lent answer at) (drop-drop k at answer) in
-            let w : daysFrom ix m (drop i ds) ≡ daysFrom ix m rest = rw (lent ds i) in
-            record {
-              same = n ∙ g .same;
-              within = omega (arith, n, length-drop at answer, k-fits, g .within);
-              few = omega (arith, room, g .few);
-              asks = rw (left, ← d, ← f) (asks-rest ix rest m free q some-left M e′ ys k a);
-              part = g .part ∙ rw (w, both-are ix rest m free q some-left M e′, taken, d) (sym (append-assoc (take at answer) (dayFrom ix m today) (daysFrom ix M (drop (i + 1) ds))));
-              kept = left ∙ sym (drop-drop k at answer) ∙ ap (drop k) (g .kept) ∙ drop-drop k at answer₀;
-            }
+      unwritten : drop (at + k) after ≡ left
+      unwritten = rw after-is (drop-at so-far left (at + k) long)
+
+      pub goes-on : Going ix ds answer₀ after M (at + k) (i + 1)
+      goes-on =
+          let n : length after ≡ at + k + length left = ap length after-is ∙ length-append so-far left ∙ omega (arith, long) in
+          let l : length free ≡ length answer - at = ap length (lent answer at) ∙ length-drop at answer in
+          let d : drop 1 rest ≡ drop (i + 1) ds = rw (lent ds i) (drop-drop 1 i ds) in
+          let w : daysFrom ix m (drop i ds) ≡ daysFrom ix m rest = rw (lent ds i) in
+          let v : askedAll ix m (drop i ds) (drop at answer) ≡ askedAll ix m rest free = rw (lent ds i, lent answer at) in
+          record {
+            same = omega (arith, length-drop k (asked ix today free), asked-length asks-day, room, M-in q some-left e′, asks-day .room, g .within, g .same);
+            within = omega arith;
+            few = omega (arith, room, g .few);
+            asks = rw (unwritten, ← d) (asks-rest q some-left e′ (a .count));
+            part = g .part ∙ rw (w, both-are q some-left e′, written, d) (sym (append-assoc (take at answer) (dayFrom ix m today) (daysFrom ix M (drop (i + 1) ds))));
+            places = g .places ∙ rw (v, both-asked q some-left e′ (a .count), written, unwritten, d) (sym (append-assoc (take at answer) (dayFrom ix m today) (askedAll ix M (drop (i + 1) ds) left)));
+          }
 
 -- ---- The answer
 
-module _ (ns fs ls ds out : List ℕ) where
-  pub days-off : calendars ds ≡ false → daysOf ns fs ls ds out ≡ refused 3 out
-  unfolding daysOf
-  days-off e = rw (e, daysOf)
+abbrev refusal-of : ℕ → Listed
+refusal-of n = record { refusal = n; count = 0; comparisons = 0 }
 
-  pub days-back : calendars ds ≡ true → risingFrom 0 ds ≡ false → daysOf ns fs ls ds out ≡ refused 10 out
+module _ (ix ds out : List ℕ) {r : Listed} where
+  pub days-off : calendars ds ≡ false → r ≡ refusal-of 3 → Gave r out (daysIn ix ds out)
   unfolding daysOf
-  days-back d e = rw (d, daysOf) (rw (e, daysOf))
+  days-off e = refusal 3 out (daysIn ix ds out) (rw (e, daysOf)) r
 
-  days-in : calendars ds ≡ true → risingFrom 0 ds ≡ true → daysOf ns fs ls ds out ≡ give (map (λ p. getD ns p 0) (keep (containsAny fs ls ds) (length fs))) 0 out
+  pub days-back : calendars ds ≡ true → risingFrom 0 ds ≡ false → r ≡ refusal-of 10 → Gave r out (daysIn ix ds out)
   unfolding daysOf
-  days-in d e = rw (d, daysOf) (rw (e, daysOf))
+  days-back d e = refusal 10 out (daysIn ix ds out) (rw (d, daysOf) (rw (e, daysOf))) r
 
-module _ (ix ds : List ℕ) (b : Built ix) (d : calendars ds ≡ true) (r : risingFrom 0 ds ≡ true) where
+-- the days pass the checks
+pub record Accepted (ix ds : List ℕ) : Type 0 where
+  pub built : Built ix
+  pub dated : calendars ds ≡ true
+  pub rising : risingFrom 0 ds ≡ true
+
+module _ {ix ds : List ℕ} (q : Accepted ix ds) where
   abbrev js : List ℕ
   js = firsts ix
 
@@ -344,14 +356,14 @@ module _ (ix ds : List ℕ) (b : Built ix) (d : calendars ds ≡ true) (r : risi
   es = lasts ix
 
   holding : Holds ix (numbers ix) js es
-  holding = built-holds ix b
+  holding = built-holds ix (q .built)
 
-  pub asks-gather : (answer : List ℕ) → length answer ≡ 1024 → GatherAsks ix ds 0 answer
-  asks-gather answer n = record {
-    built = b;
-    dated = d;
+  pub asks-gather : {answer : List ℕ} → length answer ≡ 2048 → GatherAsks ix ds 0 answer
+  asks-gather n = record {
+    built = q .built;
+    dated = q .dated;
     b = 0;
-    rising = r;
+    rising = q .rising;
     begun = sym (latest-none js es (holding .sorted) (holding .begins));
     room = omega (arith, n, holding .few);
   }
@@ -362,7 +374,11 @@ module _ (ix ds : List ℕ) (b : Built ix) (d : calendars ds ≡ true) (r : risi
   abbrev names : List ℕ
   names = map (λ p. getD (numbers ix) p 0) all
 
-  module _ (answer after : List ℕ) (k : ℕ) (a : Added (daysFrom ix 0 ds) answer after k) where
+  given-is : (out : List ℕ) → daysIn ix ds out ≡ give names 0 out
+  unfolding daysOf
+  given-is out = rw (q .dated, daysOf) (rw (q .rising, daysOf))
+
+  module _ {answer after : List ℕ} {k : ℕ} (a : Gathered ix ds answer after k) where
     all-is : daysFrom ix 0 ds ≡ names
     all-is = ap (numbered ix) (added-all js es (holding .sorted) ds) ∙ keep-map (λ p. getD ix p 0) (λ p. getD (numbers ix) p 0) (containsAny js es ds) (length js) (holding .numbers)
 
@@ -372,22 +388,18 @@ module _ (ix ds : List ℕ) (b : Built ix) (d : calendars ds ≡ true) (r : risi
     counted : k ≡ length names
     counted = a .count ∙ ap length all-is
 
-    written : take k after ≡ names
-    written = rw (a .places) (take-at (daysFrom ix 0 ds) (drop k answer) k (sym (a .count)) ∙ all-is)
+    first-are : take k after ≡ names
+    first-are = a .first ∙ all-is
 
     pub part-count : k ≡ length (take k after)
-    part-count = counted ∙ ap length (sym written)
+    part-count = counted ∙ ap length (sym first-are)
 
     module _ (out : List ℕ) where
-      is : daysOf (numbers ix) js es ds out ≡ give names 0 out
-      is = days-in (numbers ix) js es ds out d r
+      pub too-many : {r : Listed} → length out < k → r ≡ refusal-of 11 → Gave r out (daysIn ix ds out)
+      too-many {r} h = refusal 11 out (daysIn ix ds out) (given-is out ∙ give-none names 0 out (rw counted at h)) r
 
-      pub too-many : length out < k → (l : Listed) → l ≡ record { refusal = 11; count = 0; comparisons = 0 } → Gave l out (daysOf (numbers ix) js es ds out)
-      too-many h = refusal 11 out (daysOf (numbers ix) js es ds out) (is ∙ give-none names 0 out (rw counted at h))
-
-      pub all-written : k ≤ length out → (end : List ℕ) → end ≡ overlaid (take k after) out
-          → Gave (record { refusal = 0; count = k; comparisons = 0 }) end (daysOf (numbers ix) js es ds out)
-      all-written h end e = rw (is ∙ give-all names 0 out (rw counted at h)) (record {
+      pub all-written : k ≤ length out → {end : List ℕ} → end ≡ overlaid (take k after) out → Gave (record { refusal = 0; count = k; comparisons = 0 }) end (daysIn ix ds out)
+      all-written h e = rw (given-is out ∙ give-all names 0 out (rw counted at h)) (record {
         result = ap (λ (n : ℕ). record { refusal = 0; count = n; comparisons = 0 }) counted;
-        out = e ∙ overlaid-all (take k after) out (omega (arith, part-count)) ∙ ap (λ (xs : List ℕ). xs ++ drop (length xs) out) written;
+        out = e ∙ overlaid-all (take k after) out (omega (arith, part-count)) ∙ ap (λ (xs : List ℕ). xs ++ drop (length xs) out) first-are;
       })

@@ -38,6 +38,12 @@ unfolding past
 past-le m [] = zero-le
 past-le m (p ∷ ps) = by-test (leb (length ps) (past m ps) && leb m p) (λ e. rw (e, past) (le-refl _)) (λ e. rw (e, past) (omega (arith, past-le m ps)))
 
+-- none is below 0
+past-zero : (ps : List ℕ) → past 0 ps ≡ length ps
+unfolding past
+past-zero [] = refl
+past-zero (p ∷ ps) = past-all 0 p ps (past-zero ps) zero-le
+
 -- what stops the count in a list's later part stops it in the whole
 past-rest : (m k : ℕ) (ps : List ℕ) → past m (drop k ps) < length (drop k ps) → past m ps ≡ past m (drop k ps)
 past-rest m zero ps h = refl
@@ -134,32 +140,41 @@ getD-map f [] k h = absurd (omega arith)
 getD-map f (p ∷ ps) zero h = refl
 getD-map f (p ∷ ps) (suc k) h = getD-map f ps k (omega arith)
 
+long : (ix ps : List ℕ) {xs : List ℕ} → xs ≡ numbered ix ps → length ps ≡ length xs
+long ix ps e = sym (length-map ps (λ (p : ℕ). getD ix p 0)) ∙ ap length (sym e)
+
+pub all-new : (ix xs : List ℕ) {m : ℕ} → m ≡ 0 → Skips ix xs m 0
+all-new ix xs {m} z = record { skips = λ ps r e. let t : past m ps ≡ length ps = rw z (past-zero ps) in omega (arith, long ix ps e) }
+
 -- from the place i on all rows lie past the first m, whatever rows these are
-abbrev pub Passed : List ℕ → List ℕ → ℕ → ℕ → Type 0
-Passed ix xs m i = (ps : List ℕ) → InRows ix ps → xs ≡ numbered ix ps → past m (drop i ps) ≡ length xs - i
+pub record Passing (ix xs : List ℕ) (m i : ℕ) : Type 0 where
+  pub built : Built ix
+  pub within : i ≤ length xs
+  pub passed : (ps : List ℕ) → InRows ix ps → xs ≡ numbered ix ps → past m (drop i ps) ≡ length xs - i
 
-module _ (ix xs : List ℕ) (m : ℕ) (b : Built ix) where
+pub begins : (ix xs : List ℕ) (m : ℕ) → Built ix → Passing ix xs m (length xs)
+unfolding past
+begins ix xs m b = record {
+  built = b;
+  within = le-refl (length xs);
+  passed = λ ps r e. ap (past m) (drop-of-length-le ps {i = length xs} (omega (arith, long ix ps e))) ∙ omega arith;
+}
+
+module _ {ix xs : List ℕ} {m i : ℕ} (g : Passing ix xs m i) where
+  pub ends : i ≡ 0 → Skips ix xs m i
+  ends z = record { skips = λ ps r e. let t : past m ps ≡ length xs - 0 = rw z at (g .passed ps r e) in omega arith }
+
   held : Holds ix (numbers ix) (firsts ix) (lasts ix)
-  held = built-holds ix b
-
-  long : (ps : List ℕ) → xs ≡ numbered ix ps → length ps ≡ length xs
-  long ps e = sym (length-map ps (λ (p : ℕ). getD ix p 0)) ∙ ap length (sym e)
-
-  pub begins : Passed ix xs m (length xs)
-  unfolding past
-  begins ps r e = ap (past m) (drop-of-length-le ps {i = length xs} (omega (arith, long ps e))) ∙ omega arith
-
-  pub ends : (i : ℕ) → i ≡ 0 → Passed ix xs m i → Skips ix xs m i
-  ends i z d = record { skips = λ ps r e. let t : past m ps ≡ length xs - 0 = rw z at (d ps r e) in omega arith }
+  held = built-holds ix (g .built)
 
   -- the row at the place before i, by its number x and its mark k
-  module _ (i : ℕ) (lo : 0 < i) (hi : i ≤ length xs) (d : Passed ix xs m i) (x k : ℕ) (ex : x ≡ getD xs (i - 1) 0) (small : x < 65536) (ek : k ≡ getD ix (x + 18242) 0) where
+  module _ (lo : 0 < i) {x k : ℕ} (ex : x ≡ getD xs (i - 1) 0) (small : x < 65536) (ek : k ≡ getD ix (x + 18242) 0) where
     module _ (ps : List ℕ) (r : InRows ix ps) (e : xs ≡ numbered ix ps) where
       abbrev p : ℕ
       p = getD ps (i - 1) 0
 
       inside : i - 1 < length ps
-      inside = omega (arith, long ps e)
+      inside = omega (arith, long ix ps e, g .within)
 
       number-is : x ≡ getD (numbers ix) p 0
       number-is = ex ∙ ap (λ (ys : List ℕ). getD ys (i - 1) 0) e ∙ getD-map (λ (q : ℕ). getD ix q 0) ps (i - 1) inside ∙ held .numbers p (r (i - 1) inside)
@@ -171,17 +186,21 @@ module _ (ix xs : List ℕ) (m : ℕ) (b : Built ix) where
       later = let z : suc (i - 1) ≡ i = omega arith in drop-cons ps (i - 1) 0 inside ∙ ap (λ (n : ℕ). p ∷ drop n ps) z
 
       rest : length (drop i ps) ≡ length xs - i
-      rest = length-drop i ps ∙ omega (arith, long ps e)
+      rest = length-drop i ps ∙ omega (arith, long ix ps e)
 
-    pub passes : m < k → Passed ix xs m (i - 1)
-    passes g ps r e =
-        ap (past m) (later ps r e) ∙ past-all m (p ps r e) (drop i ps) (d ps r e ∙ sym (rest ps r e)) (omega (arith, mark-is ps r e))
-        ∙ omega (arith, rest ps r e)
+    pub passes : m < k → Passing ix xs m (i - 1)
+    passes h = record {
+      built = g .built;
+      within = omega (arith, g .within);
+      passed = λ ps r e.
+          ap (past m) (later ps r e) ∙ past-all m (p ps r e) (drop i ps) (g .passed ps r e ∙ sym (rest ps r e)) (omega (arith, mark-is ps r e))
+          ∙ omega (arith, rest ps r e, g .within);
+    }
 
     pub stops : k ≤ m → Skips ix xs m i
-    stops g = record {
+    stops h = record {
       skips = λ ps r e.
-          let t : past m (drop (i - 1) ps) ≡ length xs - i = ap (past m) (later ps r e) ∙ past-none m (p ps r e) (drop i ps) (omega (arith, mark-is ps r e)) ∙ d ps r e in
+          let t : past m (drop (i - 1) ps) ≡ length xs - i = ap (past m) (later ps r e) ∙ past-none m (p ps r e) (drop i ps) (omega (arith, mark-is ps r e)) ∙ g .passed ps r e in
           let l : length (drop (i - 1) ps) ≡ suc (length xs - i) = ap length (later ps r e) ∙ ap suc (rest ps r e) in
-          omega (arith, past-rest m (i - 1) ps (omega arith));
+          omega (arith, past-rest m (i - 1) ps (omega arith), g .within);
     }

@@ -1,11 +1,12 @@
 // The question of several days over the published index. Each day is asked by itself, and what it adds to the days before it goes
 // into an answer of the question's own, which goes to the caller's list once its count is known.
 ghost use mathlib.Core.Path.{_≡_};
-ghost use Prim.Native.Nat.{_<_};
-ghost use lib.ListN.{length, getD};
+ghost use Prim.Native.Nat.{_<_, _≤_};
+ghost use lib.ListN.{length, getD, drop};
+ghost use Rattle.buffer.specs.Buffer.{overlaid};
 ghost use Rattle.stabbing.specs.Index.{Built};
 ghost use Rattle.stabbing.specs.Answer.{Gave, daysIn, calendars, risingFrom};
-ghost use Rattle.stabbing_days.specs.Code.{Skips, dayFrom, daysFrom, AddAsks, GatherAsks, Added};
+ghost use Rattle.stabbing_days.specs.Code.{Skips, dayFrom, asked, AddAsks, GatherAsks, Added, Gathered};
 use refusal::OFF_CALENDAR;
 use refusal::SHORT_BUFFER;
 use refusal::UNSORTED_DAYS;
@@ -52,11 +53,14 @@ fn in_order(days: &[u16]) -> bool
 // ---- The answer
 
 // The first place from which on all rows found lie past the first m, sought from the end: so only rows that are new to the answer are
-// passed, and one more.
+// passed, and one more. With m 0, as on the first day, all are new, and none is looked at.
 fn skip(index: &[u16; INDEX], found: &[u16], m: usize) -> usize
     requires { ⌜ Built (now index) ⌝ }
     ensures { λ r. ⌜ Skips (now (index .entry)) (now (found .entry)) m r ⌝ }
 {
+    if m == 0 {
+        return 0;
+    }
     let mut i = found.len();
     while 0 < i {
         let j = i - 1;
@@ -68,35 +72,49 @@ fn skip(index: &[u16; INDEX], found: &[u16], m: usize) -> usize
     i
 }
 
-// What the first of the days still to come adds to the days before it, by the last of which m rows begin: of these m, the ones that
-// contain it contain that day too. A day's finds are in the order, so that they come first and are skipped. The table by number tells
-// a row's place in the order, since no two rows have one number.
-fn add(index: &[u16; INDEX], days: &[u16], m: usize, found: &mut [u16], answer: &mut [u16]) -> usize
-    requires { ⌜ 0 < length (now days) ⌝ }
-    requires { ⌜ AddAsks (now index) (getD (now days) 0 0) m (now answer) ⌝ }
-    requires { ⌜ length (now found) ≡ 1024 ⌝ }
-    ensures { λ r. ⌜ Added (dayFrom (now (index .entry)) m (getD (now (days .entry)) 0 0)) (now (answer .entry)) (now (answer .exit)) r ⌝ }
-    ensures { λ _. ⌜ length (now (found .exit)) ≡ 1024 ⌝ }
+// Moves the finds from the place `from` on to the front, over those before them. It reads ahead of where it writes.
+fn close(finds: &mut [u16], from: usize)
+    requires { ⌜ from ≤ length (now finds) ⌝ }
+    ensures { λ _. ⌜ now (finds .exit) ≡ overlaid (drop from (now (finds .entry))) (now (finds .entry)) ⌝ }
 {
-    let listed = stabbing_query::day(index, days[0], found);
-    let k = listed.count;
-    let at = skip(index, &found[..k], m);
-    buffer::put(&found[at..k], answer);
-    k - at
+    if from == 0 {
+        return;
+    }
+    let n = finds.len() - from;
+    let mut i = 0;
+    while i < n {
+        finds[i] = finds[i + from];
+        i += 1;
+    }
 }
 
-// What the days give, one after the other: each time the days still to come are handed on as the rest of their list, and what the first
-// of them adds goes into the part of the answer not yet written.
-fn gather(index: &[u16; INDEX], days: &[u16], found: &mut [u16], answer: &mut [u16]) -> usize
+// What the first of the days still to come adds to the days before it, by the last of which m rows begin: of these m, the ones that
+// contain it contain that day too. The day is asked into the part of the answer not yet written. Its finds are in the order, so that the
+// ones that it doesn't add come first, and the gap that they make is closed. The table by number tells a row's place in the order, since no
+// two rows have one number.
+fn add(index: &[u16; INDEX], days: &[u16], m: usize, part: &mut [u16]) -> usize
+    requires { ⌜ 0 < length (now days) ⌝ }
+    requires { ⌜ AddAsks (now index) (getD (now days) 0 0) (now part) ⌝ }
+    ensures { λ r. ⌜ Added (dayFrom (now (index .entry)) m (getD (now (days .entry)) 0 0)) (asked (now (index .entry)) (getD (now (days .entry)) 0 0) (now (part .entry))) (now (part .exit)) r ⌝ }
+{
+    let listed = stabbing_query::day(index, days[0], part);
+    let k = listed.count;
+    let from = skip(index, &part[..k], m);
+    close(&mut part[..k], from);
+    k - from
+}
+
+// What the days give, one after the other: each time the days still to come are handed on as the rest of their list, and the part of the
+// answer not yet written is lent to the first of them.
+fn gather(index: &[u16; INDEX], days: &[u16], answer: &mut [u16]) -> usize
     requires { ⌜ GatherAsks (now index) (now days) 0 (now answer) ⌝ }
-    requires { ⌜ length (now found) ≡ 1024 ⌝ }
-    ensures { λ r. ⌜ Added (daysFrom (now (index .entry)) 0 (now (days .entry))) (now (answer .entry)) (now (answer .exit)) r ⌝ }
+    ensures { λ r. ⌜ Gathered (now (index .entry)) (now (days .entry)) (now (answer .entry)) (now (answer .exit)) r ⌝ }
 {
     let mut begun = 0;
     let mut at = 0;
     let mut i = 0;
     while i < days.len() {
-        at += add(index, &days[i..], begun, found, &mut answer[at..]);
+        at += add(index, &days[i..], begun, &mut answer[at..]);
         begun = wide(index[wide(days[i]) + BEGUN]);
         i += 1;
     }
@@ -114,9 +132,8 @@ pub fn days(index: &[u16; INDEX], days: &[u16], out: &mut [u16]) -> Listed
     if !in_order(days) {
         return refuse(UNSORTED_DAYS);
     }
-    let mut found = [0u16; 1024];
-    let mut answer = [0u16; 1024];
-    let n = gather(index, days, &mut found, &mut answer);
+    let mut answer = [0u16; 2048];
+    let n = gather(index, days, &mut answer);
     if out.len() < n {
         return refuse(SHORT_BUFFER);
     }

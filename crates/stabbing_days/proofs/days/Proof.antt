@@ -1,63 +1,29 @@
--- `stabbing_days::days` meets its contract. Assumes nothing.
+-- `stabbing_days::days` meets its contract: each need is a step of `proofs/Several.antt`. Assumes nothing.
 use mathlib.Core.Path.{sym, _∙_}
 use borrow.Author.Needs.{needs}
 use borrow.Author.Tests.{not-true, not-false}
-use Rattle.stabbing.specs.Index.{numbers, firsts, lasts}
-use Rattle.stabbing_query.proofs.Answering as Answers
 use Rattle.stabbing_days.proofs.Several as Steps
 use Rattle.stabbing_days.proofs.days.Statement.{statement}
 use Rattle.stabbing_days.proofs.days.Tie as tie
 
+-- both checks are passed
+accepted : (c : tie.Else2) → let g = c .before .before .before .before .before .before .args in Steps.Accepted (g .index .now) (g .days .now)
+accepted c = record {
+  built = c .before .before .before .before .before .before .pre;
+  dated = sym (c .before .before .before .on-calendar .ensures) ∙ not-false _ (c .before .before .if1 .left);
+  rising = sym (c .before .in-order .ensures) ∙ not-false _ (c .if2 .left);
+}
+
 returns : tie.Need-returns
 returns c =
     let g = c .before .before .before .before .before .args in
-    Answers.refusal 3 _ _ (Steps.days-off (numbers (g .index .now)) (firsts (g .index .now)) (lasts (g .index .now)) (g .days .now) (g .out .now) (sym (c .before .before .on-calendar .ensures) ∙ not-true _ (c .before .if1 .taken))) _ (c .refuse .ensures)
+    Steps.days-off (g .index .now) (g .days .now) (g .out .now) (sym (c .before .before .on-calendar .ensures) ∙ not-true _ (c .before .if1 .taken)) (c .refuse .ensures)
 
 returns-2 : tie.Need-returns-2
 returns-2 c =
     let g = c .before .before .before .before .before .before .before .args in
-    Answers.refusal 10 _ _ (Steps.days-back (numbers (g .index .now)) (firsts (g .index .now)) (lasts (g .index .now)) (g .days .now) (g .out .now) (sym (c .before .before .before .before .on-calendar .ensures) ∙ not-false _ (c .before .before .before .if1 .left)) (sym (c .before .before .in-order .ensures) ∙ not-true _ (c .before .if2 .taken))) _ (c .refuse2 .ensures)
-
-gather-requires : tie.Need-gather-requires
-gather-requires c κs =
-    let s = c .before .before .before .before .before .before .before .before in
-    let g = s .args in
-    let d = sym (c .before .before .before .before .before .on-calendar .ensures) ∙ not-false _ (c .before .before .before .before .if1 .left) in
-    let r = sym (c .before .before .before .in-order .ensures) ∙ not-false _ (c .before .before .if2 .left) in
-    (Steps.asks-gather (g .index .now) (g .days .now) (s .pre) d r _ (search needs), search needs)
-
-returns-3 : tie.Need-returns-3
-returns-3 c =
-    let s = c .before .before .before .before .before .before .before .before .before .before .before .before .before in
-    let g = s .args in
-    let d = sym (c .before .before .before .before .before .before .before .before .before .before .on-calendar .ensures) ∙ not-false _ (c .before .before .before .before .before .before .before .before .before .if1 .left) in
-    let r = sym (c .before .before .before .before .before .before .before .before .in-order .ensures) ∙ not-false _ (c .before .before .before .before .before .before .before .if2 .left) in
-    Steps.too-many (g .index .now) (g .days .now) (s .pre) d r _ _ _ (c .before .before .before .before .gather .ensures) (g .out .now) (c .before .if3 .taken) _ (c .refuse3 .ensures)
-
-array-share-prefix-answer : tie.Need-array-share-prefix-answer
-array-share-prefix-answer c =
-    let s = c .before .before .before .before .before .before .before .before .before .before .before .before in
-    let g = s .args in
-    let d = sym (c .before .before .before .before .before .before .before .before .before .on-calendar .ensures) ∙ not-false _ (c .before .before .before .before .before .before .before .before .if1 .left) in
-    let r = sym (c .before .before .before .before .before .before .before .in-order .ensures) ∙ not-false _ (c .before .before .before .before .before .before .if2 .left) in
-    let n = Steps.few-in (g .index .now) (g .days .now) (s .pre) d r _ _ _ (c .before .before .before .gather .ensures) in
-    search needs
-
-slice-aggregate-put : tie.Need-slice-aggregate-put
-slice-aggregate-put c =
-    let s = c .before .before .before .before .before .before .before .before .before .before .before .before .before in
-    let g = s .args in
-    let d = sym (c .before .before .before .before .before .before .before .before .before .before .on-calendar .ensures) ∙ not-false _ (c .before .before .before .before .before .before .before .before .before .if1 .left) in
-    let r = sym (c .before .before .before .before .before .before .before .before .in-order .ensures) ∙ not-false _ (c .before .before .before .before .before .before .before .if2 .left) in
-    Steps.part-count (g .index .now) (g .days .now) (s .pre) d r _ _ _ (c .before .before .before .before .gather .ensures)
-
-returns-4 : tie.Need-returns-4
-returns-4 c =
-    let s = c .before .before .before .before .before .before .before .before .before .before .before .before .before .before .before .before .before in
-    let g = s .args in
-    let d = sym (c .before .before .before .before .before .before .before .before .before .before .before .before .before .before .on-calendar .ensures) ∙ not-false _ (c .before .before .before .before .before .before .before .before .before .before .before .before .before .if1 .left) in
-    let r = sym (c .before .before .before .before .before .before .before .before .before .before .before .before .in-order .ensures) ∙ not-false _ (c .before .before .before .before .before .before .before .before .before .before .before .if2 .left) in
-    Steps.all-written (g .index .now) (g .days .now) (s .pre) d r _ _ _ (c .before .before .before .before .before .before .before .before .gather .ensures) (g .out .now) (c .before .before .before .before .before .if3 .left) _ (c .before .before .put .ensures)
+    Steps.days-back (g .index .now) (g .days .now) (g .out .now)
+    (sym (c .before .before .before .before .on-calendar .ensures) ∙ not-false _ (c .before .before .before .if1 .left)) (sym (c .before .before .in-order .ensures) ∙ not-true _ (c .before .if2 .taken)) (c .refuse2 .ensures)
 
 pub days-spec : {M : Type 1} → statement M
 days-spec =
@@ -67,11 +33,12 @@ days-spec =
     returns
     (λ c κs. search needs) (λ c κs. search needs)
     returns-2
-    (λ c. search needs) (λ c. search needs)
-    gather-requires
+    (λ c. search needs)
+    (λ c κs. Steps.asks-gather (accepted (c .before)) (search needs))
     (λ c κs. search needs)
-    returns-3
-    array-share-prefix-answer
-    slice-aggregate-put
+    -- what was gathered: too many for the list, or a part of it to be put there
+    (λ c. let g = c .before .before .before in Steps.too-many (accepted (g .before .before)) (g .gather .ensures) (c .before .before .before .before .before .before .before .before .before .before .before .args .out .now) (c .before .if3 .taken) (c .refuse3 .ensures))
+    (λ c. let g = c .before .before in let n = Steps.few-in (accepted (g .before .before)) (g .gather .ensures) in search needs)
+    (λ c. let g = c .before .before .before in Steps.part-count (accepted (g .before .before)) (g .gather .ensures))
     (λ c κs. search needs) (λ c. search needs)
-    returns-4)
+    (λ c. let g = c .before .before .before .before .before .before .before in Steps.all-written (accepted (g .before .before)) (g .gather .ensures) (c .before .before .before .before .before .before .before .before .before .before .before .before .before .before .before .args .out .now) (c .before .before .before .before .before .if3 .left) (c .before .before .put .ensures)))
