@@ -33,14 +33,14 @@ pub packed-back : (st : Standing) → Wf st → Every (λ s. Narrow (s .urgency)
 packed-back = packing-identity
 
 -- EVERY WORD after an edit or a take back is given by the words before and the call
-pub edited-words : {words words′ : List ℕ} {c : Call} {r : Reply} → Laid words′ → Changed (unpacked words) c (steppedOf words′ r)
+pub edited-words : (words : List ℕ) {words′ : List ℕ} {c : Call} {r : Reply} → Laid words′ → Changed (unpacked words) c (steppedOf words′ r)
     → words′ ≡ packed (leaves (unpacked words) c)
-edited-words a d = a ∙ ap packed (d .whole)
+edited-words words a d = a ∙ ap packed (d .whole)
 
 -- and after a reading by the text alone
-pub read-words : {words ix register : List ℕ} {r : Opened} → Laid words → Begins (readText register) (startedOf words r) ix
+pub read-words : (register : List ℕ) {words ix : List ℕ} {r : Opened} → Laid words → Begins (readText register) (startedOf words r) ix
     → words ≡ packed (afterReading (readText register))
-read-words a b = a ∙ ap packed (b .whole)
+read-words register a b = a ∙ ap packed (b .whole)
 
 -- EACH EXPORTED CALL is a step of the service that the words hold
 pub called-met : {words words′ ix ix′ numbers text : List ℕ} {q : Request} {r : Reply} → Called words ix q r words′ ix′ numbers text

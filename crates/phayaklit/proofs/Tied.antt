@@ -9,7 +9,9 @@ use Rattle.register.specs.Text.{readText}
 use Rattle.model.specs.declared.Call.the-variants.{Enter, Amend, Strike, TakeBack, Publish, Write, Ask}
 use Rattle.model.specs.declared.Question.the-variants.{Day, Span, Cover, Days}
 use Rattle.model.specs.Model.{fresh, begun}
-use Rattle.service.specs.Service.{asking, indexOf, Published, Begins}
+use Rattle.standing.specs.Places.{freshStanding}
+use Rattle.standing.specs.Packed.{packed, unpacked}
+use Rattle.service.specs.Service.{asking, indexOf, Represents, Published, Begins}
 use Rattle.phayaklit.specs.declared.Entry.{Entry}
 use Rattle.phayaklit.specs.declared.Reply.{Reply}
 use Rattle.phayaklit.specs.declared.Opened.{Opened}
@@ -33,8 +35,12 @@ use Rattle.phayaklit.proofs.phayaklit_version.Reads as version-reads
 -- ---- The beginning
 
 pub fresh-is : (κs : Lfts 2) (words words′ index index′ : RefT (List ℕ)) (u : Unit {0})
-    → fresh-reads.Post κs (words, (index, tt)) u (words′, (index′, tt)) ≡ Opens (now words′) (now index′) fresh
+    → fresh-reads.Post κs (words, (index, tt)) u (words′, (index′, tt)) ≡ (Represents (unpacked (now words′)) (now index′) fresh × (Laid (now words′) × (now words′ ≡ packed freshStanding)))
 fresh-is κs words words′ index index′ u = refl
+
+pub fresh-opens : (κs : Lfts 2) (words words′ index index′ : RefT (List ℕ)) (u : Unit {0})
+    → fresh-reads.Post κs (words, (index, tt)) u (words′, (index′, tt)) → Opens (now words′) (now index′) fresh
+fresh-opens κs words words′ index index′ u f = (f .0, f .1 .0)
 
 module _ (κs : Lfts 3) (text words words′ index index′ : RefT (List ℕ)) (r : Opened) where
   pub read-is : read-reads.Post κs (text, (words, (index, tt))) r (text, (words′, (index′, tt)))

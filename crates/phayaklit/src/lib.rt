@@ -6,7 +6,8 @@ ghost use mathlib.Core.List.{List, []};
 ghost use Rattle.model.specs.Model.{fresh};
 ghost use Rattle.register.specs.Text.{readText};
 ghost use Rattle.standing.specs.Standing.{Wf};
-ghost use Rattle.standing.specs.Packed.{unpacked};
+ghost use Rattle.standing.specs.Places.{freshStanding};
+ghost use Rattle.standing.specs.Packed.{packed, unpacked};
 ghost use Rattle.service.specs.Service.{indexOf, Represents, Published, Changed, Publishes, Asked, Wrote, Begins};
 ghost use Rattle.phayaklit.specs.Host.{version, Held, Laid, spellIn, outcomeOf, steppedOf, startedOf};
 use model::Call;
@@ -109,6 +110,7 @@ pub extern "C" fn phayaklit_fresh_index(index: &mut [u16; INDEX])
 pub extern "C" fn phayaklit_fresh(words: &mut [u16; SERVICE], index: &mut [u16; INDEX])
     ensures { λ _. ⌜ Represents (unpacked (now (words .exit))) (now (index .exit)) fresh ⌝ }
     ensures { λ _. ⌜ Laid (now (words .exit)) ⌝ }
+    ensures { λ _. ⌜ now (words .exit) ≡ packed freshStanding ⌝ }
 {
     let service = service::fresh(index);
     standing::words::pack(service, words);

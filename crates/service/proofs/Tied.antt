@@ -8,6 +8,7 @@ use Rattle.spell.specs.declared.Spell.{Spell}
 use Rattle.register.specs.Text.{readText}
 use Rattle.standing.specs.declared.Standing.{Standing}
 use Rattle.standing.specs.Standing.{Wf}
+use Rattle.standing.specs.Places.{freshStanding}
 use Rattle.model.specs.declared.Call.{Call}
 use Rattle.model.specs.declared.Call.the-variants.{Enter, Amend, Strike, TakeBack, Publish, Write, Ask}
 use Rattle.model.specs.declared.Question.{Question}
@@ -37,7 +38,7 @@ use Rattle.service.proofs.step.Reads as step-reads
 -- ---- The beginning
 
 module _ (κs : Lfts 1) (sv : Standing) (index index′ : RefT (List ℕ)) where
-  pub fresh-is : fresh-reads.Post κs (index, tt) sv (index′, tt) ≡ Represents sv (now index′) fresh
+  pub fresh-is : fresh-reads.Post κs (index, tt) sv (index′, tt) ≡ (Represents sv (now index′) fresh × (sv ≡ freshStanding))
   fresh-is = refl
 
 module _ (κs : Lfts 2) (r : Started) (text index index′ : RefT (List ℕ)) where

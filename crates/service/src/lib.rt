@@ -3,6 +3,7 @@ ghost use mathlib.Core.Path.{_≡_};
 ghost use Prim.Native.Nat.{ℕ};
 ghost use mathlib.Core.List.{List};
 ghost use Rattle.standing.specs.Standing.{Wf, listOf};
+ghost use Rattle.standing.specs.Places.{freshStanding};
 ghost use mathlib.Core.List.{[]};
 ghost use Rattle.register.specs.Text.{readText};
 ghost use Rattle.model.specs.Model.{fresh};
@@ -52,6 +53,7 @@ pub fn fresh_index(index: &mut [u16; INDEX])
 // A fresh service: nothing stands, nothing is published, and there is no past.
 pub fn fresh(index: &mut [u16; INDEX]) -> Service
     ensures { λ r. ⌜ Represents r (now (index .exit)) fresh ⌝ }
+    ensures { λ r. ⌜ r ≡ freshStanding ⌝ }
 {
     fresh_index(index);
     standing::fresh()

@@ -6,11 +6,11 @@ use Rattle.replay.proofs.run.Statement.{statement}
 use Rattle.replay.proofs.run.Tie as tie
 
 calls-requires : tie.Need-calls-requires
-calls-requires c κs = represented (c .before .before .before .before .fresh .ensures)
+calls-requires c κs = represented (c .before .before .before .before .fresh .ensures .0)
 
 returns : tie.Need-returns
 returns c =
-    replayed-fresh _ _ _ _ _ _ _ _ _ _ _ (c .before .before .before .before .before .before .before .before .before .before .before .before .before .if1 .taken) (c .before .before .before .before .before .before .calls .ensures _ (c .before .before .before .before .before .before .before .before .before .before .before .fresh .ensures))
+    replayed-fresh _ _ _ _ _ _ _ _ _ _ _ (c .before .before .before .before .before .before .before .before .before .before .before .before .before .if1 .taken) (c .before .before .before .before .before .before .calls .ensures _ (c .before .before .before .before .before .before .before .before .before .before .before .fresh .ensures .0))
 
 calls-requires-2 : tie.Need-calls-requires-2
 calls-requires-2 c κs = represented (c .before .before .before .before .before .read .ensures .represents)

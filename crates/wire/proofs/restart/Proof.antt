@@ -7,7 +7,7 @@ use Rattle.wire.proofs.restart.Tie as tie
 returns : tie.Need-returns
 returns c =
     let a = c .before .before .before .before .before .before .args in
-    restart-long (a .room) (a .length) (a .payload .now) _ (a .out .now) _ _ _ (c .before .before .before .before .if1 .taken) (c .before .before .fresh .ensures) (c .put-stopped .ensures)
+    restart-long (a .room) (a .length) (a .payload .now) _ (a .out .now) _ _ _ (c .before .before .before .before .if1 .taken) (c .before .before .fresh .ensures .0) (c .put-stopped .ensures)
 
 returns-2 : tie.Need-returns-2
 returns-2 c =
