@@ -15,7 +15,7 @@ use Rattle.model.specs.declared.Question.the-variants.{Day, Span, Cover,
 use Rattle.model.specs.Questions.{onDay, onSpan, covers, onAny, filter, listed, comparisonsOf}
 use Rattle.model.specs.Effects.{State, Request, Answer, After, Effect, refused, done, gives, writes, refuse, gave, settle}
 use Rattle.model.specs.Model.{ask, effectOf, stepOf, step}
-use Rattle.model.proofs.Account.{Comes, settles, reads, Refusing, reads-every, every, day-does, span-does, cover-does, days-does}
+use Rattle.model.proofs.Effects.{Comes, settles, reads, Refusing, call-does, reads-every, every, day-does, span-does, cover-does, days-does}
 use Rattle.model.proofs.Filter.{filter-in, in-filter, filter-ordered, filter-distinct}
 use Rattle.model.proofs.Bridge.{comparisons-le}
 
@@ -37,25 +37,6 @@ module _ (m : State) (q : Request) where
   refused-keeps h =
       let e : Effect = effectOf (q .call) (q .days) m in
       elim (settles Fair m q (inr refl) e (fair-effect e)) [ inl e ↦ absurd (h e) | inr e ↦ e ]
-
-  -- ---- What a call leaves as it is
-
-  -- QUESTIONS AND WRITING leave the state as it is
-  pub reads-keep : reads (q .call) ≡ true → step m q .state ≡ m
-  reads-keep = reads-every (λ x. x .state ≡ m) m q (record { refusing = λ n _. refl; asked = λ h l. refl; several = refl }) refl
-
-  -- PUBLISH is never refused, and leaves the standing list and the past as they are
-  pub publish-keeps-past : stepOf Publish m q ≡ refuse accepted (record { standing = m .standing; past = m .past; published = m .standing }) q
-  unfolding effectOf settle
-  publish-keeps-past = refl
-
-  -- ---- The looks
-
-  -- THE LOOKS of any call are at most three times its count
-  pub comparisons-few : step m q .answer .comparisons ≤ 3 * step m q .answer .count
-  comparisons-few = every (λ x. x .answer .comparisons ≤ 3 * x .answer .count) m q
-      (record { refusing = λ n _. omega arith; asked = λ h l. comparisons-le h l (m .published); several = omega arith })
-      (omega arith) (λ m′. omega arith)
 
   -- ---- The answer of a question
 
@@ -113,6 +94,30 @@ module _ (m : State) (q : Request) where
       let P : Answer → Type 0 = Lists (onAny (q .days)) 0 in
       accepting P _ (λ no. days-does (Accepted P) no (m .published) (q .days) (λ _. lists (onAny (q .days)) 0))
 
+  -- ---- What a call leaves as it is
+
+  -- QUESTIONS AND WRITING leave the state as it is
+  pub reads-keep : reads (q .call) ≡ true → step m q .state ≡ m
+  reads-keep = reads-every (λ x. x .state ≡ m) m q (record { refusing = λ n _. refl; asked = λ h l. refl; several = refl }) refl
+
+  abbrev SamePublished : After → Type 0
+  SamePublished x = x .state .published ≡ m .published
+
+  -- NOTHING BUT PUBLISH changes the published list
+  pub published-kept : (q .call ≡ Publish → ⊥) → step m q .state .published ≡ m .published
+  published-kept other =
+      settles SamePublished m q refl (effectOf (q .call) (q .days) m)
+      (call-does (Comes SamePublished m q) (q .days) m (record { refusing = λ n _. refl; asked = λ h l. refl; several = refl }) refl (q .call)
+      (λ _ l p. refl) (λ e. absurd (other e)))
+
+  -- ---- The looks
+
+  -- THE LOOKS of any call are at most three times its count
+  pub comparisons-few : step m q .answer .comparisons ≤ 3 * step m q .answer .count
+  comparisons-few = every (λ x. x .answer .comparisons ≤ 3 * x .answer .count) m q
+      (record { refusing = λ n _. omega arith; asked = λ h l. comparisons-le h l (m .published); several = omega arith })
+      (omega arith) (λ m′. omega arith)
+
 -- ---- What is listed
 
 module _ (t : Spell → Bool) (p : List Spell) where
@@ -120,7 +125,7 @@ module _ (t : Spell → Bool) (p : List Spell) where
   pub listed-exactly : (x : Spell) → List·Memᴰ x (filter t p) ↔ (List·Memᴰ x p × (t x ≡ true))
   listed-exactly x = (filter-in t p x, λ i. in-filter t p x (i .0) (i .1))
 
-  -- in the order
+  -- in the order; the published list is in the order and has unique numbers in every state that calls lead to (`Runs.antt`)
   pub listed-ordered : ordered p ≡ true → ordered (filter t p) ≡ true
   listed-ordered = filter-ordered t p
 

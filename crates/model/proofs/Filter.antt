@@ -1,17 +1,19 @@
 -- The spells of a list that pass a test: exactly those, in the order, each number once. Assumes nothing.
-use Prim.Native.Nat.{ℕ}
+use Prim.Native.Nat.{ℕ, suc, _≤_}
+use native.Mathlib.Omega.{arith}
 use mathlib.Core.Path.{_≡_, refl, sym, ap, _∙_}
 use mathlib.Core.Logic.{_⊎_, inl, inr}
 use mathlib.Core.Bool.{Bool, true, false, not, _||_, cond, false≢true}
 use mathlib.Core.List.{List, [], _∷_, List·Memᴰ, List·Memᴰ·head, List·Memᴰ·tail, List·Memᴰ·not-nil, List·Memᴰ·cases-cons}
 use lib.Dec.{eqb}
+use lib.ListN.{length, length-map}
 use borrow.Author.Tests.{not-true}
 use Rattle.spell.specs.declared.Spell.{Spell}
 use Rattle.spell.specs.Order.{earlierOf, ordered}
 use Rattle.spell.specs.Listing.{stands, distinct, Each}
 use Rattle.spell.proofs.Entered.{both}
 use Rattle.spell.proofs.Order.{ordered-tail, ordered-first, ordered-cons}
-use Rattle.model.specs.Questions.{filter}
+use Rattle.model.specs.Questions.{filter, listed}
 
 module _ (t : Spell → Bool) where
   -- ---- In the filtered list are the spells of the list that pass
@@ -41,6 +43,20 @@ module _ (t : Spell → Bool) where
       go true f on (inr j) = List·Memᴰ·tail (on j)
       go false f on (inl s) = absurd (false≢true (sym f ∙ sym (ap t s) ∙ e))
       go false f on (inr j) = on j
+
+  -- ---- They are no more than the list has
+
+  pub filter-few : (l : List Spell) → length (filter t l) ≤ length l
+  unfolding filter
+  filter-few [] = omega arith
+  filter-few (y ∷ l) = go (t y) (filter-few l)
+    where
+      go : (b : Bool) → length (filter t l) ≤ length l → length (cond b (y ∷ filter t l) (filter t l)) ≤ suc (length l)
+      go true h = omega arith
+      go false h = omega arith
+
+  pub listed-few : (l : List Spell) → length (listed t l) ≤ length l
+  listed-few l = omega (arith, filter-few l, length-map (filter t l) (λ (s : Spell). s .number))
 
   -- ---- What holds of each spell of a list holds of each that passes
 

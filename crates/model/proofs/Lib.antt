@@ -1,5 +1,8 @@
-pub mod Account
+pub mod Rules
+pub mod Effects
 pub mod Filter
 pub mod Bridge
 pub mod Claims
+pub mod Checks
+pub mod Edits
 pub mod Cases

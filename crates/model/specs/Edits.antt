@@ -55,3 +55,13 @@ takeBackRefusal (l ∷ past) = accepted
 -- the former standing list goes to the front of the past, and a 65th falls off
 unfoldable pub remember : List Spell → List (List Spell) → List (List Spell)
 remember l past = take 64 (l ∷ past)
+
+-- the front of the past, or the standing list l where there is no past
+unfoldable pub frontOr : List Spell → List (List Spell) → List Spell
+frontOr l [] = l
+frontOr l (p ∷ past) = p
+
+-- the past without its front
+unfoldable pub restOf : List (List Spell) → List (List Spell)
+restOf [] = []
+restOf (p ∷ past) = past

@@ -2,3 +2,4 @@ pub mod Edits
 pub mod Questions
 pub mod Effects
 pub mod Model
+pub mod Reached

@@ -4,7 +4,7 @@ use Prim.Native.Nat.{ℕ}
 use mathlib.Core.Bool.{_&&_, cond}
 use mathlib.Core.List.{List, [], _∷_}
 use lib.Dec.{leb, eqb}
-use Rattle.refusal.specs.Table.{accepted, offCalendar, reversed, unknownNumber, noHistory, unsortedDays}
+use Rattle.refusal.specs.Table.{accepted, offCalendar, reversed, unknownNumber, unsortedDays}
 use Rattle.spell.specs.declared.Spell.{Spell}
 use Rattle.spell.specs.Entry.{dayOk}
 use Rattle.register.specs.Text.{Register, writeAll}
@@ -13,7 +13,7 @@ use Rattle.model.specs.declared.Call.{Call}
 use Rattle.model.specs.declared.Call.the-variants.{Enter, Amend, Strike, TakeBack, Publish, Write, Ask}
 use Rattle.model.specs.declared.Question.{Question}
 use Rattle.model.specs.declared.Question.the-variants.{Day, Span, Cover, Days}
-use Rattle.model.specs.Edits.{insert, remove, replace, enterRefusal, amendRefusal, strikeRefusal, remember}
+use Rattle.model.specs.Edits.{insert, remove, replace, enterRefusal, amendRefusal, strikeRefusal, takeBackRefusal, remember, frontOr, restOf}
 use Rattle.model.specs.Questions.{reaches, onAny, daysOk, rising, listed, comparisonsOf}
 use Rattle.model.specs.Effects.{Effect, refused, done, gives, writes, settle}
 pub use Rattle.model.specs.Effects.{State, Request, Answer, After}
@@ -39,19 +39,20 @@ abbrev pub lineIn : Register → ℕ
 lineIn (good l) = 0
 lineIn (bad n line) = line
 
--- ---- Edits
+-- ---- Edits, take back, publish
 
--- an edit that the check n accepts: the former standing list goes to the front of the past
+-- where the check n accepts, the standing list becomes l and the past p
+abbrev pub become : ℕ → List Spell → List (List Spell) → State → Effect
+become n l p m = cond (eqb n accepted) (done (record { standing = l; past = p; published = m .published })) (refused n)
+
+-- an edit: the former standing list goes to the front of the past
 abbrev pub edit : ℕ → List Spell → State → Effect
-edit n l m =
-    cond (eqb n accepted)
-    (done (record { standing = l; past = remember (m .standing) (m .past); published = m .published }))
-    (refused n)
+edit n l m = become n l (remember (m .standing) (m .past)) m
 
--- the standing list becomes the front of the past, which loses it: 9
+-- take back: the standing list becomes the front of the past, which loses it
 unfoldable pub takeBack : List (List Spell) → State → Effect
-takeBack [] m = refused noHistory
-takeBack (l ∷ past) m = done (record { standing = l; past = past; published = m .published })
+unfolding takeBackRefusal frontOr restOf
+takeBack past m = become (takeBackRefusal past) (frontOr (m .standing) past) (restOf past) m
 
 -- the published list becomes the standing list; the past is untouched
 abbrev pub publish : State → Effect

@@ -1,12 +1,12 @@
 -- What the answer to a day says of the published list that an index shows. Assumes nothing.
-use Prim.Native.Nat.{ℕ, suc, _≤_}
+use Prim.Native.Nat.{ℕ, _≤_}
 use native.Mathlib.Omega.{arith}
 use mathlib.Core.Path.{_≡_, refl, sym, ap, subst}
 use mathlib.Core.Bool.{Bool, true, false, cond}
 use mathlib.Core.List.{List, [], _∷_, map}
 use borrow.Author.Tests.{le-leb, leb-true}
 use lib.Dec.{leb}
-use lib.ListN.{length, take, drop, length-map}
+use lib.ListN.{length, take, drop}
 use lib.Seq.{take-append-seam}
 use Rattle.spell.specs.declared.Spell.{Spell}
 use Rattle.spell.specs.Entry.{dayOk}
@@ -19,24 +19,11 @@ use Rattle.model.specs.declared.Question.the-variants.{Day}
 use Rattle.model.specs.Questions.{onDay, filter, listed, comparisonsOf}
 use Rattle.model.specs.Effects.{State, Request, Answer, After, Effect, gives, settle}
 use Rattle.model.specs.Model.{ask, effectOf}
-use Rattle.model.proofs.Account.{by-cases}
+use Rattle.model.proofs.Effects.{by-cases}
+use Rattle.model.proofs.Filter.{listed-few}
 use Rattle.model.proofs.Bridge.{comparisons-le}
 use Rattle.service.specs.declared.Outcome.{Outcome}
 use Rattle.service.specs.Service.{Shows, Asked, asking}
-
--- ---- How many are listed
-
-filter-few : (t : Spell → Bool) (p : List Spell) → length (filter t p) ≤ length p
-unfolding filter
-filter-few t [] = omega arith
-filter-few t (s ∷ p) = go (t s) (filter-few t p)
-  where
-    go : (b : Bool) → length (filter t p) ≤ length p → length (cond b (s ∷ filter t p) (filter t p)) ≤ suc (length p)
-    go true h = omega arith
-    go false h = omega arith
-
-listed-few : (t : Spell → Bool) (p : List Spell) → Good p → length (listed t p) ≤ 1024
-listed-few t p g = omega (arith, length-map (filter t p) (λ (s : Spell). s .number), filter-few t p, g .few)
 
 -- a spell stands on no day off the calendar
 stands-on : (d : ℕ) (s : Spell) → Sound s → onDay d s ≡ true → dayOk d ≡ true
@@ -74,7 +61,7 @@ module _ (m : State) (q : Request) (g : Good (m .published)) (room : 1024 ≤ le
   told-on : ToldBy (settle (gives (listed (onDay d) p) (comparisonsOf d d p)) m q)
   unfolding settle
   told-on =
-      let few = listed-few (onDay d) p g in
+      let few : length (listed (onDay d) p) ≤ 1024 = omega (arith, listed-few (onDay d) p, g .few) in
       by-cases ToldBy (leb (length (listed (onDay d) p)) (length (q .numbers)))
       (λ _. record {
         count = refl;

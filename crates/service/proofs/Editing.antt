@@ -12,10 +12,10 @@ use Rattle.standing.specs.declared.Standing.{Standing}
 use Rattle.standing.specs.declared.Edited.{Edited}
 use Rattle.standing.specs.declared.Undo.{Undo}
 use Rattle.standing.specs.Places.{entering, replacing}
-use Rattle.standing.specs.Standing.{Wf, listOf, pasts, afterEdit, Edits, TakesBack, frontOr, restOf}
+use Rattle.standing.specs.Standing.{Wf, listOf, pasts, afterEdit, Edits, TakesBack}
 use Rattle.model.specs.declared.Call.{Call}
 use Rattle.model.specs.declared.Call.the-variants.{Enter, Amend, Strike, TakeBack}
-use Rattle.model.specs.Edits.{insert, remove, replace, enterRefusal, amendRefusal, strikeRefusal, takeBackRefusal, remember}
+use Rattle.model.specs.Edits.{insert, remove, replace, enterRefusal, amendRefusal, strikeRefusal, takeBackRefusal, remember, frontOr, restOf}
 use Rattle.model.specs.Effects.{State, Effect, settle}
 use Rattle.model.specs.Model.{edit, takeBack, effectOf}
 use Rattle.service.specs.declared.Stepped.{Stepped}

@@ -8,19 +8,20 @@ use lib.ListN.{length, getD, take, drop, length-append, length-take, length-drop
 use lib.Seq.{length-take-le, getD-take}
 use Rattle.refusal.specs.Table.{accepted, unknownNumber, noHistory}
 use Rattle.spell.specs.declared.Spell.{Spell}
-use Rattle.spell.specs.Order.{ordered}
-use Rattle.spell.specs.Listing.{stands, distinct, Each, Sound, Good}
+use Rattle.spell.specs.Listing.{stands, Sound, Good}
 use Rattle.register.specs.Answers.{blank}
-use Rattle.model.specs.Edits.{insert, remove, replace, enterRefusal, amendRefusal, strikeRefusal, takeBackRefusal}
+use Rattle.model.specs.Edits.{insert, remove, replace, enterRefusal, amendRefusal, strikeRefusal, takeBackRefusal, frontOr, restOf}
 use Rattle.standing.specs.declared.Undo.{Undo}
 use Rattle.standing.specs.declared.Standing.{Standing}
-use Rattle.standing.specs.Standing.{listOf, entries, undo, pastOf, pasts, Goods, Wf, Fresh, Edits, frontOr, restOf, afterTakeBack, TakesBack}
+use Rattle.standing.specs.Standing.{listOf, entries, undo, pastOf, pasts, Goods, Wf, Fresh, Edits, afterTakeBack, TakesBack}
 use Rattle.standing.specs.Search.{indexOf}
 use Rattle.standing.specs.Places.{onto, relisted, over, blankEntry, freshStanding, entering, replacing, noted}
 use Rattle.standing.proofs.Search.{remove-at}
 use Rattle.standing.proofs.Places.{onto-same, onto-twice, same, over-same, list-over, past-over, wf-over, over-relisted}
-use Rattle.standing.proofs.Edits.{length-insert, length-remove, removed-gone, good-insert, good-remove, remove-none, remove-insert, insert-remove}
-use Rattle.standing.proofs.Checks.{found, missed, strike-refusal, enters, amends}
+use Rattle.model.proofs.Edits.{length-insert, removed-gone, orderly-none, orderly-insert, orderly-remove, orderly-replace, good-orderly, orderly-good, remove-none, remove-insert}
+use Rattle.model.proofs.Checks.{enters, amends}
+use Rattle.standing.proofs.Edits.{insert-remove}
+use Rattle.standing.proofs.Checks.{found, missed, strike-refusal}
 use Rattle.standing.proofs.Past.{pop, refused, edited}
 
 pub list-length : (st : Standing) → Wf st → length (listOf st) ≡ st .count
@@ -43,7 +44,7 @@ pub enter-made : (st : Standing) (s : Spell) → Wf st → Sound s → enterRefu
 enter-made st s w sound done =
     let e = enters (listOf st) s done in
     edited st (enterRefusal (listOf st) s) (insert s (listOf st)) (entering s) w
-    (good-insert s (listOf st) (w .good) sound (e .free) (e .room))
+    (orderly-good (orderly-insert Sound s (listOf st) (good-orderly (w .good)) sound (e .free) (e .room)))
     (unfold undo in remove-insert s (listOf st) (e .free))
     done
 
@@ -68,7 +69,7 @@ module _ (st : Standing) (w : Wf st) (k p : ℕ) (e : p ≡ indexOf k (listOf st
   strike-made =
       rw (removed-is k p (listOf st) e, entry-is)
       (edited st (strikeRefusal (listOf st) k) (remove k (listOf st)) (replacing k (listOf st)) w
-      (good-remove k (listOf st) (w .good) there)
+      (orderly-good (orderly-remove Sound k (listOf st) (good-orderly (w .good)) there))
       (unfold undo in rw (remove-none k (remove k (listOf st)) (removed-gone k (listOf st) (w .good .unique))) put-back)
       (unfold strikeRefusal in rw there))
 
@@ -97,7 +98,7 @@ amend-made st s w p e h sound done =
     let es = noted (replacing k (listOf st)) (entries st) in
     rw (removed-is k p (listOf st) e, entry-is st w k p e h, list-over st less es, over-relisted st less (insert s less) es (omega (arith, length-insert s less)))
     (edited st (amendRefusal (listOf st) s) (insert s less) (replacing k (listOf st)) w
-    (good-insert s less (good-remove k (listOf st) (w .good) there) sound free (omega (arith, length-remove k (listOf st) there, w .good .few)))
+    (orderly-good (orderly-replace Sound s (listOf st) (good-orderly (w .good)) sound there))
     (unfold undo in rw (remove-insert s less free) (put-back st w k p e h))
     done)
 
@@ -227,8 +228,7 @@ module _ (st : Standing) (w : Wf st) (some : st .depth ≡ 0 → ⊥) where
 -- ---- A standing list with no past
 
 pub good-none : Good []
-unfolding ordered distinct Each
-good-none = record { each = tt; in-order = refl; unique = refl; few = omega arith }
+good-none = orderly-good (orderly-none Sound)
 
 no-goods : (l : List Spell) → Goods (pastOf l [])
 unfolding pastOf Goods

@@ -8,13 +8,13 @@ use Rattle.spell.specs.declared.Urgency.the-variants.{Grade, Reading}
 use Rattle.spell.specs.declared.Spell.{Spell}
 use Rattle.spell.specs.Order.{earlierOf}
 use Rattle.spell.specs.Listing.{stands}
-use Rattle.model.specs.Edits.{insert, remove, enterRefusal, strikeRefusal}
+use Rattle.model.specs.Edits.{insert, remove, enterRefusal, strikeRefusal, frontOr}
 use Rattle.packing.specs.Words.{spellWords, spellOf, urgencyOf}
 use Rattle.standing.specs.declared.Undo.{Undo}
 use Rattle.standing.specs.declared.Standing.{Standing}
 use Rattle.standing.specs.Search.{lead}
 use Rattle.standing.specs.Places.{blankEntry, entering, replacing}
-use Rattle.standing.specs.Standing.{listOf, undo, pastOf, afterEdit, frontOr, afterTakeBack}
+use Rattle.standing.specs.Standing.{listOf, undo, pastOf, afterEdit, afterTakeBack}
 use Rattle.standing.specs.Packed.{entryWords, entryOf}
 
 -- ---- An entry's words

@@ -8,7 +8,7 @@ use lib.ListN.{length, take, drop}
 use Rattle.refusal.specs.Table.{accepted}
 use Rattle.spell.specs.declared.Spell.{Spell}
 use Rattle.spell.specs.Listing.{Good}
-use Rattle.model.specs.Edits.{insert, remove, takeBackRefusal, remember}
+use Rattle.model.specs.Edits.{insert, remove, takeBackRefusal, remember, frontOr, restOf}
 use Rattle.standing.specs.declared.Undo.{Undo}
 use Rattle.standing.specs.declared.Standing.{Standing}
 use Rattle.standing.specs.declared.Edited.{Edited}
@@ -75,16 +75,6 @@ pub record Edits (st : Standing) (r : Edited) (n : ℕ) (l′ : List Spell) (e :
   pub past : pasts (r .standing) ≡ cond (eqb n accepted) (remember (listOf st) (pasts st)) (pasts st)
   pub kept : eqb n accepted ≡ false → r .standing ≡ st
   pub whole : r .standing ≡ afterEdit st n l′ e
-
--- the front of the past, or the standing list where there is no past
-unfoldable pub frontOr : List Spell → List (List Spell) → List Spell
-frontOr l [] = l
-frontOr l (p ∷ past) = p
-
--- the past without its front
-unfoldable pub restOf : List (List Spell) → List (List Spell)
-restOf [] = []
-restOf (p ∷ past) = past
 
 -- all places after a take back: the newest entry goes
 abbrev pub afterTakeBack : Standing → Standing

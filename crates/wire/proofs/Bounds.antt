@@ -1,16 +1,17 @@
 -- How large the numbers of an answer are: each is one that a decimal has, and the lists are as long as it says. Assumes nothing.
-use mathlib.Core.Bool.{Bool, true, false, cond}
-use mathlib.Core.List.{List, [], _∷_, _++_}
+use mathlib.Core.Bool.{Bool}
+use mathlib.Core.List.{List, _++_}
 use Prim.Native.Nat.{ℕ, _≤_}
 use native.Mathlib.Omega.{arith}
-use lib.ListN.{length, drop, length-append, length-map}
+use lib.ListN.{length, drop, length-append}
 use Rattle.spell.specs.declared.Spell.{Spell}
 use Rattle.spell.specs.Listing.{Good}
 use Rattle.register.specs.Text.{writeAll}
 use Rattle.register.proofs.Texts.{written-width}
-use Rattle.model.specs.Questions.{filter, listed}
+use Rattle.model.specs.Questions.{listed}
 use Rattle.model.specs.Model.{State, Request, Answer, After, step}
-use Rattle.model.proofs.Account.{every}
+use Rattle.model.proofs.Effects.{every}
+use Rattle.model.proofs.Filter.{listed-few}
 use Rattle.model.proofs.Claims.{comparisons-few}
 
 -- the numbers of an answer
@@ -19,18 +20,6 @@ pub record Small (a : Answer) : Type 0 where
   pub listed : a .count ≤ length (a .numbers)
   pub bytes : a .length ≤ 33792
   pub written : a .length ≤ length (a .text)
-
-filter-few : (t : Spell → Bool) (p : List Spell) → length (filter t p) ≤ length p
-unfolding filter
-filter-few t [] = omega arith
-filter-few t (s ∷ p) = go (t s) (filter-few t p)
-  where
-    go : (b : Bool) → length (filter t p) ≤ length p → length (cond b (s ∷ filter t p) (filter t p)) ≤ length (s ∷ p)
-    go true h = omega arith
-    go false h = omega arith
-
-listed-few : (t : Spell → Bool) (p : List Spell) → length (listed t p) ≤ length p
-listed-few t p = omega (arith, filter-few t p, length-map (filter t p) (λ (s : Spell). s .number))
 
 module _ (m : State) (q : Request) (standing : Good (m .standing)) (published : length (m .published) ≤ 1024) where
   few : (ns rest : List ℕ) → length ns ≤ length (ns ++ rest)

@@ -8,7 +8,8 @@ use Rattle.standing.specs.declared.Standing.{Standing}
 use Rattle.standing.specs.Standing.{listOf}
 use Rattle.standing.specs.Places.{replacing}
 use Rattle.standing.proofs.Held.{sound}
-use Rattle.standing.proofs.Checks.{amend-refusal, amends, place-in}
+use Rattle.model.proofs.Checks.{amends}
+use Rattle.standing.proofs.Checks.{amend-refusal, place-in}
 use Rattle.standing.proofs.Past.{refused}
 use Rattle.standing.proofs.Calls.{list-length, amend-room, amend-made}
 use Rattle.standing.proofs.amend.Statement.{statement}

@@ -6,7 +6,8 @@ use Rattle.model.specs.Edits.{insert, enterRefusal}
 use Rattle.standing.specs.Standing.{listOf}
 use Rattle.standing.specs.Places.{entering}
 use Rattle.standing.proofs.Held.{sound}
-use Rattle.standing.proofs.Checks.{enter-refusal, enters}
+use Rattle.model.proofs.Checks.{enters}
+use Rattle.standing.proofs.Checks.{enter-refusal}
 use Rattle.standing.proofs.Past.{refused}
 use Rattle.standing.proofs.Calls.{list-length, enter-made}
 use Rattle.standing.proofs.enter.Statement.{statement}

@@ -1,4 +1,4 @@
-use Rattle.standing.proofs.Checks.{stops, passes}
+use Rattle.model.proofs.Checks.{stops, passes}
 use Rattle.standing.proofs.first_of.Statement.{statement}
 use Rattle.standing.proofs.first_of.Tie as tie
 

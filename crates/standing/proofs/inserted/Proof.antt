@@ -7,7 +7,7 @@ use lib.Seq.{length-take-le}
 use Rattle.spell.specs.Order.{earlierOf}
 use Rattle.register.specs.Answers.{blank}
 use Rattle.standing.specs.Standing.{listOf}
-use Rattle.standing.proofs.Edits.{length-insert}
+use Rattle.model.proofs.Edits.{length-insert}
 use Rattle.standing.proofs.Lists.{unmapped, shifted, shift-none, shift-down}
 use Rattle.standing.proofs.Places.{same}
 use Rattle.standing.proofs.Search.{lead-le, insert-shifted}

@@ -1,25 +1,27 @@
 -- All calls of the account gone through once, for any property of what a call does, and what comes of an effect gone through
 -- once, for any property of an outcome. Assumes nothing.
 use Prim.Native.Nat.{ℕ}
-use mathlib.Core.Path.{_≡_, refl, sym, _∙_}
+use mathlib.Core.Path.{_≡_, refl, sym, ap, _∙_}
 use mathlib.Core.Bool.{Bool, true, false, _&&_, cond, false≢true}
 use mathlib.Core.List.{List, [], _∷_, List·Memᴰ, List·Memᴰ·head, List·Memᴰ·tail}
-use borrow.Author.Tests.{eqb-true, eqb-false}
+use borrow.Author.Tests.{eqb-true, eqb-false, leb-true, leb-false}
 use native.Mathlib.Omega.{arith}
 use lib.Dec.{leb, eqb}
 use lib.ListN.{length}
-use Rattle.refusal.specs.Table.{accepted, offCalendar, reversed, unknownNumber, noHistory, unsortedDays, shortBuffer}
+use Rattle.refusal.specs.Table.{accepted, offCalendar, reversed, unknownNumber, unsortedDays, shortBuffer}
 use Rattle.spell.specs.declared.Spell.{Spell}
 use Rattle.spell.specs.Entry.{dayOk}
 use Rattle.register.specs.Text.{writeAll}
+use Rattle.stabbing.proofs.Marks.{by-test}
 use Rattle.model.specs.declared.Call.{Call}
 use Rattle.model.specs.declared.Call.the-variants.{Enter, Amend, Strike, TakeBack, Publish, Write, Ask}
 use Rattle.model.specs.declared.Question.{Question}
 use Rattle.model.specs.declared.Question.the-variants.{Day, Span, Cover, Days}
-use Rattle.model.specs.Edits.{insert, remove, replace, enterRefusal, amendRefusal, strikeRefusal}
+use Rattle.model.specs.Edits.{insert, remove, replace, enterRefusal, amendRefusal, strikeRefusal, takeBackRefusal, remember, frontOr, restOf}
 use Rattle.model.specs.Questions.{onAny, daysOk, rising, listed}
 use Rattle.model.specs.Effects.{State, Request, After, Effect, refused, done, gives, writes, refuse, gave, wrote, settle}
-use Rattle.model.specs.Model.{edit, takeBack, reaching, cover, ask, effectOf, step}
+use Rattle.model.specs.Model.{become, takeBack, publish, reaching, cover, ask, effectOf, step}
+use Rattle.model.proofs.Rules.{fits-given, short-refused, text-fits, text-short}
 
 -- what holds of both outcomes of a test holds of the one that is taken
 pub by-cases : {A : Type 0} (P : A → Type 0) (b : Bool) {x y : A} → (b ≡ true → P x) → (b ≡ false → P y) → P (cond b x y)
@@ -40,8 +42,14 @@ module _ (P : After → Type 0) (m : State) (q : Request) where
   unfolding settle
   settles short (refused n) p = p
   settles short (done m′) p = p
-  settles short (gives ns c) p = by-cases P (leb (length ns) (length (q .numbers))) (λ _. p) (λ _. short)
-  settles short (writes t) p = by-cases P (leb (length t) (length (q .text))) (λ _. p) (λ _. short)
+  settles short (gives ns c) p =
+      by-test (leb (length ns) (length (q .numbers)))
+      (λ e. rw (fits-given m q ns c (leb-true (length ns) (length (q .numbers)) e)) p)
+      (λ e. rw (short-refused m q ns c (leb-false (length ns) (length (q .numbers)) e)) short)
+  settles short (writes t) p =
+      by-test (leb (length t) (length (q .text)))
+      (λ e. rw (text-fits m q t (leb-true (length t) (length (q .text)) e)) p)
+      (λ e. rw (text-short m q t (leb-false (length t) (length (q .text)) e)) short)
 
 -- ---- What a call does
 
@@ -59,6 +67,11 @@ module _ (F : Effect → Type 0) where
   -- F holds of every refusal that a call gives; the number is never 0
   abbrev pub Refusing : Type 0
   Refusing = (n : ℕ) → (n ≡ accepted → ⊥) → F (refused n)
+
+  -- an edit or a take back: what the check n says, it does
+  pub become-does : (m : State) (n : ℕ) (l : List Spell) (p : List (List Spell))
+      → (n ≡ accepted → F (done (record { standing = l; past = p; published = m .published }))) → ((n ≡ accepted → ⊥) → F (refused n)) → F (become n l p m)
+  become-does m n l p made kept = by-cases F (eqb n accepted) (λ e. made (eqb-true n accepted e)) (λ e. kept (eqb-false n accepted e))
 
   -- F holds of whatever a question does
   pub record Asking (ds : List ℕ) (p : List Spell) : Type 0 where
@@ -100,24 +113,22 @@ module _ (F : Effect → Type 0) where
   asks-does {ds} {p} a Days = days-does (a .refusing) p ds (a .several)
 
   module _ (ds : List ℕ) (m : State) (a : Asking ds (m .published)) (written : F (writes (writeAll (m .standing)))) where
-    edit-does : (n : ℕ) (l : List Spell) → ((m′ : State) → F (done m′)) → F (edit n l m)
-    edit-does n l changed = by-cases F (eqb n accepted) (λ _. changed _) (λ e. a .refusing n (eqb-false n accepted e))
-
-    back-does : (past : List (List Spell)) → ((m′ : State) → F (done m′)) → F (takeBack past m)
-    unfolding takeBack
-    back-does [] changed = a .refusing noHistory (λ e. omega arith)
-    back-does (l ∷ past) changed = changed _
-
-    -- any call: one that does not only read may leave any state
-    pub call-does : (c : Call) → (reads c ≡ false → (m′ : State) → F (done m′)) → F (effectOf c ds m)
-    unfolding effectOf
-    call-does (Enter s) changed = edit-does (enterRefusal (m .standing) s) (insert s (m .standing)) (changed refl)
-    call-does (Amend s) changed = edit-does (amendRefusal (m .standing) s) (replace s (m .standing)) (changed refl)
-    call-does (Strike k) changed = edit-does (strikeRefusal (m .standing) k) (remove k (m .standing)) (changed refl)
-    call-does TakeBack changed = back-does (m .past) (changed refl)
-    call-does Publish changed = changed refl _
-    call-does Write changed = written
-    call-does (Ask w) changed = asks-does a w
+    -- any call: an edit or a take back may leave any standing list and any past
+    pub call-does : (c : Call)
+        → (reads c ≡ false → (l : List Spell) (p : List (List Spell)) → F (done (record { standing = l; past = p; published = m .published })))
+        → (c ≡ Publish → F (publish m)) → F (effectOf c ds m)
+    unfolding effectOf takeBack
+    call-does (Enter s) changed published =
+        become-does m (enterRefusal (m .standing) s) (insert s (m .standing)) (remember (m .standing) (m .past)) (λ _. changed refl _ _) (a .refusing _)
+    call-does (Amend s) changed published =
+        become-does m (amendRefusal (m .standing) s) (replace s (m .standing)) (remember (m .standing) (m .past)) (λ _. changed refl _ _) (a .refusing _)
+    call-does (Strike k) changed published =
+        become-does m (strikeRefusal (m .standing) k) (remove k (m .standing)) (remember (m .standing) (m .past)) (λ _. changed refl _ _) (a .refusing _)
+    call-does TakeBack changed published =
+        become-does m (takeBackRefusal (m .past)) (frontOr (m .standing) (m .past)) (restOf (m .past)) (λ _. changed refl _ _) (a .refusing _)
+    call-does Publish changed published = published refl
+    call-does Write changed published = written
+    call-does (Ask w) changed published = asks-does a w
 
 -- ---- What comes of a call
 
@@ -126,7 +137,7 @@ module _ (P : After → Type 0) (m : State) (q : Request)
   comes : (reads (q .call) ≡ false → (m′ : State) → P (refuse accepted m′ q)) → P (step m q)
   comes changed =
       settles P m q (a .refusing shortBuffer (λ e. omega arith)) (effectOf (q .call) (q .days) m)
-      (call-does (Comes P m q) (q .days) m a written (q .call) changed)
+      (call-does (Comes P m q) (q .days) m a written (q .call) (λ e l p. changed e _) (λ e. changed (ap reads e) _))
 
   -- of one that only reads
   pub reads-every : reads (q .call) ≡ true → P (step m q)

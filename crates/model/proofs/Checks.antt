@@ -1,0 +1,80 @@
+-- When the checks of an edit accept it. Assumes nothing.
+use mathlib.Core.Path.{_≡_, refl, sym, _∙_}
+use mathlib.Core.Logic.{_↔_}
+use mathlib.Core.Bool.{Bool, true, false, cond}
+use mathlib.Core.List.{List}
+use Prim.Native.Nat.{ℕ, _<_}
+use native.Mathlib.Omega.{arith}
+use borrow.Author.Tests.{eq-eqb, ne-eqb, eqb-true, eqb-false, lt-leb, leb-false}
+use lib.Dec.{eqb, leb}
+use lib.ListN.{length}
+use Rattle.refusal.specs.Table.{accepted, duplicateNumber, unknownNumber, full}
+use Rattle.spell.specs.declared.Spell.{Spell}
+use Rattle.spell.specs.Entry.{refusalOf}
+use Rattle.spell.specs.Listing.{stands}
+use Rattle.spell.proofs.Entered.{past}
+use Rattle.model.specs.Edits.{orElse, enterRefusal, amendRefusal, strikeRefusal}
+
+-- ---- Two checks, one after the other
+
+pub stops : (n m : ℕ) → (n ≡ accepted → ⊥) → n ≡ orElse n m
+stops n m h = rw (ne-eqb n accepted h)
+
+pub passes : (n m : ℕ) → n ≡ accepted → m ≡ orElse n m
+passes n m h = rw (eq-eqb n accepted h)
+
+both-pass : (n m : ℕ) → orElse n m ≡ accepted → (n ≡ accepted) × (m ≡ accepted)
+both-pass n m h = go (eqb n accepted) refl h
+  where
+    go : (b : Bool) → eqb n accepted ≡ b → cond b m n ≡ accepted → (n ≡ accepted) × (m ≡ accepted)
+    go true e k = (eqb-true n accepted e, k)
+    go false e k = absurd (eqb-false n accepted e k)
+
+-- a number that is known
+known : (b : Bool) → cond b accepted unknownNumber ≡ accepted → b ≡ true
+known true e = refl
+known false e = absurd (never e)
+  where
+    never : unknownNumber ≡ accepted → ⊥
+    never e = omega arith
+
+-- ---- The checks of enter, amend and strike
+
+module _ (l : List Spell) (s : Spell) where
+  -- an accepted enter: the spell passes, its number is free and there is room
+  pub record Enters : Type 0 where
+    pub passes : refusalOf s ≡ accepted
+    pub free : stands l (s .number) ≡ false
+    pub room : length l < 1024
+
+  pub enters : enterRefusal l s ≡ accepted → Enters
+  unfolding enterRefusal
+  enters h =
+      let p = both-pass (refusalOf s) _ h in
+      let q = past (stands l (s .number)) 5 (cond (leb 1024 (length l)) full accepted) (p .1) in
+      let r = past (leb 1024 (length l)) 7 accepted (q .1) in
+      record { passes = p .0; free = q .0; room = leb-false 1024 (length l) (r .0) }
+
+  pub enter-accepted : enterRefusal l s ≡ accepted ↔ Enters
+  unfolding enterRefusal
+  enter-accepted = (enters, λ e. sym (passes (refusalOf s) (cond (stands l (s .number)) duplicateNumber (cond (leb 1024 (length l)) full accepted)) (e .passes)) ∙ rw (e .free, lt-leb 1024 (length l) (e .room)))
+
+  -- an accepted amend: the spell passes, and its number stands
+  pub record Amends : Type 0 where
+    pub passes : refusalOf s ≡ accepted
+    pub there : stands l (s .number) ≡ true
+
+  pub amends : amendRefusal l s ≡ accepted → Amends
+  unfolding amendRefusal
+  amends h =
+      let p = both-pass (refusalOf s) _ h in
+      record { passes = p .0; there = known (stands l (s .number)) (p .1) }
+
+  pub amend-accepted : amendRefusal l s ≡ accepted ↔ Amends
+  unfolding amendRefusal
+  amend-accepted = (amends, λ a. sym (passes (refusalOf s) (cond (stands l (s .number)) accepted unknownNumber) (a .passes)) ∙ rw (a .there))
+
+-- an accepted strike: the number stands
+pub strike-accepted : (l : List Spell) (k : ℕ) → strikeRefusal l k ≡ accepted ↔ (stands l k ≡ true)
+unfolding strikeRefusal
+strike-accepted l k = (known (stands l k), λ e. rw e)

@@ -1,0 +1,93 @@
+-- Document 01's plain account, what begins it and what take back, publish and writing do, as claims of every state. The questions are in
+-- `Claims.antt`. Assumes nothing.
+use Prim.Native.Nat.{ℕ, _≤_, _<_}
+use mathlib.Core.Path.{_≡_, refl}
+use mathlib.Core.List.{List, [], _∷_, _++_}
+use native.Mathlib.Omega.{arith}
+use borrow.Author.Tests.{le-leb, lt-leb, leb-true, leb-false}
+use lib.Dec.{leb}
+use lib.ListN.{length, drop}
+use Rattle.refusal.specs.Table.{accepted, noHistory, shortBuffer}
+use Rattle.spell.specs.declared.Spell.{Spell}
+use Rattle.register.specs.Text.{Register, readText, writeAll}
+use Rattle.register.specs.Text.Register.{accepted as good, refused as bad}
+use Rattle.register.proofs.Claims.{text-again}
+use Rattle.stabbing.proofs.Marks.{by-test}
+use Rattle.model.specs.declared.Call.the-variants.{TakeBack, Publish, Write}
+use Rattle.model.specs.Effects.{State, Request, Answer, gives, writes, refuse, gave, wrote, settle}
+use Rattle.model.specs.Model.{fresh, begun, takeBack, effectOf, stepOf}
+
+-- ---- The beginning
+
+-- A READING has an empty past and an empty published list, whatever the text
+pub reading-begins : (g : Register) → (begun g .past ≡ []) × (begun g .published ≡ [])
+unfolding begun
+reading-begins (good l) = (refl, refl)
+reading-begins (bad n line) = (refl, refl)
+
+-- accepted, the text's spells stand, and it is their text
+pub reading-stands : (text : List ℕ) (l : List Spell) → readText text ≡ good l → (begun (readText text) .standing ≡ l) × (writeAll l ≡ text)
+unfolding begun
+reading-stands text l e = (rw e, text-again text l e .0)
+
+-- refused, it makes a fresh service
+pub reading-refused : (text : List ℕ) (n line : ℕ) → readText text ≡ bad n line → begun (readText text) ≡ fresh
+unfolding begun
+reading-refused text n line e = rw e
+
+module _ (m : State) (q : Request) where
+  -- ---- The short list
+
+  -- NUMBERS THAT FIT the lent list are given, and others are refused with 11; so is a text
+  pub fits-given : (ns : List ℕ) (looks : ℕ) → length ns ≤ length (q .numbers) → settle (gives ns looks) m q ≡ gave ns looks m q
+  unfolding settle
+  fits-given ns looks h = rw (le-leb (length ns) (length (q .numbers)) h)
+
+  pub short-refused : (ns : List ℕ) (looks : ℕ) → length (q .numbers) < length ns → settle (gives ns looks) m q ≡ refuse shortBuffer m q
+  unfolding settle
+  short-refused ns looks h = rw (lt-leb (length ns) (length (q .numbers)) h)
+
+  pub text-fits : (t : List ℕ) → length t ≤ length (q .text) → settle (writes t) m q ≡ wrote t m q
+  unfolding settle
+  text-fits t h = rw (le-leb (length t) (length (q .text)) h)
+
+  pub text-short : (t : List ℕ) → length (q .text) < length t → settle (writes t) m q ≡ refuse shortBuffer m q
+  unfolding settle
+  text-short t h = rw (lt-leb (length t) (length (q .text)) h)
+
+  -- ---- Take back and publish
+
+  -- TAKE BACK: the standing list becomes the front of the past, which loses it; the published list is as it was
+  pub back-takes : (l : List Spell) (past : List (List Spell)) → m .past ≡ l ∷ past
+      → stepOf TakeBack m q ≡ refuse accepted (record { standing = l; past = past; published = m .published }) q
+  unfolding effectOf takeBack settle
+  back-takes l past e = rw e
+
+  -- with no past it is refused with 9
+  pub back-refused : m .past ≡ [] → stepOf TakeBack m q ≡ refuse noHistory m q
+  unfolding effectOf takeBack settle
+  back-refused e = rw e
+
+  -- PUBLISH is never refused, and leaves the standing list and the past as they are
+  pub publish-keeps-past : stepOf Publish m q ≡ refuse accepted (record { standing = m .standing; past = m .past; published = m .standing }) q
+  unfolding effectOf settle
+  publish-keeps-past = refl
+
+  -- ---- Writing
+
+  -- a's first places hold the text t, its later places as before; the list lent for numbers is as before
+  pub record Writes (t : List ℕ) (a : Answer) : Type 0 where
+    pub length : a .length ≡ length t
+    pub text : a .text ≡ t ++ drop (a .length) (q .text)
+    pub numbers : a .numbers ≡ q .numbers
+
+  written : (t : List ℕ) → settle (writes t) m q .answer .refusal ≡ accepted → Writes t (settle (writes t) m q .answer)
+  written t =
+      by-test (leb (length t) (length (q .text)))
+      (λ e. rw (text-fits t (leb-true (length t) (length (q .text)) e)) (λ _. record { length = refl; text = refl; numbers = refl }))
+      (λ e. rw (text-short t (leb-false (length t) (length (q .text)) e)) (λ r. absurd (omega arith)))
+
+  -- ACCEPTED WRITING gives the text of the standing list
+  pub write-writes : stepOf Write m q .answer .refusal ≡ accepted → Writes (writeAll (m .standing)) (stepOf Write m q .answer)
+  unfolding effectOf
+  write-writes = written (writeAll (m .standing))
