@@ -5,4 +5,6 @@ pub mod Bridge
 pub mod Claims
 pub mod Checks
 pub mod Edits
+pub mod Kept
+pub mod Runs
 pub mod Cases

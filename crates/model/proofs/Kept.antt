@@ -1,0 +1,104 @@
+-- The lists of the account stay in the order, their numbers unique, through every call. Assumes nothing.
+use Prim.Native.Nat.{ℕ, zero, suc, _≤_}
+use mathlib.Core.Path.{_≡_, refl}
+use mathlib.Core.Logic.{inl, inr}
+use mathlib.Core.List.{List, [], _∷_, List·Memᴰ, List·Memᴰ·head, List·Memᴰ·tail, List·Memᴰ·not-nil, List·Memᴰ·cases-cons}
+use native.Mathlib.Omega.{arith}
+use lib.ListN.{length, take, length-take}
+use Rattle.refusal.specs.Table.{accepted}
+use Rattle.spell.specs.declared.Spell.{Spell}
+use Rattle.spell.specs.Listing.{Each, Sound, Good}
+use Rattle.register.specs.Text.{Register, readText}
+use Rattle.register.specs.Text.Register.{accepted as good, refused as bad}
+use Rattle.register.proofs.Claims.{text-again}
+use Rattle.model.specs.declared.Call.{Call}
+use Rattle.model.specs.declared.Call.the-variants.{Enter, Amend, Strike, TakeBack, Publish, Write, Ask}
+use Rattle.model.specs.Edits.{insert, remove, replace, enterRefusal, amendRefusal, strikeRefusal, remember}
+use Rattle.model.specs.Effects.{State, Request, After, Effect}
+use Rattle.model.specs.Model.{begun, edit, takeBack, effectOf, step}
+use Rattle.model.specs.Reached.{Begun, afresh, reading, after, Orderly, Kept, Brings}
+use Rattle.model.proofs.Edits.{orderly-none, orderly-insert, orderly-remove, orderly-replace}
+use Rattle.model.proofs.Checks.{enters, amends, strike-accepted}
+use Rattle.model.proofs.Effects.{Comes, settles, become-does, asks-does}
+use Rattle.model.proofs.Rules.{reading-begins}
+
+in-take : {A : Type 0} {x : A} (n : ℕ) (l : List A) → List·Memᴰ x (take n l) → List·Memᴰ x l
+in-take zero l i = absurd (List·Memᴰ·not-nil i)
+in-take (suc n) [] i = i
+in-take (suc n) (y ∷ l) i = elim (List·Memᴰ·cases-cons i) [ inl e ↦ List·Memᴰ·head e | inr j ↦ List·Memᴰ·tail (in-take n l j) ]
+
+module _ (P : Spell → Type 0) where
+  -- ---- The beginning
+
+  kept-none : {m : State} → Orderly P (m .standing) → m .past ≡ [] → m .published ≡ [] → Kept P m
+  kept-none o past published =
+      record { standing = o; past = λ l i. absurd (List·Memᴰ·not-nil (rw past at i)); depth = rw past (omega arith); published = rw published (orderly-none P) }
+
+  each-sound : ((s : Spell) → Sound s → P s) → (l : List Spell) → Each Sound l → Each P l
+  unfolding Each
+  each-sound f [] e = tt
+  each-sound f (s ∷ l) e = (f s (e .0), each-sound f l (e .1))
+
+  pub begun-kept : ((s : Spell) → Sound s → P s) → {m : State} → Begun m → Kept P m
+  begun-kept f afresh = kept-none (orderly-none P) refl refl
+  begun-kept f (reading text) =
+      let none = reading-begins (readText text) in
+      kept-none (go (readText text) refl) (none .0) (none .1)
+    where
+      go : (g : Register) → readText text ≡ g → Orderly P (begun g .standing)
+      go (good l) e = unfold begun in
+          let g : Good l = text-again text l e .1 in
+          record { each = each-sound f l (g .each); in-order = g .in-order; unique = g .unique; few = g .few }
+      go (bad n line) e = unfold begun in orderly-none P
+
+  -- ---- A call
+
+  module _ {m : State} (q : Request) (k : Kept P m) where
+    abbrev Keeps : Effect → Type 0
+    Keeps = Comes (λ (x : After). Kept P (x .state)) m q
+
+    edit-keeps : (n : ℕ) (l : List Spell) → (n ≡ accepted → Orderly P l) → Keeps (edit n l m)
+    unfolding remember
+    edit-keeps n l h =
+        become-does Keeps m n l (remember (m .standing) (m .past))
+        (λ e. record {
+          standing = h e;
+          past = λ x i. elim (List·Memᴰ·cases-cons (in-take 64 (m .standing ∷ m .past) i)) [ inl s ↦ rw s (k .standing) | inr j ↦ k .past x j ];
+          depth = omega (arith, length-take 64 (m .standing ∷ m .past));
+          published = k .published;
+        })
+        (λ _. k)
+
+    back-keeps : (past : List (List Spell)) → ((l : List Spell) → List·Memᴰ l past → Orderly P l) → length past ≤ 64 → Keeps (takeBack past m)
+    unfolding takeBack
+    back-keeps [] h few = k
+    back-keeps (l ∷ past) h few =
+        record { standing = h l (List·Memᴰ·head refl); past = λ x i. h x (List·Memᴰ·tail i); depth = omega arith; published = k .published }
+
+    call-keeps : (c : Call) → Brings P c → Keeps (effectOf c (q .days) m)
+    unfolding effectOf
+    call-keeps (Enter s) b =
+        edit-keeps (enterRefusal (m .standing) s) (insert s (m .standing)) (λ e.
+        let c = enters (m .standing) s e in
+        orderly-insert P s (m .standing) (k .standing) (b s (inl refl) (c .passes)) (c .free) (c .room))
+    call-keeps (Amend s) b =
+        edit-keeps (amendRefusal (m .standing) s) (replace s (m .standing)) (λ e.
+        let c = amends (m .standing) s e in
+        orderly-replace P s (m .standing) (k .standing) (b s (inr refl) (c .passes)) (c .there))
+    call-keeps (Strike n) b =
+        edit-keeps (strikeRefusal (m .standing) n) (remove n (m .standing)) (λ e.
+        orderly-remove P n (m .standing) (k .standing) (strike-accepted (m .standing) n .0 e))
+    call-keeps TakeBack b = back-keeps (m .past) (k .past) (k .depth)
+    call-keeps Publish b = record { standing = k .standing; past = k .past; depth = k .depth; published = k .standing }
+    call-keeps Write b = k
+    call-keeps (Ask w) b = asks-does Keeps (record { refusing = λ n _. k; asked = λ h l. k; several = k }) w
+
+    pub step-kept : Brings P (q .call) → Kept P (step m q .state)
+    step-kept b = settles (λ (x : After). Kept P (x .state)) m q k (effectOf (q .call) (q .days) m) (call-keeps (q .call) b)
+
+  -- ---- A list of calls
+
+  pub after-kept : {m : State} → Kept P m → (qs : List Request) → ((q : Request) → List·Memᴰ q qs → Brings P (q .call)) → Kept P (after m qs)
+  unfolding after
+  after-kept k [] b = k
+  after-kept k (q ∷ qs) b = after-kept (step-kept q k (b q (List·Memᴰ·head refl))) qs (λ r i. b r (List·Memᴰ·tail i))
