@@ -3,7 +3,7 @@ use Prim.Native.Nat.{ℕ}
 use mathlib.Core.Path.{_≡_, refl}
 use mathlib.Core.List.{List, [], _∷_, _++_, map}
 use lib.Ieee.{binary32, isNan, toBits, ofBits}
-use lib.ListN.{replicate}
+use lib.ListN.{take, replicate}
 use Rattle.spell.specs.declared.Urgency.{Urgency}
 use Rattle.spell.specs.declared.Urgency.the-variants.{Grade, Reading}
 use Rattle.spell.specs.declared.Spell.{Spell}
@@ -123,6 +123,7 @@ refusing = call TakeBack
     ∷ lent (99 ∷ []) (Ask (Day 1))
     ∷ call (Ask (Day 0))
     ∷ call (Ask (Span 5 4))
+    ∷ call (Ask (Span 5 0))
     ∷ asked (Ask Days) (5 ∷ 5 ∷ [])
     ∷ asked (Ask Days) (5 ∷ 4 ∷ 4001 ∷ [])
     ∷ call (Strike 11)
@@ -132,10 +133,52 @@ refusing = call TakeBack
     ∷ []
 
 pub refusals : map (λ (a : Answer). a .refusal) (run fresh refusing)
-    ≡ 9 ∷ 0 ∷ 6 ∷ 1 ∷ 7 ∷ 3 ∷ 7 ∷ 7 ∷ 0 ∷ 11 ∷ 0 ∷ 3 ∷ 4 ∷ 10 ∷ 3 ∷ 0 ∷ 0 ∷ 0 ∷ 9 ∷ []
+    ≡ 9 ∷ 0 ∷ 6 ∷ 1 ∷ 7 ∷ 3 ∷ 7 ∷ 7 ∷ 0 ∷ 11 ∷ 0 ∷ 3 ∷ 4 ∷ 3 ∷ 10 ∷ 3 ∷ 0 ∷ 0 ∷ 0 ∷ 9 ∷ []
 unfolding run settle effectOf takeBack ask cover enterRefusal amendRefusal strikeRefusal insert remove remember earlierOf stands isNan toBits
     onAny daysOk rising filter comparisonsOf
 refusals = refl
+
+-- ---- Edits, and what a day lists before and after they are published
+
+-- the spell numbers that an answer lists
+abbrev found : Answer → List ℕ
+found a = take (a .count) (a .numbers)
+
+-- Three spells; 2 is struck; 3, on days 5 to 8, is amended to days 2 and 3, which is taken back. A day is asked before and after each publish.
+abbrev editing : List Request
+editing = plainly 1 1 10
+    ∷ plainly 2 3 4
+    ∷ plainly 3 5 8
+    ∷ call Publish
+    ∷ call (Strike 2)
+    ∷ call (Ask (Day 3))
+    ∷ call Publish
+    ∷ call (Ask (Day 3))
+    ∷ call (Ask (Day 6))
+    ∷ call (Amend (spell 3 1 2 3 (Grade 1)))
+    ∷ call (Ask (Day 6))
+    ∷ call Publish
+    ∷ call (Ask (Day 6))
+    ∷ call (Ask (Day 3))
+    ∷ call TakeBack
+    ∷ call (Ask (Day 3))
+    ∷ call Publish
+    ∷ call (Ask (Day 3))
+    ∷ []
+
+pub edits : map found (run fresh editing)
+    ≡ [] ∷ [] ∷ [] ∷ [] ∷ []
+    ∷ (1 ∷ 2 ∷ []) ∷ []
+    ∷ (1 ∷ [])
+    ∷ (1 ∷ 3 ∷ []) ∷ []
+    ∷ (1 ∷ 3 ∷ []) ∷ []
+    ∷ (1 ∷ [])
+    ∷ (1 ∷ 3 ∷ []) ∷ []
+    ∷ (1 ∷ 3 ∷ []) ∷ []
+    ∷ (1 ∷ [])
+    ∷ []
+unfolding run settle effectOf takeBack ask enterRefusal amendRefusal strikeRefusal insert remove remember earlierOf stands filter
+edits = refl
 
 -- ---- The 65th list falls off
 

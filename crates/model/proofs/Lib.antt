@@ -5,6 +5,7 @@ pub mod Bridge
 pub mod Claims
 pub mod Checks
 pub mod Edits
+pub mod Editing
 pub mod Kept
 pub mod Runs
 pub mod Cases

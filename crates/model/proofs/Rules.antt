@@ -1,5 +1,5 @@
--- Document 01's plain account, what begins it and what take back, publish and writing do, as claims of every state. The questions are in
--- `Claims.antt`. Assumes nothing.
+-- Document 01's plain account, what begins it and what take back, publish and writing do, as claims of every state. The edits are in
+-- `Editing.antt`, the questions in `Claims.antt`, whole lists of calls in `Runs.antt`. Assumes nothing.
 use Prim.Native.Nat.{ℕ, _≤_, _<_}
 use mathlib.Core.Path.{_≡_, refl}
 use mathlib.Core.List.{List, [], _∷_, _++_}

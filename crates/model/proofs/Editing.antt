@@ -1,0 +1,153 @@
+-- What the edits do, each claim one of every state. Assumes nothing.
+use Prim.Native.Nat.{ℕ, _≤_}
+use mathlib.Core.Path.{_≡_, refl, sym, ap, _∙_}
+use mathlib.Core.Logic.{_⊎_, inl, inr, _↔_}
+use mathlib.Core.Bool.{true, false}
+use mathlib.Core.List.{List, _∷_, _++_, List·Memᴰ}
+use borrow.Author.Tests.{le-leb}
+use lib.ListN.{length, take, drop}
+use Rattle.refusal.specs.Table.{accepted, duplicateNumber, unknownNumber, full}
+use Rattle.spell.specs.declared.Spell.{Spell}
+use Rattle.spell.specs.Entry.{refusalOf}
+use Rattle.spell.specs.Listing.{stands, distinct}
+use Rattle.register.specs.Text.{writeAll}
+use Rattle.model.specs.declared.Call.the-variants.{Enter, Amend, Strike, TakeBack, Publish, Write, Ask}
+use Rattle.model.specs.declared.Question.the-variants.{Day}
+use Rattle.model.specs.Edits.{insert, remove, replace, enterRefusal, amendRefusal, strikeRefusal, remember}
+use Rattle.model.specs.Questions.{onDay, listed}
+use Rattle.model.specs.Effects.{State, Request, After, over, refuse, settle}
+use Rattle.model.specs.Model.{edit, effectOf, stepOf}
+use Rattle.model.specs.Reached.{Passes}
+use Rattle.model.proofs.Checks.{stops, passes, Enters, enter-accepted, Amends, amend-accepted, strike-accepted}
+use Rattle.model.proofs.Edits.{in-insert, in-remove}
+use Rattle.model.proofs.Effects.{become-does}
+use Rattle.model.proofs.Rules.{back-takes, write-writes}
+use Rattle.model.proofs.Claims.{day-lists}
+
+module _ (m : State) (q : Request) where
+  -- ---- When an edit is accepted
+
+  edit-answer : (n : ℕ) (l : List Spell) → settle (edit n l m) m q .answer .refusal ≡ n
+  unfolding settle
+  edit-answer n l = become-does (λ e. settle e m q .answer .refusal ≡ n) m n l (remember (m .standing) (m .past)) (λ e. sym e) (λ _. refl)
+
+  -- ENTER is accepted exactly where the spell passes the checks 1 to 5, its number does not stand and less than 1,024 stand
+  pub enter-when : (s : Spell) → stepOf (Enter s) m q .answer .refusal ≡ accepted ↔ Enters (m .standing) s
+  unfolding effectOf
+  enter-when s = rw (edit-answer (enterRefusal (m .standing) s) (insert s (m .standing))) (enter-accepted (m .standing) s)
+
+  -- AMEND exactly where the spell passes and its number stands
+  pub amend-when : (s : Spell) → stepOf (Amend s) m q .answer .refusal ≡ accepted ↔ Amends (m .standing) s
+  unfolding effectOf
+  amend-when s = rw (edit-answer (amendRefusal (m .standing) s) (replace s (m .standing))) (amend-accepted (m .standing) s)
+
+  -- STRIKE exactly where the number stands
+  pub strike-when : (k : ℕ) → stepOf (Strike k) m q .answer .refusal ≡ accepted ↔ (stands (m .standing) k ≡ true)
+  unfolding effectOf
+  strike-when k = rw (edit-answer (strikeRefusal (m .standing) k) (remove k (m .standing))) (strike-accepted (m .standing) k)
+
+  -- ---- Which check refuses it: 1 to 5 before the others, taken before full
+
+  pub enter-bad : (s : Spell) → (Passes s → ⊥) → stepOf (Enter s) m q .answer .refusal ≡ refusalOf s
+  unfolding effectOf enterRefusal
+  enter-bad s bad = edit-answer (enterRefusal (m .standing) s) (insert s (m .standing)) ∙ sym (stops (refusalOf s) _ bad)
+
+  pub enter-taken : (s : Spell) → Passes s → stands (m .standing) (s .number) ≡ true → stepOf (Enter s) m q .answer .refusal ≡ duplicateNumber
+  unfolding effectOf enterRefusal
+  enter-taken s fine there = edit-answer (enterRefusal (m .standing) s) (insert s (m .standing)) ∙ sym (passes (refusalOf s) _ fine) ∙ rw there
+
+  pub enter-full : (s : Spell) → Passes s → stands (m .standing) (s .number) ≡ false → 1024 ≤ length (m .standing) → stepOf (Enter s) m q .answer .refusal ≡ full
+  unfolding effectOf enterRefusal
+  enter-full s fine free many =
+      edit-answer (enterRefusal (m .standing) s) (insert s (m .standing)) ∙ sym (passes (refusalOf s) _ fine) ∙ rw (free, le-leb 1024 (length (m .standing)) many)
+
+  pub amend-bad : (s : Spell) → (Passes s → ⊥) → stepOf (Amend s) m q .answer .refusal ≡ refusalOf s
+  unfolding effectOf amendRefusal
+  amend-bad s bad = edit-answer (amendRefusal (m .standing) s) (replace s (m .standing)) ∙ sym (stops (refusalOf s) _ bad)
+
+  pub amend-unknown : (s : Spell) → Passes s → stands (m .standing) (s .number) ≡ false → stepOf (Amend s) m q .answer .refusal ≡ unknownNumber
+  unfolding effectOf amendRefusal
+  amend-unknown s fine free = edit-answer (amendRefusal (m .standing) s) (replace s (m .standing)) ∙ sym (passes (refusalOf s) _ fine) ∙ rw free
+
+  pub strike-unknown : (k : ℕ) → stands (m .standing) k ≡ false → stepOf (Strike k) m q .answer .refusal ≡ unknownNumber
+  unfolding effectOf strikeRefusal
+  strike-unknown k free = edit-answer (strikeRefusal (m .standing) k) (remove k (m .standing)) ∙ rw free
+
+  -- ---- What an accepted edit does
+
+  -- the spells that stand after it are those of which `In` is true, the former standing list is at the front of the past, which has
+  -- at most 64, and the published list is as it was
+  pub record Edited (In : Spell → Type 0) (x : State) : Type 0 where
+    pub standing : (s : Spell) → List·Memᴰ s (x .standing) ↔ In s
+    pub past : x .past ≡ take 64 (m .standing ∷ m .past)
+    pub published : x .published ≡ m .published
+
+  edited : {In : Spell → Type 0} (n : ℕ) (l : List Spell) → ((s : Spell) → List·Memᴰ s l ↔ In s)
+      → settle (edit n l m) m q .answer .refusal ≡ accepted → Edited In (settle (edit n l m) m q .state)
+  unfolding settle remember
+  edited {In} n l is =
+      become-does (λ e. settle e m q .answer .refusal ≡ accepted → Edited In (settle e m q .state)) m n l (remember (m .standing) (m .past))
+      (λ _ _. record { standing = is; past = refl; published = refl }) (λ no r. absurd (no r))
+
+  -- ENTER adds the spell, and no other goes or comes
+  pub enter-adds : (s : Spell) → stepOf (Enter s) m q .answer .refusal ≡ accepted
+      → Edited (λ x. (x ≡ s) ⊎ List·Memᴰ x (m .standing)) (stepOf (Enter s) m q .state)
+  unfolding effectOf
+  enter-adds s = edited (enterRefusal (m .standing) s) (insert s (m .standing)) (in-insert s (m .standing))
+
+  -- spell numbers are unique in every state that calls lead to (`always-kept` in `Runs.antt`)
+  module _ (unique : distinct (m .standing) ≡ true) where
+    -- STRIKE removes the spell of that number, and keeps the others
+    pub strike-removes : (k : ℕ) → stepOf (Strike k) m q .answer .refusal ≡ accepted
+        → Edited (λ x. List·Memᴰ x (m .standing) × (x .number ≡ k → ⊥)) (stepOf (Strike k) m q .state)
+    unfolding effectOf
+    strike-removes k = edited (strikeRefusal (m .standing) k) (remove k (m .standing)) (in-remove k (m .standing) unique)
+
+    -- AMEND puts the given spell in the place of the one of its number, and keeps the others
+    pub amend-replaces : (s : Spell) → stepOf (Amend s) m q .answer .refusal ≡ accepted
+        → Edited (λ x. (x ≡ s) ⊎ (List·Memᴰ x (m .standing) × (x .number ≡ s .number → ⊥))) (stepOf (Amend s) m q .state)
+    unfolding effectOf
+    amend-replaces s =
+        let less = remove (s .number) (m .standing) in
+        edited (amendRefusal (m .standing) s) (replace s (m .standing)) (λ x.
+        let put = in-insert s less x in
+        let kept = in-remove (s .number) (m .standing) unique x in (
+          λ i. elim (put .0 i) [ inl e ↦ inl e | inr j ↦ inr (kept .0 j) ],
+          λ i. put .1 (elim i [ inl e ↦ inl e | inr j ↦ inr (kept .1 j) ]),
+        ))
+
+  -- A TAKE BACK after an accepted edit gives the former standing list, and leaves the published list
+  pub edit-taken-back : {In : Spell → Type 0} {x : State} → Edited In x → (r : Request)
+      → stepOf TakeBack x r ≡ refuse accepted (record { standing = m .standing; past = take 63 (m .past); published = m .published }) r
+  edit-taken-back {In} {x} e r = rw (← e .published) (back-takes x r (m .standing) (take 63 (m .past)) (e .past))
+
+-- ---- What is amended after a publish is written, and not yet asked
+
+module _ (m : State) (p e : Request) (s : Spell) where
+  -- the state after a publish and an amend
+  abbrev amended : After
+  amended = stepOf (Amend s) (stepOf Publish m p .state) e
+
+  amended-lists : amended .answer .refusal ≡ accepted → (amended .state .standing ≡ replace s (m .standing)) × (amended .state .published ≡ m .standing)
+  unfolding effectOf settle
+  amended-lists =
+      let x : State = stepOf Publish m p .state in
+      become-does (λ f. settle f x e .answer .refusal ≡ accepted → (settle f x e .state .standing ≡ replace s (m .standing)) × (settle f x e .state .published ≡ m .standing))
+      x (amendRefusal (m .standing) s) (replace s (m .standing)) (remember (m .standing) (m .past)) (λ _ _. (refl, refl)) (λ no r. absurd (no r))
+
+  -- WRITING gives the amended list, and a DAY still asks the list as it was published
+  pub amended-unpublished : amended .answer .refusal ≡ accepted → (q : Request) (d : ℕ)
+      → (stepOf Write (amended .state) q .answer .refusal ≡ accepted
+      → stepOf Write (amended .state) q .answer .text ≡ over (writeAll (replace s (m .standing))) (q .text))
+      × (stepOf (Ask (Day d)) (amended .state) q .answer .refusal ≡ accepted
+      → stepOf (Ask (Day d)) (amended .state) q .answer .numbers ≡ over (listed (onDay d) (m .standing)) (q .numbers))
+  amended-unpublished r q d =
+      let x = amended .state in
+      let is = amended-lists r in (
+        λ h.
+            let w = write-writes x q h in
+            w .text ∙ ap (λ (n : ℕ). writeAll (x .standing) ++ drop n (q .text)) (w .length) ∙ ap (λ (l : List Spell). over (writeAll l) (q .text)) (is .0),
+        λ h.
+            let a = day-lists x q d h in
+            a .numbers ∙ ap (λ (n : ℕ). listed (onDay d) (x .published) ++ drop n (q .numbers)) (a .count) ∙ ap (λ (l : List Spell). over (listed (onDay d) l) (q .numbers)) (is .1),
+      )
