@@ -1,5 +1,4 @@
 // Writing all of a list to a descriptor. What fails is told on standard error.
-ghost use lib.ListN.{length};
 use libc::STDERR_FILENO;
 
 // Says that `name` takes no more.

@@ -4,22 +4,22 @@ use native.Mathlib.Omega.{arith}
 use native.Mathlib.Numerals.{add-one}
 use mathlib.Core.Path.{_≡_, refl, sym, ap, _∙_}
 use mathlib.Core.Bool.{Bool, true, false, cond}
-use mathlib.Core.Logic.{_⊎_, inl, inr, ⊎-elim}
-use mathlib.Core.List.{List, [], _∷_, _++_, append-assoc, append-nil}
+use mathlib.Core.Logic.{_⊎_, ⊎-elim}
+use mathlib.Core.List.{List, [], _++_, append-assoc, append-nil}
 use borrow.Author.Tests.{le-leb, lt-leb}
 use borrow.Rule.Slice.PartMut.{midOf, putMid, post-is, mid-len}
 use lib.Dec.{leb}
-use lib.ListN.{length, take, drop, length-append, length-drop, drop-of-length-le}
-use lib.Seq.{take-at, take-all, take-length, drop-at, drop-append-add, drop-drop, length-take-le}
+use lib.ListN.{length, take, drop, length-append, drop-of-length-le}
+use lib.Seq.{take-at, take-length, drop-at, drop-append-add, drop-drop, length-take-le}
 use Rattle.spell.specs.declared.Spell.{Spell}
 use Rattle.stabbing.proofs.Marks.{clash}
-use Rattle.register.specs.Text.{accepted, readText}
+use Rattle.register.specs.Text.{readText}
 use Rattle.model.specs.declared.Call.the-variants.{Publish}
 use Rattle.model.specs.Effects.{settle}
 use Rattle.model.specs.Model.{State, begun, refusalIn, effectOf, step}
 use Rattle.service.specs.Service.{Shows, Published, asking}
 use Rattle.report.specs.declared.Part.{Part}
-use Rattle.report.specs.Report.{dayLine, linesOf, textOf, taken, partDays, partOf, nextOf, Come, none, more, Reached, Printed, PrintedOn, PrintedOf, Ends, DayEnds, Appends, Stands, PartStands}
+use Rattle.report.specs.Report.{dayLine, linesOf, textOf, taken, partDays, partOf, nextOf, Come, none, more, Reached, Printed, PrintedOn, PrintedOf, DayEnds, Appends, Stands, PartStands}
 
 -- ---- Lines
 
@@ -28,7 +28,6 @@ lines-join : (j k d : ℕ) (p : List Spell) → linesOf (j + k) d p ≡ linesOf 
 unfolding linesOf
 lines-join zero k d p =
     let days : 0 + k ≡ k = omega arith in
-    let same : k ≡ k = refl in
     let day : d ≡ d + 0 = omega arith in
     ap (λ (n : ℕ). linesOf n d p) days ∙ ap (λ (e : ℕ). linesOf k e p) day
 lines-join (suc j) k d p =
