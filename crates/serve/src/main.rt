@@ -1,5 +1,5 @@
 // The service that stays up: reads requests on standard input and writes one answer for each on standard output, until the input
-// ends. With a file's name it begins by reading that register.
+// ends. With a file's name it begins by reading that register. What fails is told on standard error.
 ghost use Prim.Native.Nat.{_≤_};
 ghost use lib.ListN.{length, take};
 ghost use Rattle.framing.specs.Advancing.{Advances};
@@ -31,15 +31,18 @@ const FILE: usize = 65537;
 
 // ---- Input
 
-// Waits for input: how many bytes have arrived, none where it has ended.
+// Waits for input: how many bytes have arrived, none where it has ended or can't be read, which is told.
 fn wait(arrived: &mut [u8]) -> usize
     ensures { λ r. ⌜ r ≤ length (now (arrived .entry)) ⌝ }
 {
-    let got = libc::read(STDIN_FILENO, arrived);
-    if got < 0 {
-        os::fail(b"serve: standard input");
+    let got = input::await_some(STDIN_FILENO, arrived);
+    match got {
+        Input::Read(n) => n,
+        Input::Failed => {
+            os::fail(b"serve: standard input");
+            0
+        }
     }
-    io::count(got, arrived)
 }
 
 // Goes on with a request by the bytes from `start` to `end`.
@@ -118,17 +121,17 @@ fn next(
     }
 }
 
-// Writes what stands from `at` on; false where the output is closed.
-fn write_from(out: &[u8], at: usize) -> bool {
+// Writes what stands from `at` on; false where that can't be done, which is told.
+fn write_from(fd: i32, out: &[u8], at: usize, name: &[u8]) -> bool {
     if out.len() < at {
         return false;
     }
-    io::write_all(STDOUT_FILENO, &out[at..])
+    output::write(fd, &out[at..], name)
 }
 
 // Sends the answer that ends the list.
 fn send(out: &[u8; OUT], at: usize) -> bool {
-    write_from(out, at)
+    write_from(STDOUT_FILENO, out, at, b"serve: standard output")
 }
 
 // Carries a request out: the first n bytes of the line, and the first m of what follows it.
@@ -288,12 +291,34 @@ fn serve_fresh() {
     serve(service, &mut index);
 }
 
-// Begins on a register's text, and sends the answer of its reading first.
-fn serve_text(text: &[u8]) {
+// Whether the answer of a reading, from the place `at` on, refuses the text: it begins with the first letter of `refused`, and else with
+// that of `ok`.
+fn is_refused(out: &[u8; OUT], at: usize) -> bool {
+    if at < OUT {
+        return out[at] == b'r';
+    }
+    false
+}
+
+// Says that the file's register is refused, by the answer of its reading.
+fn tell_refusal(path: &[u8], out: &[u8; OUT], at: usize) {
+    io::write_all(STDERR_FILENO, b"serve: ");
+    io::write_all(STDERR_FILENO, path);
+    io::write_all(STDERR_FILENO, b": the register is not taken: ");
+    write_from(STDERR_FILENO, out, at, b"serve: standard error");
+}
+
+// Begins on a register's text, and sends the answer of its reading first. A refused register is told too, and nothing is served.
+fn serve_text(path: &[u8], text: &[u8]) {
     let mut index = [0u16; INDEX];
     let mut out = [0u8; OUT];
     let a = wire::restart(&mut index, ROOM, text.len() as u64, text, &mut out);
-    if send(&out, a.place) {
+    let open = send(&out, a.place);
+    if is_refused(&out, a.place) {
+        tell_refusal(path, &out, a.place);
+        return;
+    }
+    if open {
         let service = a.service;
         serve(service, &mut index);
     }
@@ -316,7 +341,7 @@ fn serve_file(path: &[u8]) {
     match got {
         Input::Read(n) => {
             libc::close(fd);
-            serve_text(&text[..n]);
+            serve_text(path, &text[..n]);
         }
         Input::Failed => report(path),
     }
@@ -325,7 +350,7 @@ fn serve_file(path: &[u8]) {
 fn usage() {
     io::write_all(
         STDERR_FILENO,
-        b"usage: serve [FILE]\nReads requests on standard input and writes one answer for each on standard output, until the input ends.\nWith FILE it begins by reading that register, and its first line of output is the answer to that reading.\nThe requests and answers are described in docs/PROTOCOL.md.\n",
+        b"usage: serve [FILE]\nReads requests on standard input and writes one answer for each on standard output, until the input ends.\nWith FILE it begins by reading that register, and its first line of output is the answer to that reading. Where the\nregister is refused nothing is served.\nThe requests and answers are described in docs/PROTOCOL.md.\n",
     );
 }
 
@@ -337,7 +362,11 @@ fn main() {
     }
     let mut path = io::buffer();
     let n = os::arg(1, &mut path);
-    if os::errno() != 0 || count > 2 || path[0] == DASH {
+    if os::errno() != 0 {
+        os::fail(b"serve: the name of the file");
+        return;
+    }
+    if count > 2 || path[0] == DASH {
         usage();
         return;
     }

@@ -1,0 +1,19 @@
+-- `serve::wait` meets its contract: a read brings no more than the list has places for. Assumes nothing.
+use borrow.Author.Needs.{needs}
+use native.Mathlib.Omega.{arith}
+use Rattle.serve.proofs.wait.Statement.{statement}
+use Rattle.serve.proofs.wait.Tie as tie
+
+returns : tie.Need-returns
+returns c =
+    let known = c .before in
+    let n = rw (known .got .given .1) at (known .before .before .before .before .await-some .ensures) in
+    omega (arith, n)
+
+pub wait-spec : {M : Type 1} → statement M
+wait-spec =
+    tie.close
+    (tie.spec
+    (λ c κs. search needs) (λ c. search needs) (λ c. search needs) (λ c. search needs) (λ c κs. search needs) (λ c. search needs)
+    returns
+    (λ c. search needs) (λ c. search needs))
