@@ -6,7 +6,7 @@ use mathlib.Core.Bool.{Bool, cond}
 use mathlib.Core.List.{List, [], _∷_, _++_, map, append-assoc}
 use lib.ListN.{length, getD, length-map}
 use Rattle.spell.specs.declared.Spell.{Spell}
-use Rattle.stabbing.specs.Tree.{keep, fits, start}
+use Rattle.stabbing.specs.Tree.{keep, fitsAt, start}
 use Rattle.stabbing.proofs.Marks.{by-test, keep-hit, keep-miss}
 use Rattle.stabbing.proofs.Walk.{formula-le}
 use Rattle.model.specs.Questions.{reaches, filter, listed, firstsOf, lastsOf, comparisonsOf}
@@ -74,8 +74,8 @@ rows-count u t p h =
 
 -- ---- The test of day, span and cover
 
-pub fits-agree : (h l : ℕ) (p : List Spell) → Agree (fits (firstsOf p) (lastsOf p) h l) (reaches h l) p
-unfolding Agree fits
+pub fits-agree : (h l : ℕ) (p : List Spell) → Agree (fitsAt (firstsOf p) (lastsOf p) h l) (reaches h l) p
+unfolding Agree fitsAt
 fits-agree h l [] = tt
 fits-agree h l (x ∷ p) = (refl, fits-agree h l p)
 
@@ -83,5 +83,5 @@ fits-agree h l (x ∷ p) = (refl, fits-agree h l p)
 pub comparisons-le : (h l : ℕ) (p : List Spell) → comparisonsOf h l p ≤ 3 * length (listed (reaches h l) p)
 unfolding comparisonsOf
 comparisons-le h l p =
-    rw (← rows-count (fits (firstsOf p) (lastsOf p) h l) (reaches h l) p (fits-agree h l p))
-    (formula-le (firstsOf p) (lastsOf p) (start (firstsOf p) (lastsOf p) h l) (keep (fits (firstsOf p) (lastsOf p) h l) (length p)))
+    rw (← rows-count (fitsAt (firstsOf p) (lastsOf p) h l) (reaches h l) p (fits-agree h l p))
+    (formula-le (firstsOf p) (lastsOf p) (start (firstsOf p) (lastsOf p) h l) (keep (fitsAt (firstsOf p) (lastsOf p) h l) (length p)))

@@ -9,7 +9,7 @@ use Rattle.spell.specs.declared.Urgency.the-variants.{Grade, Reading}
 use Rattle.spell.specs.declared.Spell.{Spell}
 use Rattle.spell.specs.Order.{earlierOf}
 use Rattle.spell.specs.Listing.{stands}
-use Rattle.stabbing.specs.Tree.{below, keep, count, head, next, parent, child, leftSibling, lastChild, fits, start, onPath, formula}
+use Rattle.stabbing.specs.Tree.{below, keep, count, head, next, parent, child, leftSibling, lastChild, fitsAt, start, onPath, formula}
 use Rattle.model.specs.declared.Call.{Call}
 use Rattle.model.specs.declared.Call.the-variants.{Enter, Amend, Strike, TakeBack, Publish, Ask}
 use Rattle.model.specs.declared.Question.the-variants.{Day, Span, Cover, Days}
@@ -97,7 +97,7 @@ pub document-cases : map answers ((entering ++ asking) ∷ M1 ∷ M2 ∷ [])
     ∷ (replicate 5 (plain 0) ++ ((0 ∷ 3 ∷ 0 ∷ 1 ∷ 2 ∷ 4 ∷ 99 ∷ 99 ∷ 99 ∷ []) ∷ []))
     ∷ []
 unfolding run settle effectOf ask cover enterRefusal insert remember earlierOf stands isNan toBits ofBits
-    onAny daysOk rising filter comparisonsOf below keep count head next parent child leftSibling lastChild fits start onPath formula
+    onAny daysOk rising filter comparisonsOf below keep count head next parent child leftSibling lastChild fitsAt start onPath formula
 document-cases = refl
 
 -- ---- Refusals, each at the state that the calls before it left

@@ -9,7 +9,7 @@ use Rattle.refusal.specs.Table.{accepted}
 use Rattle.spell.specs.declared.Spell.{Spell}
 use Rattle.spell.specs.Listing.{Each, Sound, Good}
 use Rattle.register.specs.Text.{Register, readText}
-use Rattle.register.specs.Text.Register.{accepted as good, refused as bad}
+use Rattle.register.specs.Text.Register.{good, bad}
 use Rattle.register.proofs.Claims.{text-again}
 use Rattle.model.specs.declared.Call.{Call}
 use Rattle.model.specs.declared.Call.the-variants.{Enter, Amend, Strike, TakeBack, Publish, Write, Ask}

@@ -10,7 +10,7 @@ use lib.ListN.{length, drop}
 use Rattle.refusal.specs.Table.{accepted, noHistory, shortBuffer}
 use Rattle.spell.specs.declared.Spell.{Spell}
 use Rattle.register.specs.Text.{Register, readText, writeAll}
-use Rattle.register.specs.Text.Register.{accepted as good, refused as bad}
+use Rattle.register.specs.Text.Register.{good, bad}
 use Rattle.register.proofs.Claims.{text-again}
 use Rattle.stabbing.proofs.Marks.{by-test}
 use Rattle.model.specs.declared.Call.the-variants.{TakeBack, Publish, Write}

@@ -13,7 +13,7 @@ use Rattle.spell.specs.Order.{ordered}
 use Rattle.spell.specs.Listing.{distinct, Sound}
 use Rattle.spell.proofs.Entered.{both}
 use Rattle.register.specs.Text.{writeAll, readText}
-use Rattle.register.specs.Text.Register.{accepted as good}
+use Rattle.register.specs.Text.Register.{good}
 use Rattle.register.proofs.Claims.{list-again}
 use Rattle.model.specs.declared.Call.the-variants.{Ask}
 use Rattle.model.specs.declared.Question.{Question}

@@ -8,7 +8,7 @@ use Rattle.refusal.specs.Table.{accepted, offCalendar, reversed, unknownNumber,
 use Rattle.spell.specs.declared.Spell.{Spell}
 use Rattle.spell.specs.Entry.{dayOk}
 use Rattle.register.specs.Text.{Register, writeAll}
-use Rattle.register.specs.Text.Register.{accepted as good, refused as bad}
+use Rattle.register.specs.Text.Register.{good, bad}
 use Rattle.model.specs.declared.Call.{Call}
 use Rattle.model.specs.declared.Call.the-variants.{Enter, Amend, Strike, TakeBack, Publish, Write, Ask}
 use Rattle.model.specs.declared.Question.{Question}

@@ -7,7 +7,7 @@ use lib.Dec.{leb, ltb}
 use lib.ListN.{length}
 use Rattle.spell.specs.declared.Spell.{Spell}
 use Rattle.spell.specs.Entry.{dayOk}
-use Rattle.stabbing.specs.Tree.{keep, fits, start, formula}
+use Rattle.stabbing.specs.Tree.{keep, fitsAt, start, formula}
 
 -- ---- Which spells fit
 
@@ -65,4 +65,4 @@ lastsOf l = map (λ (s : Spell). s .last) l
 -- document 01's looks, by the formula over the tree of the list, for the spells with first ≤ h and last ≥ l
 unfoldable pub comparisonsOf : ℕ → ℕ → List Spell → ℕ
 comparisonsOf h l p =
-    formula (firstsOf p) (lastsOf p) (start (firstsOf p) (lastsOf p) h l) (keep (fits (firstsOf p) (lastsOf p) h l) (length p))
+    formula (firstsOf p) (lastsOf p) (start (firstsOf p) (lastsOf p) h l) (keep (fitsAt (firstsOf p) (lastsOf p) h l) (length p))

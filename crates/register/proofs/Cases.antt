@@ -9,7 +9,7 @@ use Rattle.spell.specs.declared.Spell.{Spell}
 use Rattle.spell.specs.Order.{earlierOf}
 use Rattle.spell.specs.Listing.{stands}
 use Rattle.fields.specs.Fields.{digitsOf, decimalOf, hexDigit, hexOf, passed, readDigits, readDecimal, hexValue, readHex}
-use Rattle.register.specs.Text.{lineText, textOnto, writeAll, readLetter, readValue, readUrgency, readLine, follows, lineRefusal, accepted, refused, lineAnswer, nextLine, readLines, readText}
+use Rattle.register.specs.Text.{lineText, textOnto, writeAll, readLetter, readValue, readUrgency, readLine, follows, lineRefusal, good, bad, lineAnswer, nextLine, readLines, readText}
 
 abbrev spell : ℕ → ℕ → ℕ → ℕ → Urgency → Spell
 spell n c f l u = record { number = n; candidate = c; first = f; last = l; urgency = u }
@@ -37,7 +37,7 @@ register =
     ∷ spell 16 5 9 9 (Grade 3)
     ∷ []
 
-a-read : readText text ≡ accepted register
+a-read : readText text ≡ good register
 unfolding isNan ofBits toBits earlierOf stands passed readDigits readDecimal hexValue readHex readLetter readValue readUrgency readLine follows lineRefusal lineAnswer nextLine readLines readText
 a-read = refl
 
@@ -46,41 +46,41 @@ unfolding ofBits toBits digitsOf decimalOf hexDigit hexOf lineText textOnto
 a-written = refl
 
 -- the empty text is the empty list
-none-read : readText [] ≡ accepted []
+none-read : readText [] ≡ good []
 unfolding isNan ofBits toBits earlierOf stands passed readDigits readDecimal hexValue readHex readLetter readValue readUrgency readLine follows lineRefusal lineAnswer nextLine readLines readText
 none-read = refl
 
 -- a leading zero
-leading-zero : readText (48 ∷ 49 ∷ 9 ∷ 49 ∷ 9 ∷ 49 ∷ 9 ∷ 49 ∷ 9 ∷ 71 ∷ 9 ∷ 49 ∷ 10 ∷ []) ≡ refused 12 1
+leading-zero : readText (48 ∷ 49 ∷ 9 ∷ 49 ∷ 9 ∷ 49 ∷ 9 ∷ 49 ∷ 9 ∷ 71 ∷ 9 ∷ 49 ∷ 10 ∷ []) ≡ bad 12 1
 unfolding isNan ofBits toBits earlierOf stands passed readDigits readDecimal hexValue readHex readLetter readValue readUrgency readLine follows lineRefusal lineAnswer nextLine readLines readText
 leading-zero = refl
 
 -- the last line without its LF
-no-last-lf : readText (49 ∷ 9 ∷ 49 ∷ 9 ∷ 49 ∷ 9 ∷ 49 ∷ 9 ∷ 71 ∷ 9 ∷ 49 ∷ []) ≡ refused 12 1
+no-last-lf : readText (49 ∷ 9 ∷ 49 ∷ 9 ∷ 49 ∷ 9 ∷ 49 ∷ 9 ∷ 71 ∷ 9 ∷ 49 ∷ []) ≡ bad 12 1
 unfolding isNan ofBits toBits earlierOf stands passed readDigits readDecimal hexValue readHex readLetter readValue readUrgency readLine follows lineRefusal lineAnswer nextLine readLines readText
 no-last-lf = refl
 
 -- a number above 65,535
-above-range : readText (54 ∷ 53 ∷ 53 ∷ 51 ∷ 54 ∷ 9 ∷ 49 ∷ 9 ∷ 49 ∷ 9 ∷ 49 ∷ 9 ∷ 71 ∷ 9 ∷ 49 ∷ 10 ∷ []) ≡ refused 12 1
+above-range : readText (54 ∷ 53 ∷ 53 ∷ 51 ∷ 54 ∷ 9 ∷ 49 ∷ 9 ∷ 49 ∷ 9 ∷ 49 ∷ 9 ∷ 71 ∷ 9 ∷ 49 ∷ 10 ∷ []) ≡ bad 12 1
 unfolding isNan ofBits toBits earlierOf stands passed readDigits readDecimal hexValue readHex readLetter readValue readUrgency readLine follows lineRefusal lineAnswer nextLine readLines readText
 above-range = refl
 
 -- a lower-case hex digit
-lower-case : readText (49 ∷ 9 ∷ 49 ∷ 9 ∷ 49 ∷ 9 ∷ 49 ∷ 9 ∷ 67 ∷ 9 ∷ 51 ∷ 102 ∷ 56 ∷ 48 ∷ 48 ∷ 48 ∷ 48 ∷ 48 ∷ 10 ∷ []) ≡ refused 12 1
+lower-case : readText (49 ∷ 9 ∷ 49 ∷ 9 ∷ 49 ∷ 9 ∷ 49 ∷ 9 ∷ 67 ∷ 9 ∷ 51 ∷ 102 ∷ 56 ∷ 48 ∷ 48 ∷ 48 ∷ 48 ∷ 48 ∷ 10 ∷ []) ≡ bad 12 1
 unfolding isNan ofBits toBits earlierOf stands passed readDigits readDecimal hexValue readHex readLetter readValue readUrgency readLine follows lineRefusal lineAnswer nextLine readLines readText
 lower-case = refl
 
 -- minus zero
-minus-zero : readText (49 ∷ 9 ∷ 49 ∷ 9 ∷ 49 ∷ 9 ∷ 49 ∷ 9 ∷ 67 ∷ 9 ∷ 56 ∷ 48 ∷ 48 ∷ 48 ∷ 48 ∷ 48 ∷ 48 ∷ 48 ∷ 10 ∷ []) ≡ refused 5 1
+minus-zero : readText (49 ∷ 9 ∷ 49 ∷ 9 ∷ 49 ∷ 9 ∷ 49 ∷ 9 ∷ 67 ∷ 9 ∷ 56 ∷ 48 ∷ 48 ∷ 48 ∷ 48 ∷ 48 ∷ 48 ∷ 48 ∷ 10 ∷ []) ≡ bad 5 1
 unfolding isNan ofBits toBits earlierOf stands passed readDigits readDecimal hexValue readHex readLetter readValue readUrgency readLine follows lineRefusal lineAnswer nextLine readLines readText
 minus-zero = refl
 
 -- the same line twice: its number is taken, which is checked before its place
-taken-and-misplaced : readText (49 ∷ 9 ∷ 49 ∷ 9 ∷ 49 ∷ 9 ∷ 49 ∷ 9 ∷ 71 ∷ 9 ∷ 49 ∷ 10 ∷ 49 ∷ 9 ∷ 49 ∷ 9 ∷ 49 ∷ 9 ∷ 49 ∷ 9 ∷ 71 ∷ 9 ∷ 49 ∷ 10 ∷ []) ≡ refused 6 2
+taken-and-misplaced : readText (49 ∷ 9 ∷ 49 ∷ 9 ∷ 49 ∷ 9 ∷ 49 ∷ 9 ∷ 71 ∷ 9 ∷ 49 ∷ 10 ∷ 49 ∷ 9 ∷ 49 ∷ 9 ∷ 49 ∷ 9 ∷ 49 ∷ 9 ∷ 71 ∷ 9 ∷ 49 ∷ 10 ∷ []) ≡ bad 6 2
 unfolding isNan ofBits toBits earlierOf stands passed readDigits readDecimal hexValue readHex readLetter readValue readUrgency readLine follows lineRefusal lineAnswer nextLine readLines readText
 taken-and-misplaced = refl
 
 -- a line that is not after the one before
-misplaced : readText (50 ∷ 9 ∷ 49 ∷ 9 ∷ 49 ∷ 9 ∷ 49 ∷ 9 ∷ 71 ∷ 9 ∷ 49 ∷ 10 ∷ 49 ∷ 9 ∷ 49 ∷ 9 ∷ 49 ∷ 9 ∷ 49 ∷ 9 ∷ 71 ∷ 9 ∷ 49 ∷ 10 ∷ []) ≡ refused 13 2
+misplaced : readText (50 ∷ 9 ∷ 49 ∷ 9 ∷ 49 ∷ 9 ∷ 49 ∷ 9 ∷ 71 ∷ 9 ∷ 49 ∷ 10 ∷ 49 ∷ 9 ∷ 49 ∷ 9 ∷ 49 ∷ 9 ∷ 49 ∷ 9 ∷ 71 ∷ 9 ∷ 49 ∷ 10 ∷ []) ≡ bad 13 2
 unfolding isNan ofBits toBits earlierOf stands passed readDigits readDecimal hexValue readHex readLetter readValue readUrgency readLine follows lineRefusal lineAnswer nextLine readLines readText
 misplaced = refl

@@ -7,16 +7,16 @@ use Rattle.spell.specs.declared.Spell.{Spell}
 use Rattle.spell.specs.Entry.{refusalOf}
 use Rattle.spell.specs.Listing.{Sound, Good}
 use Rattle.fields.specs.Fields.{found}
-use Rattle.register.specs.Text.{readLine, lineText, writeAll, readText, accepted}
+use Rattle.register.specs.Text.{readLine, lineText, writeAll, readText, good}
 use Rattle.register.proofs.Lines.{read-line, write-line}
 use Rattle.register.proofs.Texts.{read-written, written-read, written-width}
 
 -- every good list is read back from its text
-pub list-again : (l : List Spell) → Good l → readText (writeAll l) ≡ accepted l
+pub list-again : (l : List Spell) → Good l → readText (writeAll l) ≡ good l
 list-again = read-written
 
 -- every accepted text is its list's text, byte for byte, and its list is good
-pub text-again : (t : List ℕ) (l : List Spell) → readText t ≡ accepted l → (writeAll l ≡ t) × Good l
+pub text-again : (t : List ℕ) (l : List Spell) → readText t ≡ good l → (writeAll l ≡ t) × Good l
 text-again = written-read
 
 -- the same of a line, whatever follows it

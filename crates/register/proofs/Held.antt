@@ -9,7 +9,7 @@ use Rattle.spell.specs.declared.Spell.{Spell}
 use Rattle.spell.specs.Order.{ordered}
 use Rattle.spell.specs.Listing.{distinct, Each, Good}
 use Rattle.register.specs.declared.Reading.{Reading}
-use Rattle.register.specs.Text.{Register, accepted, refused, readText}
+use Rattle.register.specs.Text.{Register, good, bad, readText}
 use Rattle.register.specs.Answers.{blank, readingOf}
 use Rattle.register.proofs.Texts.{written-read}
 
@@ -18,11 +18,11 @@ abbrev pub heldIn : Reading → List Spell
 heldIn r = take (r .count) (r .spells)
 
 -- those of an accepted text, and none of a refused one
-pub held-accepted : (l : List Spell) → heldIn (readingOf (accepted l)) ≡ l
+pub held-accepted : (l : List Spell) → heldIn (readingOf (good l)) ≡ l
 unfolding readingOf
 held-accepted l = take-at l (replicate (1024 - length l) blank) (length l) refl
 
-pub held-refused : (k n : ℕ) → heldIn (readingOf (refused k n)) ≡ []
+pub held-refused : (k n : ℕ) → heldIn (readingOf (bad k n)) ≡ []
 unfolding readingOf
 held-refused k n = refl
 
@@ -35,8 +35,8 @@ pub held-good : (t : List ℕ) → Good (heldIn (readingOf (readText t)))
 held-good t = go (readText t) refl
   where
     go : (g : Register) → readText t ≡ g → Good (heldIn (readingOf g))
-    go (accepted l) e = subst Good (sym (held-accepted l)) (written-read t l e .1)
-    go (refused k n) e = subst Good (sym (held-refused k n)) none-good
+    go (good l) e = subst Good (sym (held-accepted l)) (written-read t l e .1)
+    go (bad k n) e = subst Good (sym (held-refused k n)) none-good
 
 -- an answer has 1,024 places
 pub held-places : (t : List ℕ) → length (readingOf (readText t) .spells) ≡ 1024
@@ -46,5 +46,5 @@ held-places t = go (readText t) refl
     padded l g = length-append l (replicate (1024 - length l) blank) ∙ omega (arith, g .few, length-replicate (1024 - length l) blank)
 
     go : (g : Register) → readText t ≡ g → length (readingOf g .spells) ≡ 1024
-    go (accepted l) e = unfold readingOf in (padded l (written-read t l e .1))
-    go (refused k n) e = unfold readingOf in (length-replicate 1024 blank)
+    go (good l) e = unfold readingOf in (padded l (written-read t l e .1))
+    go (bad k n) e = unfold readingOf in (length-replicate 1024 blank)

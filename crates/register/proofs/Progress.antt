@@ -18,7 +18,7 @@ use Rattle.register.specs.declared.Reading.{Reading}
 use Rattle.spell.specs.Listing.{stands}
 use Rattle.spell.proofs.Listing.{stands-more}
 use Rattle.fields.specs.Fields.{found, unreadable}
-use Rattle.register.specs.Text.{readLine, follows, lineRefusal, accepted, refused, readLines, readText}
+use Rattle.register.specs.Text.{readLine, follows, lineRefusal, good, bad, readLines, readText}
 use Rattle.register.specs.Answers.{blank, readingOf}
 use Rattle.fields.proofs.Bytes.{which}
 use Rattle.register.proofs.Ordered.{follows-more}
@@ -53,7 +53,7 @@ text-short : (text : List ℕ) → length text ≤ 65536 → readText text ≡ r
 unfolding readText
 text-short text h = rw (le-leb (length text) 65536 h)
 
-pub text-long : (text : List ℕ) → 65536 < length text → readText text ≡ refused 12 0
+pub text-long : (text : List ℕ) → 65536 < length text → readText text ≡ bad 12 0
 unfolding readText
 text-long text h = rw (lt-leb (length text) 65536 h)
 
@@ -119,40 +119,40 @@ module _ (text : List ℕ) (spells : List Spell) (seen : List Bool) (before : Sp
   so-many : length (take count spells) ≡ count
   so-many = length-take-le count spells (omega (arith, st .few, st .room))
 
-  answered : (k : ℕ) → readLines (1024 - count) (take count spells) (drop at text) ≡ refused k (length (take count spells) + 1) → readText text ≡ refused k (count + 1)
-  answered k h = st .so-far ∙ h ∙ ap (λ (n : ℕ). refused k (n + 1)) so-many
+  answered : (k : ℕ) → readLines (1024 - count) (take count spells) (drop at text) ≡ bad k (length (take count spells) + 1) → readText text ≡ bad k (count + 1)
+  answered k h = st .so-far ∙ h ∙ ap (λ (n : ℕ). bad k (n + 1)) so-many
 
-  pub is-malformed : at < length text → readLine (drop at text) ≡ unreadable → readText text ≡ refused 12 (count + 1)
+  pub is-malformed : at < length text → readLine (drop at text) ≡ unreadable → readText text ≡ bad 12 (count + 1)
   is-malformed h e = answered 12 (lines-malformed (1024 - count) (take count spells) (drop at text) (omega (arith, length-drop at text)) e)
 
-  pub is-done : length text ≤ at → readText text ≡ accepted (take count spells)
+  pub is-done : length text ≤ at → readText text ≡ good (take count spells)
   is-done h = st .so-far ∙ rw (drop-of-length-le text h) (lines-end (1024 - count) (take count spells))
 
   module _ (s : Spell) (next : ℕ) (e : readLine (drop at text) ≡ found s (drop next text)) where
-    by-refusal : (k : ℕ) → lineRefusal (take count spells) s ≡ k → (k ≡ 0 → ⊥) → readText text ≡ refused k (count + 1)
+    by-refusal : (k : ℕ) → lineRefusal (take count spells) s ≡ k → (k ≡ 0 → ⊥) → readText text ≡ bad k (count + 1)
     by-refusal k h z =
         answered k (lines-refused (take count spells) (drop at text) s (drop next text) e (1024 - count) (ne-eqb (lineRefusal (take count spells) s) 0 (λ p. z (sym h ∙ p)))
-        ∙ ap (λ (n : ℕ). refused n (length (take count spells) + 1)) h)
+        ∙ ap (λ (n : ℕ). bad n (length (take count spells) + 1)) h)
 
-    pub refuses-entry : (refusalOf s ≡ 0 → ⊥) → readText text ≡ refused (refusalOf s) (count + 1)
+    pub refuses-entry : (refusalOf s ≡ 0 → ⊥) → readText text ≡ bad (refusalOf s) (count + 1)
     refuses-entry z = by-refusal (refusalOf s) (not-entered (take count spells) s z) z
 
     module _ (ok : refusalOf s ≡ 0) (low : s .number < 65536) where
-      pub refuses-taken : getD seen (s .number) false ≡ true → readText text ≡ refused 6 (count + 1)
+      pub refuses-taken : getD seen (s .number) false ≡ true → readText text ≡ bad 6 (count + 1)
       refuses-taken t = by-refusal 6 (is-taken (take count spells) s ok (sym (st .marked (s .number) low) ∙ t)) (λ z. omega arith)
 
       module _ (free : getD seen (s .number) false ≡ false) where
         new : stands (take count spells) (s .number) ≡ false
         new = sym (st .marked (s .number) low) ∙ free
 
-        pub refuses-misplaced : earlierOf before s ≡ false → readText text ≡ refused 13 (count + 1)
+        pub refuses-misplaced : earlierOf before s ≡ false → readText text ≡ bad 13 (count + 1)
         refuses-misplaced f = by-refusal 13 (is-misplaced (take count spells) s ok new (sym (st .last s ok) ∙ f)) (λ z. omega arith)
 
         module _ (after : earlierOf before s ≡ true) where
           passes : lineRefusal (take count spells) s ≡ 0
           passes = not-refused (take count spells) s ok new (sym (st .last s ok) ∙ after)
 
-          pub refuses-full : count ≡ 1024 → readText text ≡ refused 8 (count + 1)
+          pub refuses-full : count ≡ 1024 → readText text ≡ bad 8 (count + 1)
           refuses-full f =
               let full : 1024 - count ≡ 0 = omega arith in
               answered 8 (rw full (lines-full (take count spells) (drop at text) s (drop next text) e passes))

@@ -16,7 +16,7 @@ use Rattle.spell.specs.Order.{ordered}
 use Rattle.spell.specs.Listing.{stands, distinct, Each, Sound, Good}
 use Rattle.spell.proofs.Listing.{distinct-fresh, distinct-more}
 use Rattle.fields.specs.Fields.{Found, found, unreadable, readDecimal}
-use Rattle.register.specs.Text.{readLine, lineText, textOnto, writeAll, follows, lineRefusal, Register, accepted, refused, lineAnswer, nextLine, readLines, readText}
+use Rattle.register.specs.Text.{readLine, lineText, textOnto, writeAll, follows, lineRefusal, Register, good, bad, lineAnswer, nextLine, readLines, readText}
 use Rattle.fields.proofs.Bytes.{which}
 use Rattle.register.proofs.Lines.{read-line, write-line}
 use Rattle.register.proofs.Ordered.{ordered-follows, ordered-more}
@@ -30,7 +30,7 @@ unfolding lineAnswer
 line-goes-on before s rest next h = rw (eq-eqb (lineRefusal before s) 0 h)
 
 pub line-refused : (before : List Spell) (s : Spell) (rest : List ℕ) (next : Spell → List ℕ → Register) → eqb (lineRefusal before s) 0 ≡ false
-    → lineAnswer before (found s rest) next ≡ refused (lineRefusal before s) (length before + 1)
+    → lineAnswer before (found s rest) next ≡ bad (lineRefusal before s) (length before + 1)
 unfolding lineAnswer
 line-refused before s rest next h = rw h
 
@@ -49,12 +49,12 @@ line-there before [] s rest next e = absurd (apart (sym nothing-there ∙ e))
 line-there before (b ∷ t) s rest next e = rw e
 
 -- ---- what the lines give, by what comes next
-pub lines-end : (room : ℕ) (before : List Spell) → readLines room before [] ≡ accepted before
+pub lines-end : (room : ℕ) (before : List Spell) → readLines room before [] ≡ good before
 unfolding readLines nextLine
 lines-end zero before = refl
 lines-end (suc room) before = refl
 
-pub lines-malformed : (room : ℕ) (before : List Spell) (t : List ℕ) → 0 < length t → readLine t ≡ unreadable → readLines room before t ≡ refused 12 (length before + 1)
+pub lines-malformed : (room : ℕ) (before : List Spell) (t : List ℕ) → 0 < length t → readLine t ≡ unreadable → readLines room before t ≡ bad 12 (length before + 1)
 unfolding readLines nextLine lineAnswer
 lines-malformed room before [] h e = absurd (none h)
   where
@@ -64,12 +64,12 @@ lines-malformed zero before (b ∷ t) h e = rw e
 lines-malformed (suc room) before (b ∷ t) h e = rw e
 
 module _ (before : List Spell) (t : List ℕ) (s : Spell) (rest : List ℕ) (e : readLine t ≡ found s rest) where
-  pub lines-refused : (room : ℕ) → eqb (lineRefusal before s) 0 ≡ false → readLines room before t ≡ refused (lineRefusal before s) (length before + 1)
+  pub lines-refused : (room : ℕ) → eqb (lineRefusal before s) 0 ≡ false → readLines room before t ≡ bad (lineRefusal before s) (length before + 1)
   unfolding readLines
   lines-refused zero h = line-there before t s rest _ e ∙ line-refused before s rest _ h
   lines-refused (suc room) h = line-there before t s rest _ e ∙ line-refused before s rest _ h
 
-  pub lines-full : lineRefusal before s ≡ 0 → readLines zero before t ≡ refused 8 (length before + 1)
+  pub lines-full : lineRefusal before s ≡ 0 → readLines zero before t ≡ bad 8 (length before + 1)
   unfolding readLines
   lines-full h = line-there before t s rest _ e ∙ line-goes-on before s rest _ h
 
@@ -83,9 +83,9 @@ unfolding lineRefusal
 not-refused before s e t f = rw (e, t, f)
 
 read-lines : (m before : List Spell) (room : ℕ) → Each Sound m → ordered (before ++ m) ≡ true → distinct (before ++ m) ≡ true → length m ≤ room
-    → readLines room before (textOnto m []) ≡ accepted (before ++ m)
+    → readLines room before (textOnto m []) ≡ good (before ++ m)
 unfolding textOnto Each
-read-lines [] before room g o d h = lines-end room before ∙ ap accepted (sym (append-nil before))
+read-lines [] before room g o d h = lines-end room before ∙ ap good (sym (append-nil before))
 read-lines (x ∷ m) before zero g o d h = absurd (none h)
   where
     none : suc (length m) ≤ 0 → ⊥
@@ -94,10 +94,10 @@ read-lines (x ∷ m) before (suc room) g o d h =
     let rest = textOnto m [] in
     let on : lineRefusal before x ≡ 0 = not-refused before x (g .0 .entered) (distinct-fresh before x m d) (ordered-follows before x m o) in
     let later = read-lines m (before ++ (x ∷ [])) room (g .1) (rw append-snoc o) (rw append-snoc d) (omega arith) in
-    lines-on before (lineText x rest) x rest (read-line x rest (g .0)) room on ∙ later ∙ ap accepted (append-snoc before x m)
+    lines-on before (lineText x rest) x rest (read-line x rest (g .0)) room on ∙ later ∙ ap good (append-snoc before x m)
 
 -- every good list is read back from its text
-pub read-written : (l : List Spell) → Good l → readText (writeAll l) ≡ accepted l
+pub read-written : (l : List Spell) → Good l → readText (writeAll l) ≡ good l
 unfolding readText
 read-written l g =
     let w = sound-width l (g .each) in
@@ -116,7 +116,7 @@ record Read (room : ℕ) (before : List Spell) (t : List ℕ) (l : List Spell) :
   in-order : ordered before ≡ true → ordered l ≡ true
   unique : distinct before ≡ true → distinct l ≡ true
 
-no-answer : {k n : ℕ} {l : List Spell} → refused k n ≡ accepted l → ⊥
+no-answer : {k n : ℕ} {l : List Spell} → bad k n ≡ good l → ⊥
 no-answer h = let z : _≡_ {A = ℕ} 0 1 = cc in omega arith
 
 record Passed (before : List Spell) (s : Spell) : Type 0 where
@@ -140,7 +140,7 @@ passed before s e = elim (which (eqb (refusalOf s) 0)) [
         thirteen : _≡_ {A = ℕ} 13 0 → ⊥
         thirteen e = omega arith
 
-ended : (room : ℕ) (before l : List Spell) → accepted before ≡ accepted l → Read room before [] l
+ended : (room : ℕ) (before l : List Spell) → good before ≡ good l → Read room before [] l
 unfolding textOnto Each
 ended room before l e =
     let same : before ≡ l = cc in
@@ -197,7 +197,7 @@ comes before (b ∷ t) = by-line (readLine (b ∷ t)) refl
     by-line unreadable e = broken (omega arith) e
     by-line (found s rest) e = by-check s rest (eqb (lineRefusal before s) 0) e refl
 
-write-lines : (room : ℕ) (before : List Spell) (t : List ℕ) (l : List Spell) → readLines room before t ≡ accepted l → Read room before t l
+write-lines : (room : ℕ) (before : List Spell) (t : List ℕ) (l : List Spell) → readLines room before t ≡ good l → Read room before t l
 write-lines zero before t l e = elim (comes before t) [
   | ends n ↦ rw n (ended zero before l (sym (lines-end zero before) ∙ (rw n at e)))
   | broken n m ↦ absurd (no-answer (sym (lines-malformed zero before t n m) ∙ e))
@@ -212,7 +212,7 @@ write-lines (suc room) before t l e = elim (comes before t) [
 ]
 
 -- every accepted text is its list's text, and its list is good
-pub written-read : (t : List ℕ) (l : List Spell) → readText t ≡ accepted l → (writeAll l ≡ t) × Good l
+pub written-read : (t : List ℕ) (l : List Spell) → readText t ≡ good l → (writeAll l ≡ t) × Good l
 unfolding readText
 written-read t l e = elim (which (leb (length t) 65536)) [
   | inr h ↦ absurd (no-answer (rw h at e))

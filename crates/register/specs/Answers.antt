@@ -5,7 +5,7 @@ use lib.Dec.{leb}
 use Prim.Native.Nat.{ℕ, _-_, _≤_}
 use mathlib.Core.List.{List, _++_}
 use lib.ListN.{drop, length, replicate}
-use Rattle.refusal.specs.Table.{accepted as noRefusal, shortBuffer}
+use Rattle.refusal.specs.Table.{accepted, shortBuffer}
 use Rattle.spell.specs.declared.Urgency.{Urgency}
 use Rattle.spell.specs.declared.Urgency.the-variants.{Grade}
 use Rattle.spell.specs.declared.Spell.{Spell}
@@ -17,7 +17,7 @@ use Rattle.register.specs.declared.Line.{Line}
 use Rattle.register.specs.declared.Line.the-variants.{Value as LineValue, Malformed as LineMalformed}
 use Rattle.register.specs.declared.Reading.{Reading}
 use Rattle.register.specs.declared.Written.{Written}
-use Rattle.register.specs.Text.{Register, accepted, refused}
+use Rattle.register.specs.Text.{Register, good, bad}
 
 -- ---- Reading
 
@@ -44,8 +44,8 @@ blank = record { number = 0; candidate = 0; first = 0; last = 0; urgency = Grade
 
 -- a reading's answer: the spells in the first places and their count, or the refusal's number and line
 unfoldable pub readingOf : Register → Reading
-readingOf (accepted l) = record { spells = l ++ replicate (1024 - length l) blank; count = length l; refusal = noRefusal; line = 0 }
-readingOf (refused k n) = record { spells = replicate 1024 blank; count = 0; refusal = k; line = n }
+readingOf (good l) = record { spells = l ++ replicate (1024 - length l) blank; count = length l; refusal = accepted; line = 0 }
+readingOf (bad k n) = record { spells = replicate 1024 blank; count = 0; refusal = k; line = n }
 
 -- ---- Writing
 
@@ -64,7 +64,7 @@ pub record Ends (buf : List ℕ) (r : ℕ) (text : List ℕ) : Type 0 where
 -- a text's writing into a lent list of n places: its length, or "short list"
 abbrev pub writtenOf : List ℕ → ℕ → Written
 writtenOf t n =
-    cond (leb (length t) n) (record { refusal = noRefusal; length = length t }) (record { refusal = shortBuffer; length = 0 })
+    cond (leb (length t) n) (record { refusal = accepted; length = length t }) (record { refusal = shortBuffer; length = 0 })
 
 -- what the lent list holds after: the text in its first places, and later places as they were; where it is too short
 -- every place is kept

@@ -5,7 +5,7 @@ use mathlib.Core.List.{List, [], _∷_, _++_}
 use lib.Dec.{leb, eqb}
 use lib.ListN.{length}
 use lib.Ieee.{binary32, toBits, ofBits}
-use Rattle.refusal.specs.Table.{accepted as noRefusal, duplicateNumber, full, malformed, outOfOrder}
+use Rattle.refusal.specs.Table.{accepted, duplicateNumber, full, malformed, outOfOrder}
 use Rattle.spell.specs.declared.Urgency.{Urgency}
 use Rattle.spell.specs.declared.Urgency.the-variants.{Grade, Reading}
 use Rattle.spell.specs.declared.Spell.{Spell}
@@ -92,31 +92,36 @@ follows (x ∷ y ∷ l) s = follows (y ∷ l) s
 -- what refuses a line that was read, after the spells of the lines before it: 1 to 5, 6, 13
 unfoldable pub lineRefusal : List Spell → Spell → ℕ
 lineRefusal before s =
-    cond (eqb (refusalOf s) noRefusal)
-    (cond (stands before (s .number)) duplicateNumber (cond (follows before s) noRefusal outOfOrder))
+    cond (eqb (refusalOf s) accepted)
+    (cond (stands before (s .number)) duplicateNumber (cond (follows before s) accepted outOfOrder))
     (refusalOf s)
 
 -- a reading's answer: the spells, or the refusal's number and its line, counted from 1
 pub data Register : Type 0 where
-  accepted : List Spell → Register
-  refused : ℕ → ℕ → Register
+  good : List Spell → Register
+  bad : ℕ → ℕ → Register
+
+-- document 01's number of what a reader answers: none for a value, 12 for a field that can't be read
+abbrev pub foundRefusal : {A : Type 0} → Found A → ℕ
+foundRefusal (found a rest) = accepted
+foundRefusal unreadable = malformed
 
 -- what comes of a line; `next` goes on where nothing refuses it
 unfoldable pub lineAnswer : List Spell → Found Spell → (Spell → List ℕ → Register) → Register
-lineAnswer before unreadable next = refused malformed (length before + 1)
+lineAnswer before unreadable next = bad (foundRefusal {A = Spell} unreadable) (length before + 1)
 lineAnswer before (found s rest) next =
-    cond (eqb (lineRefusal before s) noRefusal) (next s rest) (refused (lineRefusal before s) (length before + 1))
+    cond (eqb (lineRefusal before s) accepted) (next s rest) (bad (lineRefusal before s) (length before + 1))
 
 -- the text's end, or one line more
 unfoldable pub nextLine : List Spell → List ℕ → (Spell → List ℕ → Register) → Register
-nextLine before [] next = accepted before
+nextLine before [] next = good before
 nextLine before (b ∷ t) next = lineAnswer before (readLine (b ∷ t)) next
 
 -- the lines after the spells before them, where `room` more may stand: 12, 1 to 5, 6, 13, then 8
 unfoldable pub readLines : ℕ → List Spell → List ℕ → Register
-readLines zero before t = nextLine before t (λ s rest. refused full (length before + 1))
+readLines zero before t = nextLine before t (λ s rest. bad full (length before + 1))
 readLines (suc room) before t = nextLine before t (λ s rest. readLines room (before ++ (s ∷ [])) rest)
 
 -- a text; one above 65,536 bytes is malformed at line 0
 unfoldable pub readText : List ℕ → Register
-readText t = cond (leb (length t) 65536) (readLines 1024 [] t) (refused malformed 0)
+readText t = cond (leb (length t) 65536) (readLines 1024 [] t) (bad malformed 0)

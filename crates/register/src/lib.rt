@@ -3,7 +3,7 @@ ghost use mathlib.Core.Path.{_≡_};
 ghost use Prim.Native.Nat.{min};
 ghost use lib.ListN.{take, drop};
 ghost use Rattle.fields.specs.Answers.{fieldOf, Reads};
-ghost use Rattle.register.specs.Text.{isLetter, readLetter, readValue, readLine, refused, readText, urgencyText, lineText, writeAll};
+ghost use Rattle.register.specs.Text.{isLetter, readLetter, readValue, readLine, bad, readText, urgencyText, lineText, writeAll};
 ghost use Rattle.register.specs.Answers.{kindAt, kindOf, lineAt, lineOf, blank, readingOf, Room, Ends, Writes};
 use fields::Bits;
 use fields::Field;
@@ -145,7 +145,7 @@ fn no_spell() -> Spell
 }
 
 fn refuse(number: u16, line: u16) -> Reading
-    ensures { λ r. ⌜ r ≡ readingOf (refused number line) ⌝ }
+    ensures { λ r. ⌜ r ≡ readingOf (bad number line) ⌝ }
 {
     let none = no_spell();
     Reading {

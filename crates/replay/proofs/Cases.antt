@@ -7,7 +7,7 @@ use lib.ListN.{length, replicate}
 use Rattle.spell.specs.declared.Urgency.the-variants.{Grade, Reading}
 use Rattle.spell.specs.Order.{earlierOf}
 use Rattle.spell.specs.Listing.{stands}
-use Rattle.stabbing.specs.Tree.{below, keep, count, head, next, parent, child, leftSibling, lastChild, fits, start, onPath, formula}
+use Rattle.stabbing.specs.Tree.{below, keep, count, head, next, parent, child, leftSibling, lastChild, fitsAt, start, onPath, formula}
 use Rattle.model.specs.declared.Call.{Call}
 use Rattle.model.specs.declared.Call.the-variants.{Enter, Amend, Strike, TakeBack, Publish, Write, Ask}
 use Rattle.model.specs.declared.Question.the-variants.{Day, Span, Cover, Days}
@@ -61,7 +61,7 @@ pub answered : (over (resultsOf (run fresh (coded 24))) (results 24)
     ≡ (0 ∷ 0 ∷ 0 ∷ 0 ∷ []) ++ (0 ∷ 0 ∷ 0 ∷ 0 ∷ []) ++ (0 ∷ 0 ∷ 0 ∷ 0 ∷ []) ++ (0 ∷ 2 ∷ 0 ∷ 0 ∷ []) ++ (0 ∷ 2 ∷ 0 ∷ 0 ∷ []) ++ (77 ∷ 77 ∷ 77 ∷ 77 ∷ []))
     × (over (numbersOf (run fresh (coded 24))) lentNumbers ≡ 11 ∷ 12 ∷ 93 ∷ 11 ∷ 12 ∷ 96 ∷ [])
 unfolding decodeFrom codeAt nextOf callOf resultsOf numbersOf run settle effectOf ask enterRefusal insert remember earlierOf stands isNan toBits ofBits
-    onAny daysOk rising filter comparisonsOf below keep count head next parent child leftSibling lastChild fits start onPath formula
+    onAny daysOk rising filter comparisonsOf below keep count head next parent child leftSibling lastChild fitsAt start onPath formula
 answered = (refl, refl)
 
 -- ---- Every word of a code, and every place of an answer

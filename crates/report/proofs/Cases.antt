@@ -6,7 +6,7 @@ use lib.Ieee.{binary32, ofBits}
 use Rattle.spell.specs.declared.Urgency.{Urgency}
 use Rattle.spell.specs.declared.Urgency.the-variants.{Grade, Reading}
 use Rattle.spell.specs.declared.Spell.{Spell}
-use Rattle.stabbing.specs.Tree.{below, keep, count, head, next, parent, child, leftSibling, lastChild, fits, start, onPath, formula}
+use Rattle.stabbing.specs.Tree.{below, keep, count, head, next, parent, child, leftSibling, lastChild, fitsAt, start, onPath, formula}
 use Rattle.fields.specs.Fields.{digitsOf, decimalOf, numbersText}
 use Rattle.model.specs.Questions.{filter, comparisonsOf}
 use Rattle.report.specs.Report.{lineOf, linesOf, textOf}
@@ -39,7 +39,7 @@ a-printed : textOf register ≡ (
     ∷ 49 ∷ 49 ∷ 9 ∷ 49 ∷ 9 ∷ 49 ∷ 9 ∷ 49 ∷ 53 ∷ 10
     ∷ 49 ∷ 50 ∷ 9 ∷ 49 ∷ 9 ∷ 49 ∷ 9 ∷ 49 ∷ 53 ∷ 10 ∷ []
     )
-unfolding below keep count head next parent child leftSibling lastChild fits start onPath formula digitsOf decimalOf numbersText filter comparisonsOf lineOf linesOf
+unfolding below keep count head next parent child leftSibling lastChild fitsAt start onPath formula digitsOf decimalOf numbersText filter comparisonsOf lineOf linesOf
 a-printed = refl
 
 -- the last day has its line, and the day after it none
@@ -47,5 +47,5 @@ last-printed : textOf (spell 17 7 3999 4000 (Grade 1) ∷ []) ≡ (
     51 ∷ 57 ∷ 57 ∷ 57 ∷ 9 ∷ 49 ∷ 9 ∷ 48 ∷ 9 ∷ 49 ∷ 55 ∷ 10
     ∷ 52 ∷ 48 ∷ 48 ∷ 48 ∷ 9 ∷ 49 ∷ 9 ∷ 48 ∷ 9 ∷ 49 ∷ 55 ∷ 10 ∷ []
     )
-unfolding below keep count head next parent child leftSibling lastChild fits start onPath formula digitsOf decimalOf numbersText filter comparisonsOf lineOf linesOf
+unfolding below keep count head next parent child leftSibling lastChild fitsAt start onPath formula digitsOf decimalOf numbersText filter comparisonsOf lineOf linesOf
 last-printed = refl

@@ -8,7 +8,7 @@ use lib.Dec.{leb}
 use lib.ListN.{length, take, drop}
 use Rattle.fields.specs.Fields.{numbersText}
 use Rattle.spell.specs.declared.Spell.{Spell}
-use Rattle.register.specs.Text.{accepted, readText}
+use Rattle.register.specs.Text.{good, readText}
 use Rattle.model.specs.Questions.{onDay, listed, comparisonsOf}
 use Rattle.model.specs.Model.{State}
 use Rattle.service.specs.Service.{Shows}
@@ -117,4 +117,4 @@ PrintedOn ix next whole = (m : State) → Shows ix m → Printed (m .published) 
 
 -- of the spells of a register's text, where it is not refused
 abbrev pub PrintedOf : List ℕ → ℕ → Bool → Type 0
-PrintedOf text next whole = (l : List Spell) → readText text ≡ accepted l → Printed l next whole
+PrintedOf text next whole = (l : List Spell) → readText text ≡ good l → Printed l next whole

@@ -11,6 +11,7 @@ use Rattle.fields.specs.declared.Length.the-variants.{Value as LengthValue, Mal
 use Rattle.register.specs.declared.Line.{Line}
 use Rattle.register.specs.declared.Line.the-variants.{Value as LineValue, Malformed as LineMalformed}
 use Rattle.model.specs.declared.Call.{Call}
+pub use Rattle.model.specs.Effects.{over}
 use Rattle.requests.specs.declared.Request.{Request}
 use Rattle.requests.specs.declared.Request.the-variants.{Call as RequestCall, Room as RequestRoom, Read as RequestRead, Malformed as RequestMalformed}
 use Rattle.requests.specs.Requests.{Asked, asksCall, asksRoom, asksRead, malformed, askDays, DayList, askedOf, following, daysOf}
@@ -21,10 +22,6 @@ requestOf (asksCall c ds) = RequestCall c (length ds)
 requestOf (asksRoom n) = RequestRoom n
 requestOf (asksRead n) = RequestRead n
 requestOf malformed = RequestMalformed
-
--- a list with others in its first places, and its later places as they were
-abbrev pub over : List ℕ → List ℕ → List ℕ
-over new l = new ++ drop (length new) l
 
 -- the answer, and every place of the list lent for days
 pub record Parses (line days : List ℕ) (r : Request) (days′ : List ℕ) : Type 0 where

@@ -11,7 +11,7 @@ use Rattle.fields.specs.Fields.{digitsOf, decimalOf}
 use Rattle.spell.specs.Order.{earlierOf}
 use Rattle.spell.specs.Listing.{stands}
 use Rattle.register.specs.Text.{lineText, textOnto}
-use Rattle.stabbing.specs.Tree.{below, keep, count, head, next, parent, child, leftSibling, lastChild, fits, start, onPath, formula}
+use Rattle.stabbing.specs.Tree.{below, keep, count, head, next, parent, child, leftSibling, lastChild, fitsAt, start, onPath, formula}
 use Rattle.model.specs.Edits.{insert, enterRefusal, remember}
 use Rattle.model.specs.Questions.{filter, comparisonsOf}
 use Rattle.model.specs.Effects.{settle}
@@ -70,7 +70,7 @@ pub record Seen : Type 0 where
 
 pub seen : Seen
 unfolding decodeFrom codeAt nextOf callOf resultsOf numbersOf textsOf run settle effectOf takeBack ask enterRefusal insert remember earlierOf stands isNan toBits ofBits
-    filter comparisonsOf below keep count head next parent child leftSibling lastChild fits start onPath formula textOnto lineText decimalOf digitsOf
+    filter comparisonsOf below keep count head next parent child leftSibling lastChild fitsAt start onPath formula textOnto lineText decimalOf digitsOf
 seen = record { made = refl; told = refl; listed = refl; written = refl }
 
 -- a list that is known whole has at each place what the known one has there

@@ -10,7 +10,7 @@ use lib.ListN.{length, take, drop, length-map}
 use lib.Seq.{take-at}
 use Rattle.spell.specs.declared.Spell.{Spell}
 use Rattle.register.specs.declared.Written.{Written}
-use Rattle.register.specs.Text.{Register, accepted, refused, writeAll}
+use Rattle.register.specs.Text.{Register, good, bad, writeAll}
 use Rattle.register.specs.Answers.{Writes}
 use Rattle.stabbing.specs.Index.{rowsAfter}
 use Rattle.stabbing.proofs.Marks.{by-test}
@@ -41,8 +41,8 @@ represents-fresh sv ix f e = record { wf = f .wf; standing = f .list; past = f .
 -- a beginning publishes nothing
 begun-none : (g : Register) → begun g .published ≡ []
 unfolding begun
-begun-none (accepted l) = refl
-begun-none (refused n line) = refl
+begun-none (good l) = refl
+begun-none (bad n line) = refl
 
 pub begins : (g : Register) (l : Loaded) (ix : List ℕ) → Loads g l → ix ≡ indexOf []
     → Begins g (record { service = l .standing; refusal = l .refusal; line = l .line }) ix

@@ -12,7 +12,7 @@ use Rattle.spell.specs.declared.Spell.{Spell}
 use Rattle.spell.specs.Entry.{dayOk}
 use Rattle.spell.specs.Listing.{stands, distinct}
 use Rattle.spell.proofs.Entered.{both}
-use Rattle.stabbing.specs.Tree.{keep, fits, start, formula, below}
+use Rattle.stabbing.specs.Tree.{keep, fitsAt, start, formula, below}
 use Rattle.stabbing.specs.Index.{named}
 use Rattle.stabbing.specs.Answer.{Outcome, give, question, calendars, risingFrom, meets, containsAny, dayOf, spanOf, covering, coverOf, daysOf}
 use Rattle.stabbing.proofs.Marks.{by-test, by-mark, clash, Below, below-is, below-own}
@@ -121,8 +121,8 @@ module _ (m : State) (q : Request) where
   question-told : (h l : ℕ) → told (question (numbersOf rows) (firstsOf rows) (lastsOf rows) h l (q .numbers)) (q .text) ≡ settle (reaching h l rows) m q .answer
   unfolding question comparisonsOf
   question-told h l =
-      several-told (reaches h l) (fits (firstsOf rows) (lastsOf rows) h l)
-      (formula (firstsOf rows) (lastsOf rows) (start (firstsOf rows) (lastsOf rows) h l) (keep (fits (firstsOf rows) (lastsOf rows) h l) (length (firstsOf rows))))
+      several-told (reaches h l) (fitsAt (firstsOf rows) (lastsOf rows) h l)
+      (formula (firstsOf rows) (lastsOf rows) (start (firstsOf rows) (lastsOf rows) h l) (keep (fitsAt (firstsOf rows) (lastsOf rows) h l) (length (firstsOf rows))))
       (fits-agree h l rows)
       ∙ rw (length-map rows (λ (s : Spell). s .first))
 

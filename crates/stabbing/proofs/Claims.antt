@@ -4,7 +4,9 @@ use Prim.Native.Nat.{ℕ, _*_, _≤_, _<_}
 use mathlib.Core.List.{List, []}
 use mathlib.Core.Path.{_≡_}
 use lib.ListN.{length}
-use Rattle.stabbing.specs.Tree.{Sorted, keep, day, fits, start, latest, spanStart, walk, formula}
+use Rattle.stabbing.specs.Tree.{keep, dayAt, fitsAt, start, formula}
+use Rattle.stabbing.specs.Walk.{walk}
+use Rattle.stabbing.specs.Stored.{Sorted, latest, spanStart}
 use Rattle.stabbing.proofs.Walk as Walk
 use Rattle.stabbing.proofs.Starts as Starts
 use Rattle.stabbing.proofs.Listing.{Lists, lists}
@@ -13,8 +15,8 @@ module _ (fs ls : List ℕ) (sorted : Sorted fs ls) where
   -- what the walk from the start of "first ≤ h, last ≥ l" finds
   pub record Walked (h l : ℕ) : Type 0 where
     -- LISTING: the rows that fit, all of them and no other, each once and in the order; none where there is no start
-    pub listing : walk fs ls l (start fs ls h l) .list ≡ keep (fits fs ls h l) (length fs)
-    pub listed : Lists (fits fs ls h l) (length fs) (walk fs ls l (start fs ls h l) .list)
+    pub listing : walk fs ls l (start fs ls h l) .list ≡ keep (fitsAt fs ls h l) (length fs)
+    pub listed : Lists (fitsAt fs ls h l) (length fs) (walk fs ls l (start fs ls h l) .list)
     pub unlisted : start fs ls h l ≡ 0 → walk fs ls l (start fs ls h l) .list ≡ []
     -- COMPARISONS: the formula, at most three for each listed row, 0 where nothing is listed
     pub comparisons : walk fs ls l (start fs ls h l) .comparisons ≡ formula fs ls (start fs ls h l) (walk fs ls l (start fs ls h l) .list)
@@ -24,7 +26,7 @@ module _ (fs ls : List ℕ) (sorted : Sorted fs ls) where
   pub walked : (h l : ℕ) → Walked h l
   walked h l = record {
     listing = Walk.listing fs ls sorted h l;
-    listed = rw (Walk.listing fs ls sorted h l) (lists (fits fs ls h l) (length fs));
+    listed = rw (Walk.listing fs ls sorted h l) (lists (fitsAt fs ls h l) (length fs));
     unlisted = Walk.unlisted fs ls sorted h l;
     comparisons = Walk.right fs ls sorted h l .comparisons;
     few = Walk.comparisons-few fs ls sorted h l;
@@ -38,14 +40,14 @@ module _ (fs ls : List ℕ) (sorted : Sorted fs ls) where
   pub span-walked : (a b : ℕ) → Walked b a
   span-walked a b = walked b a
 
-  pub cover-walked : (p : ℕ) → Walked (day fs p) (day ls p)
-  cover-walked p = walked (day fs p) (day ls p)
+  pub cover-walked : (p : ℕ) → Walked (dayAt fs p) (dayAt ls p)
+  cover-walked p = walked (dayAt fs p) (dayAt ls p)
 
   -- THE STARTS, by what is stored: a day's own; of a span, the latest by its last day if it begins in the span, else that of
   -- its first day; of a cover, the head of the row's chain, which is the latest by the row's first day
-  pub span-start : ((p : ℕ) → p < length fs → day fs p ≤ day ls p) → (a b : ℕ) → a ≤ b
+  pub span-start : ((p : ℕ) → p < length fs → dayAt fs p ≤ dayAt ls p) → (a b : ℕ) → a ≤ b
       → start fs ls b a ≡ spanStart fs ls a (latest fs ls b) (start fs ls a a)
   span-start = Starts.start-span fs ls sorted
 
-  pub cover-start : (p : ℕ) → p < length fs → start fs ls (day fs p) (day ls p) ≡ latest fs ls (day fs p)
+  pub cover-start : (p : ℕ) → p < length fs → start fs ls (dayAt fs p) (dayAt ls p) ≡ latest fs ls (dayAt fs p)
   cover-start = Starts.cover-latest fs ls sorted

@@ -8,7 +8,8 @@ use mathlib.Core.Path.{_≡_, refl, sym, ap, _∙_}
 use lib.ListN.{length, length-append}
 use lib.Dec.{leb}
 use borrow.Author.Tests.{le-leb, lt-leb}
-use Rattle.stabbing.specs.Tree.{keep, Found, tick, day, head, parent, child, leftSibling, lastChild, compare, chain, rise, climb}
+use Rattle.stabbing.specs.Tree.{keep, dayAt, head, parent, child, leftSibling, lastChild}
+use Rattle.stabbing.specs.Walk.{Found, tick, compare, chain, rise, climb}
 use Rattle.stabbing.proofs.Marks.{by-test, by-mark, by-eq, keep-hit, keep-miss}
 use Rattle.stabbing.proofs.Links.{parent-is, Stretch, upper, lower, c-head, c-under, c-over, c-longest, c-child, c-left}
 use Rattle.stabbing.proofs.Walk.{reach, compare-none, compare-yes, compare-no}
@@ -110,13 +111,13 @@ above-is t p (suc f) v h k e n = by-eq p v h
 
 module _ (fs ls : List ℕ) where
   unfoldable pub over : ℕ → ℕ
-  over w = above (λ y. head fs ls y && not (leb (day ls y) (day ls w))) (suc w) (length fs)
+  over w = above (λ y. head fs ls y && not (leb (dayAt ls y) (dayAt ls w))) (suc w) (length fs)
 
   pub over-is : (m v : ℕ) (r : Stretch fs ls m v) (c : ℕ) → child fs ls m v ≡ suc c → over c ≡ v
   unfolding over
   over-is m v r c e =
       above-is _ (suc c) (length fs) v (c-under fs ls m v r c e) (omega (arith, r .inside))
-      (rw (r .top, lt-leb (day ls v) (day ls c) (r .low c (c-over fs ls m v r c e) (c-under fs ls m v r c e) (c-head fs ls m v r c e))))
+      (rw (r .top, lt-leb (dayAt ls v) (dayAt ls c) (r .low c (c-over fs ls m v r c e) (c-under fs ls m v r c e) (c-head fs ls m v r c e))))
       (λ x g h. by-test (head fs ls x)
-      (λ hx. rw (hx, le-leb (day ls x) (day ls c) (c-longest fs ls m v r c e x (omega (arith, c-over fs ls m v r c e)) h hx)))
+      (λ hx. rw (hx, le-leb (dayAt ls x) (dayAt ls c) (c-longest fs ls m v r c e x (omega (arith, c-over fs ls m v r c e)) h hx)))
       (λ nx. rw nx))

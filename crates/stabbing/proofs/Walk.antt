@@ -8,13 +8,15 @@ use mathlib.Core.Path.{_≡_, refl, sym, ap, _∙_}
 use lib.ListN.{length}
 use lib.Dec.{leb}
 use borrow.Author.Tests.{eq-eqb, ne-eqb, leb-true, leb-false, le-leb}
-use Rattle.stabbing.specs.Tree.{Sorted, below, keep, count, one, some, Found, nothing, push, tick, day, head, next, parent, child, leftSibling, lastChild, fits, start, onPath, compare, chain, rise, climb, walk, hasNext, hasLeft, hasChild, formula}
+use Rattle.stabbing.specs.Tree.{below, keep, count, one, some, dayAt, head, next, parent, child, leftSibling, lastChild, fitsAt, start, onPath, hasNext, hasLeft, hasChild, formula}
+use Rattle.stabbing.specs.Walk.{Found, nothing, push, tick, compare, chain, rise, climb, walk}
+use Rattle.stabbing.specs.Stored.{Sorted}
 use Rattle.stabbing.proofs.Marks.{by-test, by-mark, by-eq, both, untrue, Below, below-is, keep-hit, keep-miss, keep-skip, keep-ext, count-last, count-le}
 use Rattle.stabbing.proofs.Links.{Head, bottom, bottom-is, parent-is, Stretch, own, upper, lower, c-head, c-under, c-over, c-child, c-left, next-some, next-bottom, chain-up, Top, top, barren, left-is}
 
 module _ (fs ls : List ℕ) (l : ℕ) where
   abbrev pub reach : ℕ → Bool
-  reach p = leb l (day ls p)
+  reach p = leb l (dayAt ls p)
 
   pub compare-none : (m : ℕ) (go : ℕ → Found → Found) (s : Found) → m ≡ 0 → compare fs ls l m go s ≡ s
   unfolding compare
@@ -67,7 +69,7 @@ module _ (fs ls : List ℕ) (sorted : Sorted fs ls) (l : ℕ) (on : ℕ → Bool
   upto-hit p xs e = rw (keep-hit (reach fs ls l) p e) (sym (append-assoc (upto p) (p ∷ []) xs))
 
   -- nothing lasts to l from lo up to hi
-  skip : (lo hi : ℕ) (s : Found) → lo ≤ hi → ((x : ℕ) → lo ≤ x → x < hi → l ≤ day ls x → ⊥) → (upto hi ≡ upto lo) × (due hi ≡ due lo)
+  skip : (lo hi : ℕ) (s : Found) → lo ≤ hi → ((x : ℕ) → lo ≤ x → x < hi → l ≤ dayAt ls x → ⊥) → (upto hi ≡ upto lo) × (due hi ≡ due lo)
   unfolding due
   skip lo hi s h f =
       let e : upto hi ≡ upto lo = keep-skip (reach fs ls l) lo hi h (λ x a b t. f x a b (leb-true _ _ t)) in
@@ -103,7 +105,7 @@ module _ (fs ls : List ℕ) (sorted : Sorted fs ls) (l : ℕ) (on : ℕ → Bool
       (record { list = ih .list ∙ upto-hit (suc p) (s .list) e; comparisons = omega (arith, ih .comparisons) }))
       (λ r.
       let d = skip lo (suc p) s (omega arith) (λ x a b t.
-      omega (arith, leb-false l (day ls p) r, chain-up fs ls sorted lo p (omega arith) (λ y a′ b′. f y a′ (omega arith)) x a (omega arith))) in
+      omega (arith, leb-false l (dayAt ls p) r, chain-up fs ls sorted lo p (omega arith) (λ y a′ b′. f y a′ (omega arith)) x a (omega arith))) in
       rw (compare-no fs ls l _ p (λ _. chain fs ls l p) s₁ nx′ r)
       (record { list = ap (λ (ys : List ℕ). ys ++ (suc p ∷ s .list)) (sym (d .0)) ∙ upto-hit (suc p) (s .list) e; comparisons = omega (arith, d .1) })))
 
@@ -133,7 +135,7 @@ module _ (fs ls : List ℕ) (sorted : Sorted fs ls) (l : ℕ) (on : ℕ → Bool
       (record { list = w .list; comparisons = omega (arith, w .comparisons) }))
       (λ e.
       let d = skip m (bottom fs ls v) s (r .base) (barren fs ls sorted m v r l (λ c′ e′.
-      let q : c ≡ c′ = omega arith in rw q at (leb-false l (day ls c) e))) in
+      let q : c ≡ c′ = omega arith in rw q at (leb-false l (dayAt ls c) e))) in
       rw (compare-no fs ls l _ c (rise fs ls l f) s z e, z)
       (record { list = ap (λ (ys : List ℕ). ys ++ s .list) (sym (d .0)); comparisons = omega (arith, d .1) })))
 
@@ -192,44 +194,44 @@ module _ (fs ls : List ℕ) (sorted : Sorted fs ls) (l : ℕ) (on : ℕ → Bool
       (λ u z.
       let a : u < v = omega (arith, i .within) in
       let ih = climb-went f u s₂ (omega arith) (omega arith) (i .hit u z .0)
-      (le-leb l (day ls u) (omega (arith, i .hit u z .1, leb-true l (day ls v) t)))
+      (le-leb l (dayAt ls u) (omega (arith, i .hit u z .1, leb-true l (dayAt ls v) t)))
       (λ x le. rw z at (path′ x (omega arith))) in
       let w′ : Went (suc v) s (suc u) s₂ 0 0 = rw z at w in
       rw (ap (λ (m : ℕ). climb fs ls l f m s₂) z)
       (record { list = ih .list ∙ w′ .list; comparisons = omega (arith, ih .comparisons, w′ .comparisons) }))
 
 module _ (fs ls : List ℕ) (sorted : Sorted fs ls) where
-  pub days-rise : (x v : ℕ) → x ≤ v → v < length fs → day fs x ≤ day fs v
+  pub days-rise : (x v : ℕ) → x ≤ v → v < length fs → dayAt fs x ≤ dayAt fs v
   days-rise x zero h k = let z : x ≡ 0 = omega arith in rw z (le-refl _)
   days-rise x (suc v) h k = by-eq x (suc v) h (λ z. rw z (le-refl _)) (λ lt. omega (arith, days-rise x v (omega arith) (omega arith), sorted .rise v k))
 
   module _ (h l : ℕ) where
-    pub fits-of : (p : ℕ) → fits fs ls h l p ≡ true → (day fs p ≤ h) × (l ≤ day ls p)
-    unfolding fits
-    fits-of p e = let q = both (leb (day fs p) h) (leb l (day ls p)) e in (leb-true _ _ (q .0), leb-true _ _ (q .1))
+    pub fits-of : (p : ℕ) → fitsAt fs ls h l p ≡ true → (dayAt fs p ≤ h) × (l ≤ dayAt ls p)
+    unfolding fitsAt
+    fits-of p e = let q = both (leb (dayAt fs p) h) (leb l (dayAt ls p)) e in (leb-true _ _ (q .0), leb-true _ _ (q .1))
 
-    pub of-fits : (p : ℕ) → day fs p ≤ h → l ≤ day ls p → fits fs ls h l p ≡ true
-    unfolding fits
+    pub of-fits : (p : ℕ) → dayAt fs p ≤ h → l ≤ dayAt ls p → fitsAt fs ls h l p ≡ true
+    unfolding fitsAt
     of-fits p a b = rw (le-leb _ _ a, le-leb _ _ b)
 
-    reach-fits : (p : ℕ) → day fs p ≤ h → reach fs ls l p ≡ fits fs ls h l p
-    unfolding fits
-    reach-fits p a = rw (le-leb (day fs p) h a)
+    reach-fits : (p : ℕ) → dayAt fs p ≤ h → reach fs ls l p ≡ fitsAt fs ls h l p
+    unfolding fitsAt
+    reach-fits p a = rw (le-leb (dayAt fs p) h a)
 
     -- what the start is: a head that fits, and no position from it on fits
     pub record Start (m : ℕ) : Type 0 where
       pub within : m ≤ length fs
-      pub hit : (v : ℕ) → m ≡ suc v → Head fs ls v × (day fs v ≤ h) × (l ≤ day ls v)
-      pub miss : (x : ℕ) → m ≤ x → x < length fs → fits fs ls h l x ≡ true → ⊥
+      pub hit : (v : ℕ) → m ≡ suc v → Head fs ls v × (dayAt fs v ≤ h) × (l ≤ dayAt ls v)
+      pub miss : (x : ℕ) → m ≤ x → x < length fs → fitsAt fs ls h l x ≡ true → ⊥
 
     pub start-is : Start (start fs ls h l)
     unfolding start
     start-is =
-        let t : ℕ → Bool = λ p. head fs ls p && fits fs ls h l p in
+        let t : ℕ → Bool = λ p. head fs ls p && fitsAt fs ls h l p in
         let i : Below t (length fs) (below t (length fs)) = below-is t (length fs) in
         record {
           within = i .within;
-          hit = λ v e. let q = both (head fs ls v) (fits fs ls h l v) (i .hit v e) in let r = fits-of v (q .1) in (q .0, r .0, r .1);
+          hit = λ v e. let q = both (head fs ls v) (fitsAt fs ls h l v) (i .hit v e) in let r = fits-of v (q .1) in (q .0, r .0, r .1);
           miss = λ x a b e.
               let q = top fs ls sorted x b in
               let y : Top fs ls sorted x (q .0) = q .1 in
@@ -239,13 +241,13 @@ module _ (fs ls : List ℕ) (sorted : Sorted fs ls) where
 
     -- THE LISTING and THE LOOKS
     pub record Right (m : ℕ) (w : Found) : Type 0 where
-      pub list : w .list ≡ keep (fits fs ls h l) (length fs)
+      pub list : w .list ≡ keep (fitsAt fs ls h l) (length fs)
       pub comparisons : w .comparisons ≡ formula fs ls m (w .list)
 
     walk-none : Start 0 → Right 0 (walk fs ls l 0)
     unfolding walk formula count keep
     walk-none i = rw (climb-none fs ls l (length fs) nothing)
-        (record { list = sym (keep-skip (fits fs ls h l) 0 (length fs) zero-le (i .miss)); comparisons = refl })
+        (record { list = sym (keep-skip (fitsAt fs ls h l) 0 (length fs) zero-le (i .miss)); comparisons = refl })
 
     walk-some : (v : ℕ) → Start (suc v) → Right (suc v) (walk fs ls l (suc v))
     unfolding walk formula keep due count
@@ -254,11 +256,11 @@ module _ (fs ls : List ℕ) (sorted : Sorted fs ls) where
         let inside : v < length fs = i .within in
         let on : ℕ → Bool = onPath fs ls (length fs) (suc v) in
         let r : ℕ → Bool = reach fs ls l in
-        let w = climb-went fs ls sorted l on (length fs) v nothing inside inside (q .0) (le-leb l (day ls v) (q .2)) (λ x _. refl) in
+        let w = climb-went fs ls sorted l on (length fs) v nothing inside inside (q .0) (le-leb l (dayAt ls v) (q .2)) (λ x _. refl) in
         let a : walk fs ls l (suc v) .list ≡ keep r (suc v) = w .list ∙ append-nil (keep r (suc v)) in
-        let b : keep r (suc v) ≡ keep (fits fs ls h l) (suc v) = keep-ext r (fits fs ls h l) (suc v) (λ p k.
+        let b : keep r (suc v) ≡ keep (fitsAt fs ls h l) (suc v) = keep-ext r (fitsAt fs ls h l) (suc v) (λ p k.
         reach-fits p (omega (arith, days-rise p v (omega arith) inside, q .1))) in
-        let c : keep (fits fs ls h l) (length fs) ≡ keep (fits fs ls h l) (suc v) = keep-skip (fits fs ls h l) (suc v) (length fs) (i .within) (i .miss) in
+        let c : keep (fitsAt fs ls h l) (length fs) ≡ keep (fitsAt fs ls h l) (suc v) = keep-skip (fitsAt fs ls h l) (suc v) (length fs) (i .within) (i .miss) in
         record { list = a ∙ b ∙ sym c; comparisons = rw a (omega (arith, w .comparisons)) }
 
     pub walk-right : (m : ℕ) → Start m → Right m (walk fs ls l m)
@@ -275,10 +277,10 @@ module _ (fs ls : List ℕ) (sorted : Sorted fs ls) (h l : ℕ) where
   pub right : Right fs ls sorted h l (start fs ls h l) (walk fs ls l (start fs ls h l))
   right = walk-right fs ls sorted h l (start fs ls h l) (start-is fs ls sorted h l)
 
-  pub listing : walk fs ls l (start fs ls h l) .list ≡ keep (fits fs ls h l) (length fs)
+  pub listing : walk fs ls l (start fs ls h l) .list ≡ keep (fitsAt fs ls h l) (length fs)
   listing = right .list
 
-  pub comparisons-formula : walk fs ls l (start fs ls h l) .comparisons ≡ formula fs ls (start fs ls h l) (keep (fits fs ls h l) (length fs))
+  pub comparisons-formula : walk fs ls l (start fs ls h l) .comparisons ≡ formula fs ls (start fs ls h l) (keep (fitsAt fs ls h l) (length fs))
   comparisons-formula = right .comparisons ∙ ap (formula fs ls (start fs ls h l)) listing
 
   pub comparisons-few : walk fs ls l (start fs ls h l) .comparisons ≤ 3 * length (walk fs ls l (start fs ls h l) .list)
@@ -290,4 +292,4 @@ module _ (fs ls : List ℕ) (sorted : Sorted fs ls) (h l : ℕ) where
 
   pub unlisted : start fs ls h l ≡ 0 → walk fs ls l (start fs ls h l) .list ≡ []
   unfolding keep
-  unlisted e = listing ∙ keep-skip (fits fs ls h l) 0 (length fs) zero-le (λ p _ k. start-is fs ls sorted h l .miss p (rw e zero-le) k)
+  unlisted e = listing ∙ keep-skip (fitsAt fs ls h l) 0 (length fs) zero-le (λ p _ k. start-is fs ls sorted h l .miss p (rw e zero-le) k)

@@ -4,7 +4,7 @@ use native.Mathlib.Omega.{arith}
 use mathlib.Core.List.{List, _++_, append-assoc, append-nil}
 use mathlib.Core.Path.{_≡_, refl, sym, ap, _∙_}
 use lib.ListN.{length, getD, take, drop, set, length-set, length-drop, take-append-drop}
-use lib.Seq.{getD-drop, getD-append-add, drop-append-le, length-take-le, take-length, drop-length}
+use lib.Seq.{getD-drop, getD-append-add, drop-append-le, length-take-le, take-all, take-length, drop-length}
 use Rattle.buffer.specs.Buffer.{overlaid}
 use Rattle.buffer.proofs.Overlaid.{filled, overlaid-all}
 

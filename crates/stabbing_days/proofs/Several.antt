@@ -7,10 +7,11 @@ use mathlib.Core.List.{List, [], _∷_, _++_, map, map-append, append-assoc, app
 use mathlib.Core.Path.{_≡_, refl, sym, ap, _∙_}
 use lib.Dec.{ltb}
 use lib.ListN.{take-append-drop, length, getD, take, drop, length-append, length-drop, length-map, drop-of-length-le}
-use lib.Seq.{getD-drop, drop-cons, drop-drop, take-at, drop-at, take-all, length-take-le}
+use lib.Seq.{getD-drop, drop-cons, drop-drop, drop-append-le, take-at, drop-at, take-all, length-take-le}
 use borrow.Rule.Slice.PartMut.{putMid, postOf}
 use borrow.Author.Tests.{lt-ltb, le-ltb, ltb-true}
-use Rattle.stabbing.specs.Tree.{keep, fits, start, latest, formula}
+use Rattle.stabbing.specs.Tree.{keep, fitsAt, start, formula}
+use Rattle.stabbing.specs.Stored.{latest}
 use Rattle.stabbing.specs.Index.{Built, numbers, firsts, lasts}
 use Rattle.buffer.specs.Buffer.{overlaid}
 use Rattle.buffer.proofs.Overlaid.{overlaid-all}
@@ -78,17 +79,17 @@ module _ {ix : List ℕ} {d : ℕ} {part : List ℕ} (q : AddAsks ix d part) whe
   held = built-holds ix (q .built)
 
   abbrev finds : List ℕ
-  finds = keep (fits fs ls d d) (length fs)
+  finds = keep (fitsAt fs ls d d) (length fs)
 
   listed : map (λ p. getD (numbers ix) p 0) finds ≡ numbered ix finds
-  listed = sym (keep-map (λ p. getD ix p 0) (λ p. getD (numbers ix) p 0) (fits fs ls d d) (length fs) (held .numbers))
+  listed = sym (keep-map (λ p. getD ix p 0) (λ p. getD (numbers ix) p 0) (fitsAt fs ls d d) (length fs) (held .numbers))
 
   listed-length : length (numbered ix finds) ≡ length finds
   listed-length = length-map finds (λ (p : ℕ). getD ix p 0)
 
   few : length (numbered ix finds) ≤ length part
   unfolding keep
-  few = omega (arith, listed-length, keep-room (fits fs ls d d) 0 (length fs) zero-le, q .room)
+  few = omega (arith, listed-length, keep-room (fitsAt fs ls d d) 0 (length fs) zero-le, q .room)
 
   -- it is not refused: its finds stand in the first places
   given : dayIn ix d part ≡ record { result = record { refusal = 0; count = length (numbered ix finds); comparisons = formula fs ls (start fs ls d d) finds }; out = numbered ix finds ++ drop (length (numbered ix finds)) part }
@@ -114,7 +115,7 @@ module _ {ix : List ℕ} {d : ℕ} {part : List ℕ} (q : AddAsks ix d part) whe
     -- with the place that is reached by skipping
     module _ {m f : ℕ} (z : Skips ix (take (r .count) xs) m f) where
       f-is : f + past m finds ≡ length finds
-      f-is = z .skips finds (keep-within (fits fs ls d d) (length fs)) found-is ∙ ap length found-is ∙ listed-length
+      f-is = z .skips finds (keep-within (fitsAt fs ls d d) (length fs)) found-is ∙ ap length found-is ∙ listed-length
 
       pub f-in : f ≤ r .count
       f-in = omega (arith, f-is, count-is, listed-length)
@@ -125,7 +126,7 @@ module _ {ix : List ℕ} {d : ℕ} {part : List ℕ} (q : AddAsks ix d part) whe
       new : drop f (take (r .count) xs) ≡ dayFrom ix m d
       new =
           let n : f ≡ length finds - past m finds = omega (arith, f-is) in
-          ap (drop f) found-is ∙ rw n (drop-map (λ (p : ℕ). getD ix p 0) (length finds - past m finds) finds ∙ ap (numbered ix) (rest-from (fits fs ls d d) m (length fs)))
+          ap (drop f) found-is ∙ rw n (drop-map (λ (p : ℕ). getD ix p 0) (length finds - past m finds) finds ∙ ap (numbered ix) (rest-from (fitsAt fs ls d d) m (length fs)))
 
       new-count : r .count - f ≡ length (dayFrom ix m d)
       new-count = sym (length-drop f (take (r .count) xs) ∙ omega (arith, length-take-le (r .count) xs count-in)) ∙ ap length new
@@ -200,9 +201,9 @@ module _ {ix ds : List ℕ} {m : ℕ} {part : List ℕ} (q : GatherAsks ix ds m 
       pub both-are : daysFrom ix m ds ≡ dayFrom ix m x ++ daysFrom ix M (drop 1 ds)
       both-are =
           let f : ℕ → ℕ = λ p. getD ix p 0 in
-          let es : keep (from m (containsAny gs ks (x ∷ drop 1 ds))) (length gs) ≡ keep (from m (fits gs ks x x)) (length gs) ++ keep (from M (containsAny gs ks (drop 1 ds))) (length gs)
+          let es : keep (from m (containsAny gs ks (x ∷ drop 1 ds))) (length gs) ≡ keep (from m (fitsAt gs ks x x)) (length gs) ++ keep (from M (containsAny gs ks (drop 1 ds))) (length gs)
           = rw (q .begun, e) (added gs ks (holds .sorted) (q .b) x after-b (drop 1 ds) (rises .1)) in
-          ap (daysFrom ix m) cons-is ∙ ap (numbered ix) es ∙ map-append f (keep (from m (fits gs ks x x)) (length gs)) (keep (from M (containsAny gs ks (drop 1 ds))) (length gs))
+          ap (daysFrom ix m) cons-is ∙ ap (numbered ix) es ∙ map-append f (keep (from m (fitsAt gs ks x x)) (length gs)) (keep (from M (containsAny gs ks (drop 1 ds))) (length gs))
 
       module _ {k : ℕ} (n : k ≡ length (dayFrom ix m x)) where
         pub both-asked : askedAll ix m ds part ≡ dayFrom ix m x ++ askedAll ix M (drop 1 ds) (drop k (asked ix x part))
@@ -211,7 +212,7 @@ module _ {ix ds : List ℕ} {m : ℕ} {part : List ℕ} (q : GatherAsks ix ds m 
 
         pub k-room : k + m ≤ M
         k-room =
-            let l : k ≡ length (keep (from m (fits gs ks x x)) (length gs)) = n ∙ length-map (keep (from m (fits gs ks x x)) (length gs)) (λ (p : ℕ). getD ix p 0) in
+            let l : k ≡ length (keep (from m (fitsAt gs ks x x)) (length gs)) = n ∙ length-map (keep (from m (fitsAt gs ks x x)) (length gs)) (λ (p : ℕ). getD ix p 0) in
             rw (l, q .begun, e) (added-room gs ks (holds .sorted) (q .b) x after-b)
 
         pub asks-rest : GatherAsks ix (drop 1 ds) M (drop k (asked ix x part))

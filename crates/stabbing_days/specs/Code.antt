@@ -5,7 +5,8 @@ use mathlib.Core.List.{List, [], _∷_, _++_}
 use mathlib.Core.Path.{_≡_}
 use lib.Dec.{leb}
 use lib.ListN.{length, getD, take, drop}
-use Rattle.stabbing.specs.Tree.{keep, fits, latest}
+use Rattle.stabbing.specs.Tree.{keep, fitsAt}
+use Rattle.stabbing.specs.Stored.{latest}
 use Rattle.stabbing.specs.Index.{Built, firsts, lasts}
 use Rattle.stabbing.specs.Answer.{calendar, calendars, risingFrom, containsAny, dayIn}
 use Rattle.stabbing.proofs.Days.{from}
@@ -26,7 +27,7 @@ pub record Skips (ix xs : List ℕ) (m r : ℕ) : Type 0 where
 
 -- what one day adds: the numbers of the rows from the position m on that contain it
 abbrev pub dayFrom : List ℕ → ℕ → ℕ → List ℕ
-dayFrom ix m d = numbered ix (keep (from m (fits (firsts ix) (lasts ix) d d)) (length (firsts ix)))
+dayFrom ix m d = numbered ix (keep (from m (fitsAt (firsts ix) (lasts ix) d d)) (length (firsts ix)))
 
 -- and what several days add
 abbrev pub daysFrom : List ℕ → ℕ → List ℕ → List ℕ

@@ -8,7 +8,8 @@ use lib.Dec.{ltb, eqb}
 use lib.ListN.{length, getD, take, set, length-set, length-append}
 use lib.Seq.{getD-take, getD-append-add, take-all, take-suc-set, length-take-le}
 use borrow.Author.Tests.{ltb-true, le-ltb, le-leb, lt-leb}
-use Rattle.stabbing.specs.Tree.{day, head, parent, child, leftSibling, lastChild, next, start, latest}
+use Rattle.stabbing.specs.Tree.{dayAt, head, parent, child, leftSibling, lastChild, next, start}
+use Rattle.stabbing.specs.Stored.{latest}
 use Rattle.stabbing.specs.Index.{rowsOk, column, lastOf, headLink, rowLink, named, blockOf}
 use Rattle.stabbing.proofs.Marks.{by-test, below-ext}
 use Rattle.stabbing.proofs.Links.{child-is, left-is}
@@ -48,13 +49,13 @@ padded (x ∷ xs) m (suc p) = padded xs m p
 
 -- ---- a column of the rows
 pub rows-laid : {e m x : List ℕ} {a : ℕ} (xs : List ℕ) (n : ℕ) → n ≤ 1024 → n ≤ length xs → Laid e a (a + length (take n xs)) (take n xs) m
-    → Laid m (a + n) (a + n + (1024 - n)) (column (1024 - n) (λ _. 0)) x → Laid e a (a + 1024) (column 1024 (day (take n xs))) x
+    → Laid m (a + n) (a + n + (1024 - n)) (column (1024 - n) (λ _. 0)) x → Laid e a (a + 1024) (column 1024 (dayAt (take n xs))) x
 rows-laid {a = a} xs n h g i j =
     let l : length (take n xs) ≡ n = length-take-le n xs g in
     let t : a + n + (1024 - n) ≡ a + 1024 = omega arith in
     let ws : List ℕ = take n xs ++ column (1024 - n) (λ _. 0) in
     let s : length ws ≡ 1024 = length-append (take n xs) (column (1024 - n) (λ _. 0)) ∙ omega (arith, column-length (1024 - n) (λ _. 0)) in
-    rw (t, column-only 1024 (day (take n xs)) ws s (λ p _. padded (take n xs) (1024 - n) p)) at (laid-more (rw l at i) j)
+    rw (t, column-only 1024 (dayAt (take n xs)) ws s (λ p _. padded (take n xs) (1024 - n) p)) at (laid-more (rw l at i) j)
 
 -- ---- the columns of links
 module _ {xs ys fs ls : List ℕ} {n : ℕ} (q : Columns xs ys fs ls n) where
@@ -159,15 +160,15 @@ counted {x = x} {size = size} v i h =
     ∙ take-suc-set x size v (omega (arith, i .size))
     ∙ ap (λ (l : List ℕ). l ++ (v ∷ [])) (i .front)
 
-whole : (ns fs ls : List ℕ) (n : ℕ) → length fs ≡ n → column 1024 (day ns) ++ column 1024 (day fs) ++ column 1024 (day ls) ++ (linkWords fs ls ++ dayWords fs ls) ++ column 65536 (named ns fs ls) ++ (n ∷ []) ≡ blockOf ns fs ls
+whole : (ns fs ls : List ℕ) (n : ℕ) → length fs ≡ n → column 1024 (dayAt ns) ++ column 1024 (dayAt fs) ++ column 1024 (dayAt ls) ++ (linkWords fs ls ++ dayWords fs ls) ++ column 65536 (named ns fs ls) ++ (n ∷ []) ≡ blockOf ns fs ls
 unfolding blockOf linkWords dayWords
 whole ns fs ls n e = rw (sym e) (simp append-assoc)
 
 -- all that is laid, and the count, make the block
 module _ (ns xs ys : List ℕ) (n : ℕ) (q : RowsOf xs ys n) {e₀ e₁ e₂ e₃ e₄ e₅ : List ℕ} (h : length e₀ ≡ 83779)
-    (numbers : Laid e₀ 0 1024 (column 1024 (day (take n ns))) e₁)
-    (firsts : Laid e₁ 1024 2048 (column 1024 (day (take n xs))) e₂)
-    (lasts : Laid e₂ 2048 3072 (column 1024 (day (take n ys))) e₃)
+    (numbers : Laid e₀ 0 1024 (column 1024 (dayAt (take n ns))) e₁)
+    (firsts : Laid e₁ 1024 2048 (column 1024 (dayAt (take n xs))) e₂)
+    (lasts : Laid e₂ 2048 3072 (column 1024 (dayAt (take n ys))) e₃)
     (tree : Laid e₃ 3072 18242 (linkWords (take n xs) (take n ys) ++ dayWords (take n xs) (take n ys)) e₄)
     (names : Laid e₄ 18242 83778 (column 65536 (nameWord ns n)) e₅) where
   pub filled-size : (v : ℕ) → length (set e₅ 83778 v) ≡ length e₀

@@ -5,7 +5,7 @@ use native.Mathlib.Omega.{arith}
 use mathlib.Core.List.{List}
 use mathlib.Core.Path.{_≡_, refl, ap}
 use lib.ListN.{getD}
-use Rattle.stabbing.specs.Tree.{day, next}
+use Rattle.stabbing.specs.Tree.{dayAt, next}
 use lib.Dec.{eqb}
 use Rattle.stabbing.proofs.Marks.{by-test}
 use Rattle.stabbing.specs.Index.{lastOf}
@@ -27,4 +27,4 @@ same-last (suc p) q h = q .lasts p h
 pub next-below : (fs ls : List ℕ) (p : ℕ) → next fs ls p ≤ p
 unfolding next
 next-below fs ls zero = zero-le
-next-below fs ls (suc p) = by-test (eqb (day fs p) (day fs (suc p))) (λ e. rw (e, next) (le-refl (suc p))) (λ e. rw (e, next) zero-le)
+next-below fs ls (suc p) = by-test (eqb (dayAt fs p) (dayAt fs (suc p))) (λ e. rw (e, next) (le-refl (suc p))) (λ e. rw (e, next) zero-le)

@@ -11,7 +11,8 @@ use lib.ListN.{length, getD, set, length-set}
 use lib.Seq.{getD-set-same, getD-set-other}
 use borrow.Author.Tests.{leb-true, leb-false, le-leb}
 use Rattle.stabbing_index.specs.declared.Way.{Way}
-use Rattle.stabbing.specs.Tree.{Sorted, below, day, head, parent, nearest, start, latest}
+use Rattle.stabbing.specs.Tree.{below, dayAt, head, parent, start}
+use Rattle.stabbing.specs.Stored.{Sorted, nearest, latest}
 use Rattle.stabbing.proofs.Marks.{by-test, by-mark, by-eq, both, below-is, below-skip, below-hit}
 use Rattle.stabbing.proofs.Links.{Head, Top, top}
 use Rattle.stabbing.proofs.Walk.{start-is}
@@ -32,13 +33,13 @@ module _ (fs ls : List ℕ) (sorted : Sorted fs ls) where
       let a : start fs ls (suc d) (suc d) ≡ below u m
       = start-nearest fs ls sorted (suc d) (suc d) ∙ ap (nearest fs ls (suc d) (length fs)) e ∙ nearest-is fs ls sorted (suc d) (length fs) m (i .within) head-m in
       let c : below u m ≡ below u (below t m) = below-skip u (below t m) m (b .within) (λ x g h z.
-      let p = both (head fs ls x) (leb (suc d) (day ls x)) z in
-      b .miss x g h (rw (p .0, le-leb d (day ls x) (omega (arith, leb-true (suc d) (day ls x) (p .1)))))) in
+      let p = both (head fs ls x) (leb (suc d) (dayAt ls x)) z in
+      b .miss x g h (rw (p .0, le-leb d (dayAt ls x) (omega (arith, leb-true (suc d) (dayAt ls x) (p .1)))))) in
       a ∙ c ∙ sym (ap (nearest fs ls (suc d) (length fs)) s
-      ∙ nearest-is fs ls sorted (suc d) (length fs) (below t m) (omega (arith, b .within, i .within)) (λ v z. both (head fs ls v) (leb d (day ls v)) (b .hit v z) .0))
+      ∙ nearest-is fs ls sorted (suc d) (length fs) (below t m) (omega (arith, b .within, i .within)) (λ v z. both (head fs ls v) (leb d (dayAt ls v)) (b .hit v z) .0))
 
 -- a row that begins by day d is below the latest's mark
-reached : (fs ls : List ℕ) (sorted : Sorted fs ls) (d x : ℕ) → x < length fs → day fs x ≤ d → x < latest fs ls d
+reached : (fs ls : List ℕ) (sorted : Sorted fs ls) (d x : ℕ) → x < length fs → dayAt fs x ≤ d → x < latest fs ls d
 reached fs ls sorted d x h k = by-test (leb (latest fs ls d) x)
     (λ e.
     let y = top fs ls sorted x h in
@@ -80,12 +81,12 @@ module _ {xs ys fs ls : List ℕ} {n : ℕ} {ps : List ℕ} {d m e s : ℕ} (q :
       let i = latest-is fs ls (c₁ .sorted) (suc d) in
       let hit = i .hit v (sym (q .e-is) ∙ z) in
       let v-in : v < length fs = omega (arith, i .within, q .e-is) in
-      let first : d < day fs v = latest-is fs ls (c₁ .sorted) d .miss v (omega (arith, later fs ls (c₁ .sorted) d, q .m-is, q .e-is, ne)) v-in (hit .0) in
-      let lasts : suc d ≤ day ls v = omega (arith, q .rows .forward v (rw (c₁ .count) at v-in)) in
+      let first : d < dayAt fs v = latest-is fs ls (c₁ .sorted) d .miss v (omega (arith, later fs ls (c₁ .sorted) d, q .m-is, q .e-is, ne)) v-in (hit .0) in
+      let lasts : suc d ≤ dayAt ls v = omega (arith, q .rows .forward v (rw (c₁ .count) at v-in)) in
       z ∙ sym (start-nearest fs ls (c₁ .sorted) (suc d) (suc d)
       ∙ nearest-is fs ls (c₁ .sorted) (suc d) (length fs) (latest fs ls (suc d)) (i .within) (λ u y. i .hit u y .0)
       ∙ ap (below (lasting fs ls (c₁ .sorted) (suc d))) (sym (q .e-is) ∙ z)
-      ∙ below-hit (lasting fs ls (c₁ .sorted) (suc d)) v (rw (hit .0, le-leb (suc d) (day ls v) lasts))))
+      ∙ below-hit (lasting fs ls (c₁ .sorted) (suc d)) v (rw (hit .0, le-leb (suc d) (dayAt ls v) lasts))))
 
   -- none does
   pub asks-climb : ClimbAt xs ys fs ls n ps s

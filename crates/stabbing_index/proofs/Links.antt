@@ -12,7 +12,8 @@ use lib.ListN.{length, getD, set, replicate, length-set, length-replicate, getD-
 use lib.Seq.{getD-set-same, getD-set-other}
 use borrow.Author.Tests.{eqb-true, eqb-false, eq-eqb, ne-eqb, le-leb, lt-leb, ltb-true, ltb-false, lt-ltb}
 use Rattle.stabbing_index.specs.declared.Way.{Way}
-use Rattle.stabbing.specs.Tree.{below, day, head, next, parent, child, leftSibling, nearest}
+use Rattle.stabbing.specs.Tree.{below, dayAt, head, next, parent, child, leftSibling}
+use Rattle.stabbing.specs.Stored.{nearest}
 use Rattle.stabbing.specs.Index.{headLink, rowLink}
 use Rattle.stabbing.proofs.Marks.{by-test, by-mark, by-eq, below-hit, below-miss, clash}
 use Rattle.stabbing.proofs.Links.{Head, bottom, bottom-is, parent-is, child-is, left-is}
@@ -35,7 +36,7 @@ module _ (fs ls : List ℕ) (l : ℕ) where
   nearest-more zero zero h = refl
   nearest-more zero (suc v) h = absurd (omega arith)
   nearest-more (suc f) zero h = refl
-  nearest-more (suc f) (suc v) h = by-test (leb l (day ls v))
+  nearest-more (suc f) (suc v) h = by-test (leb l (dayAt ls v))
       (λ e. rw (e, nearest))
       (λ e. rw (e, nearest) (nearest-more f (parent fs ls v) (omega (arith, parent-is fs ls v .within))))
 
@@ -44,7 +45,7 @@ module _ (fs ls : List ℕ) (l : ℕ) where
   passed-more zero zero k h = refl
   passed-more zero (suc v) k h = absurd (omega arith)
   passed-more (suc f) zero k h = refl
-  passed-more (suc f) (suc v) k h = by-test (leb l (day ls v))
+  passed-more (suc f) (suc v) k h = by-test (leb l (dayAt ls v))
       (λ e. rw (e, passed))
       (λ e. rw (e, passed) (passed-more f (parent fs ls v) (suc v) (omega (arith, parent-is fs ls v .within))))
 
@@ -53,19 +54,19 @@ module _ (fs ls : List ℕ) (l : ℕ) where
   way-none zero k = (refl, refl)
   way-none (suc f) k = (refl, refl)
 
-  way-here : (v k : ℕ) → v < length fs → l ≤ day ls v → (nearest fs ls l (length fs) (suc v) ≡ suc v) × (passed fs ls l (length fs) (suc v) k ≡ k)
+  way-here : (v k : ℕ) → v < length fs → l ≤ dayAt ls v → (nearest fs ls l (length fs) (suc v) ≡ suc v) × (passed fs ls l (length fs) (suc v) k ≡ k)
   unfolding nearest passed
   way-here v k h e = (
-    sym (nearest-more (length fs) (suc v) h) ∙ rw (le-leb l (day ls v) e, nearest),
-    sym (passed-more (length fs) (suc v) k h) ∙ rw (le-leb l (day ls v) e, passed),
+    sym (nearest-more (length fs) (suc v) h) ∙ rw (le-leb l (dayAt ls v) e, nearest),
+    sym (passed-more (length fs) (suc v) k h) ∙ rw (le-leb l (dayAt ls v) e, passed),
   )
 
-  way-up : (v k : ℕ) → v < length fs → day ls v < l
+  way-up : (v k : ℕ) → v < length fs → dayAt ls v < l
       → (nearest fs ls l (length fs) (suc v) ≡ nearest fs ls l (length fs) (parent fs ls v)) × (passed fs ls l (length fs) (suc v) k ≡ passed fs ls l (length fs) (parent fs ls v) (suc v))
   unfolding nearest passed
   way-up v k h e = (
-    sym (nearest-more (length fs) (suc v) h) ∙ rw (lt-leb l (day ls v) e, nearest),
-    sym (passed-more (length fs) (suc v) k h) ∙ rw (lt-leb l (day ls v) e, passed),
+    sym (nearest-more (length fs) (suc v) h) ∙ rw (lt-leb l (dayAt ls v) e, nearest),
+    sym (passed-more (length fs) (suc v) k h) ∙ rw (lt-leb l (dayAt ls v) e, passed),
   )
 
 -- the steps of `climb`
@@ -162,7 +163,7 @@ module _ (fs ls : List ℕ) where
   next-none k h = by-test (ltb (suc k) (length fs))
       (λ e.
       let lt : suc k < length fs = ltb-true (suc k) (length fs) e in
-      by-test (eqb (day fs k) (day fs (suc k)))
+      by-test (eqb (dayAt fs k) (dayAt fs (suc k)))
       (λ z. absurd (clash h (rw (ne-eqb (suc k) (length fs) (λ y. omega arith), z))))
       (λ z. rw (e, z, next)))
       (λ e. rw e)
@@ -174,7 +175,7 @@ module _ (fs ls : List ℕ) where
 
     next-same : suc k ≡ rowLink [] fs ls (next fs ls) (suc k)
     unfolding head next
-    next-same = by-test (eqb (day fs k) (day fs (suc k)))
+    next-same = by-test (eqb (dayAt fs k) (dayAt fs (suc k)))
         (λ z. sym (rw (lt-ltb (suc k) (length fs) above, z, next)))
         (λ z. absurd (clash (rw (ne-eqb (suc k) (length fs) (λ y. omega (arith, above)), z)) h))
 
@@ -204,7 +205,7 @@ module _ {xs ys fs ls : List ℕ} {n k prev : ℕ} {ps qs cs : List ℕ} (q : He
       }
 
   module _ (l : ℕ) (e : l ≡ getD ys k 0) (w : Way) (g : Climbed fs ls l prev 0 w) where
-    l-is : l ≡ day ls k
+    l-is : l ≡ dayAt ls k
     l-is = e ∙ q .columns .lasts k (q .inside)
 
     parent-of : w .parent ≡ parent fs ls k

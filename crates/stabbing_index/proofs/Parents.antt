@@ -8,7 +8,8 @@ use mathlib.Core.Path.{_≡_, refl, sym, _∙_}
 use lib.ListN.{length}
 use lib.Dec.{leb, eqb}
 use borrow.Author.Tests.{leb-true, leb-false, eqb-true, eq-eqb}
-use Rattle.stabbing.specs.Tree.{Sorted, below, day, head, parent, child, leftSibling, nearest}
+use Rattle.stabbing.specs.Tree.{below, dayAt, head, parent, child, leftSibling}
+use Rattle.stabbing.specs.Stored.{Sorted, nearest}
 use Rattle.stabbing.proofs.Marks.{by-test, by-mark, by-eq, both, untrue, below-is, below-hit, below-miss, below-skip, below-only}
 use Rattle.stabbing.proofs.Links.{Head, bottom, bottom-is, parent-is, parent-ge, left-is}
 use Rattle.stabbing.proofs.Starts.{lasting, nearest-is}
@@ -16,24 +17,24 @@ use Rattle.stabbing_index.specs.Passes.{passed}
 
 module _ (fs ls : List ℕ) (sorted : Sorted fs ls) where
   -- a head's parent is the nearest that lasts as long, from the head before it upward
-  pub parent-nearest : (a : ℕ) → a < length fs → parent fs ls a ≡ nearest fs ls (day ls a) (length fs) (bottom fs ls a)
+  pub parent-nearest : (a : ℕ) → a < length fs → parent fs ls a ≡ nearest fs ls (dayAt ls a) (length fs) (bottom fs ls a)
   unfolding parent
   parent-nearest a h =
       let i = bottom-is fs ls a in
-      let t : ℕ → Bool = lasting fs ls sorted (day ls a) in
-      below-skip t (bottom fs ls a) a (i .within) (λ x g k e. i .miss x g k (both (head fs ls x) (leb (day ls a) (day ls x)) e .0))
-      ∙ sym (nearest-is fs ls sorted (day ls a) (length fs) (bottom fs ls a) (omega (arith, i .within)) (i .hit))
+      let t : ℕ → Bool = lasting fs ls sorted (dayAt ls a) in
+      below-skip t (bottom fs ls a) a (i .within) (λ x g k e. i .miss x g k (both (head fs ls x) (leb (dayAt ls a) (dayAt ls x)) e .0))
+      ∙ sym (nearest-is fs ls sorted (dayAt ls a) (length fs) (bottom fs ls a) (omega (arith, i .within)) (i .hit))
 
   -- its left sibling is the head passed last on that way: at each mark m of it, the last child of m before a was passed last
   module _ (a : ℕ) where
     record Way (m : ℕ) : Type 0 where
       within : m ≤ a
       at-head : (v : ℕ) → m ≡ suc v → Head fs ls v
-      low : (x : ℕ) → m ≤ x → x < a → Head fs ls x → day ls x < day ls a
-      long : (v : ℕ) → m ≡ suc v → (x : ℕ) → v < x → x < a → Head fs ls x → day ls x ≤ day ls v
+      low : (x : ℕ) → m ≤ x → x < a → Head fs ls x → dayAt ls x < dayAt ls a
+      long : (v : ℕ) → m ≡ suc v → (x : ℕ) → v < x → x < a → Head fs ls x → dayAt ls x ≤ dayAt ls v
 
     -- where the way ends, it is at a's parent
-    way-end : (m : ℕ) → Way m → ((v : ℕ) → m ≡ suc v → day ls a ≤ day ls v) → parent fs ls a ≡ m
+    way-end : (m : ℕ) → Way m → ((v : ℕ) → m ≡ suc v → dayAt ls a ≤ dayAt ls v) → parent fs ls a ≡ m
     way-end m w f =
         let i = parent-is fs ls a in
         let up : m ≤ parent fs ls a = by-mark m (λ z. rw z zero-le) (λ v z. rw z (parent-ge fs ls v a (w .at-head v z) (omega (arith, w .within)) (f v z))) in
@@ -42,7 +43,7 @@ module _ (fs ls : List ℕ) (sorted : Sorted fs ls) where
         absurd (omega (arith, p .1, w .low b (omega arith) (omega (arith, i .within)) (p .0)))))
 
     -- and one step of it
-    way-up : (v : ℕ) → Way (suc v) → day ls v < day ls a → Way (parent fs ls v)
+    way-up : (v : ℕ) → Way (suc v) → dayAt ls v < dayAt ls a → Way (parent fs ls v)
     way-up v w h =
         let i = parent-is fs ls v in
         let hv : Head fs ls v = w .at-head v refl in
@@ -53,7 +54,7 @@ module _ (fs ls : List ℕ) (sorted : Sorted fs ls) where
               (λ e. by-eq x v (leb-true _ _ e) (λ z. rw z h) (λ lt. omega (arith, i .miss x g lt hx)))
               (λ e. w .low x (leb-false _ _ e) k hx);
           long = λ u z x g k hx.
-              let p : day ls v ≤ day ls u = i .hit u z .1 in
+              let p : dayAt ls v ≤ dayAt ls u = i .hit u z .1 in
               by-test (leb x v)
               (λ e. by-eq x v (leb-true _ _ e) (λ y. rw y p) (λ lt. omega (arith, i .miss x (rw z g) lt hx)))
               (λ e. omega (arith, w .long v refl x (leb-false _ _ e) k hx));
@@ -72,13 +73,13 @@ module _ (fs ls : List ℕ) (sorted : Sorted fs ls) where
               omega (arith, eqb-true (parent fs ls x) (parent fs ls v) (b .1), parent-ge fs ls v x hv g (w .long v refl x g k (b .0)), parent-is fs ls v .within);
         })
 
-    left-from : (f m k : ℕ) → m ≤ f → Way m → child fs ls m a ≡ k → child fs ls (parent fs ls a) a ≡ passed fs ls (day ls a) f m k
+    left-from : (f m k : ℕ) → m ≤ f → Way m → child fs ls m a ≡ k → child fs ls (parent fs ls a) a ≡ passed fs ls (dayAt ls a) f m k
     unfolding passed
     left-from zero m k b w e = rw (way-end m w (λ v z. absurd (omega arith))) e
     left-from (suc f) zero k b w e = rw (way-end zero w (λ v z. absurd (omega arith))) e
-    left-from (suc f) (suc v) k b w e = by-test (leb (day ls a) (day ls v))
-        (λ t. rw (t, passed) (rw (way-end (suc v) w (λ u z. let y : v ≡ u = omega arith in rw y at (leb-true (day ls a) (day ls v) t))) e))
-        (λ t. rw (t, passed) (left-from f (parent fs ls v) (suc v) (omega (arith, parent-is fs ls v .within)) (way-up v w (leb-false (day ls a) (day ls v) t)) (child-up v w)))
+    left-from (suc f) (suc v) k b w e = by-test (leb (dayAt ls a) (dayAt ls v))
+        (λ t. rw (t, passed) (rw (way-end (suc v) w (λ u z. let y : v ≡ u = omega arith in rw y at (leb-true (dayAt ls a) (dayAt ls v) t))) e))
+        (λ t. rw (t, passed) (left-from f (parent fs ls v) (suc v) (omega (arith, parent-is fs ls v .within)) (way-up v w (leb-false (dayAt ls a) (dayAt ls v) t)) (child-up v w)))
 
     first : child fs ls (bottom fs ls a) a ≡ 0
     unfolding child below
@@ -91,7 +92,7 @@ module _ (fs ls : List ℕ) (sorted : Sorted fs ls) where
         (λ y. i .miss x (leb-true _ _ y) k (b .0))
         (λ y. omega (arith, eqb-true (parent fs ls x) (bottom fs ls a) (b .1), parent-is fs ls x .within, leb-false (bottom fs ls a) x y)))
 
-    pub left-passed : a < length fs → leftSibling fs ls a ≡ passed fs ls (day ls a) (length fs) (bottom fs ls a) 0
+    pub left-passed : a < length fs → leftSibling fs ls a ≡ passed fs ls (dayAt ls a) (length fs) (bottom fs ls a) 0
     left-passed h =
         let i = bottom-is fs ls a in
         left-is fs ls a ∙ left-from (length fs) (bottom fs ls a) 0 (omega (arith, i .within))

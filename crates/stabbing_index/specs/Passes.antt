@@ -9,7 +9,8 @@ use mathlib.Core.Path.{_≡_}
 use lib.Dec.{eqb, leb}
 use lib.ListN.{length, getD, take}
 use Rattle.stabbing_index.specs.declared.Way.{Way}
-use Rattle.stabbing.specs.Tree.{Sorted, day, next, parent, child, leftSibling, nearest, start, latest}
+use Rattle.stabbing.specs.Tree.{dayAt, next, parent, child, leftSibling, start}
+use Rattle.stabbing.specs.Stored.{Sorted, nearest, latest}
 use Rattle.stabbing.specs.Index.{headLink, rowLink}
 use Rattle.stabbing.proofs.Links.{Head, bottom}
 
@@ -20,8 +21,8 @@ pub record Columns (xs ys fs ls : List ℕ) (n : ℕ) : Type 0 where
   pub count : length fs ≡ n
   pub few : n ≤ 1024
   pub sorted : Sorted fs ls
-  pub firsts : (p : ℕ) → p < n → getD xs p 0 ≡ day fs p
-  pub lasts : (p : ℕ) → p < n → getD ys p 0 ≡ day ls p
+  pub firsts : (p : ℕ) → p < n → getD xs p 0 ≡ dayAt fs p
+  pub lasts : (p : ℕ) → p < n → getD ys p 0 ≡ dayAt ls p
 
 abbrev pub ColumnsOf : List ℕ → List ℕ → ℕ → Type 0
 ColumnsOf xs ys n = Columns xs ys (take n xs) (take n ys) n
@@ -36,7 +37,7 @@ headAt xs n k = eqb (suc k) n || not (eqb (getD xs k 0) (getD xs (suc k) 0))
 unfoldable pub passed : List ℕ → List ℕ → ℕ → ℕ → ℕ → ℕ → ℕ
 passed fs ls l zero m k = k
 passed fs ls l (suc f) zero k = k
-passed fs ls l (suc f) (suc v) k = elim (leb l (day ls v)) [ true ↦ k | false ↦ passed fs ls l f (parent fs ls v) (suc v) ]
+passed fs ls l (suc f) (suc v) k = elim (leb l (dayAt ls v)) [ true ↦ k | false ↦ passed fs ls l f (parent fs ls v) (suc v) ]
 
 -- m is the mark of a head, and the column ps holds the parents of the heads below it
 pub record ClimbAt (xs ys fs ls : List ℕ) (n : ℕ) (ps : List ℕ) (m : ℕ) : Type 0 where
@@ -107,8 +108,8 @@ latestIn xs ys n d = latest (take n xs) (take n ys) d
 -- rows with their parents
 pub record DaysAt (xs ys fs ls : List ℕ) (n : ℕ) (ps : List ℕ) : Type 0 where
   pub columns : Columns xs ys fs ls n
-  pub begins : (p : ℕ) → p < n → 1 ≤ day fs p
-  pub forward : (p : ℕ) → p < n → day fs p ≤ day ls p
+  pub begins : (p : ℕ) → p < n → 1 ≤ dayAt fs p
+  pub forward : (p : ℕ) → p < n → dayAt fs p ≤ dayAt ls p
   pub parents : (v : ℕ) → v < n → Head fs ls v → getD ps v 0 ≡ parent fs ls v
 
 abbrev pub DaysAsks : List ℕ → List ℕ → ℕ → List ℕ → Type 0

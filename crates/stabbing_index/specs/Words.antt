@@ -6,7 +6,8 @@ use mathlib.Core.List.{List, [], _++_}
 use mathlib.Core.Path.{_≡_}
 use lib.Dec.{eqb}
 use lib.ListN.{length, getD, take}
-use Rattle.stabbing.specs.Tree.{below, parent, leftSibling, lastChild, next, start, latest}
+use Rattle.stabbing.specs.Tree.{below, parent, leftSibling, lastChild, next, start}
+use Rattle.stabbing.specs.Stored.{latest}
 use Rattle.stabbing.specs.Index.{rowsOk, column, lastOf, headLink, rowLink}
 
 -- the days fs and ls are n rows that can be published

@@ -18,7 +18,7 @@ ghost use mathlib.Core.Bool.{_&&_};
 ghost use mathlib.Core.List.{_++_};
 ghost use Prim.Native.Nat.{suc, _+_, _≤_, _<_};
 ghost use lib.ListN.{length, take};
-ghost use Rattle.stabbing.specs.Tree.{day};
+ghost use Rattle.stabbing.specs.Tree.{dayAt};
 ghost use Rattle.stabbing.specs.Index.{lastOf, rowOk, mayFollow, rowsOk, column, blockOf};
 ghost use Rattle.stabbing_index.specs.Build.{Builds};
 ghost use Rattle.stabbing_index.specs.Passes.{headAt, ColumnsOf, ClimbAsks, ClimbGives, HeadAsks, LinkedOf, ChainedOf, AdvanceAsks, latestIn, DaysAsks, DayAsks, startIn, DayedOf};
@@ -269,7 +269,7 @@ fn lay_rows(index: &mut [u16], base: usize, values: &[u16], n: usize)
     requires { ⌜ n ≤ 1024 ⌝ }
     requires { ⌜ n ≤ length (now values) ⌝ }
     requires { ⌜ base + 1024 ≤ length (now index) ⌝ }
-    ensures { λ _. ⌜ Laid (now (index .entry)) base (base + 1024) (column 1024 (day (take n (now (values .entry))))) (now (index .exit)) ⌝ }
+    ensures { λ _. ⌜ Laid (now (index .entry)) base (base + 1024) (column 1024 (dayAt (take n (now (values .entry))))) (now (index .exit)) ⌝ }
 {
     lay(index, base, &values[..n]);
     clear(index, base + n, 1024 - n);

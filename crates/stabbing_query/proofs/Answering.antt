@@ -12,7 +12,9 @@ use borrow.Author.Tests.{le-leb, lt-leb, leb-true}
 use Rattle.buffer.specs.Buffer.{overlaid}
 use Rattle.buffer.proofs.Overlaid.{overlaid-all}
 use Rattle.stabbing.specs.declared.Listed.{Listed}
-use Rattle.stabbing.specs.Tree.{Found, nothing, keep, day, fits, start, latest, spanStart, walk, climb}
+use Rattle.stabbing.specs.Tree.{keep, dayAt, fitsAt, start}
+use Rattle.stabbing.specs.Walk.{Found, nothing, walk, climb}
+use Rattle.stabbing.specs.Stored.{latest, spanStart}
 use Rattle.stabbing.proofs.Marks.{by-test, both, below-is, keep-hit, keep-miss}
 use Rattle.stabbing.proofs.Starts.{latest-is, start-span, cover-latest}
 use Rattle.stabbing.proofs.Walk.{start-is, listing, comparisons-formula}
@@ -115,7 +117,7 @@ module _ (ix ns fs ls : List ℕ) (b : Holds ix ns fs ls) (h l m : ℕ) (e : m �
 
   pub answers : (out : List ℕ) → give (map (λ p. getD ix p 0) (walk fs ls l m .list)) (walk fs ls l m .comparisons) out ≡ question ns fs ls h l out
   unfolding question
-  answers out = rw (e, listing fs ls (b .sorted) h l, comparisons-formula fs ls (b .sorted) h l) (rw (keep-map (λ p. getD ix p 0) (λ p. getD ns p 0) (fits fs ls h l) (length fs) (b .numbers)))
+  answers out = rw (e, listing fs ls (b .sorted) h l, comparisons-formula fs ls (b .sorted) h l) (rw (keep-map (λ p. getD ix p 0) (λ p. getD ns p 0) (fitsAt fs ls h l) (length fs) (b .numbers)))
 
 -- day
 pub dated : (d : ℕ) → calendar d ≡ true → (1 ≤ d) × (d ≤ 4000)
@@ -179,14 +181,14 @@ module _ (ix : List ℕ) (a b : ℕ) (q : SpanAsks ix a b) (x m : ℕ) (e : x �
     pub span-before : (v : ℕ) → m ≡ suc v → getD ix (v + 1024) 0 < a → r ≡ start fs ls b a
     unfolding spanStart
     span-before v k h =
-        let f : day fs v < a = rw (holding .firsts v (omega (arith, m-within))) at h in
-        own ∙ sym (span-is ∙ ap (λ (u : ℕ). spanStart fs ls a u (start fs ls a a)) k ∙ rw (lt-leb a (day fs v) f, spanStart))
+        let f : dayAt fs v < a = rw (holding .firsts v (omega (arith, m-within))) at h in
+        own ∙ sym (span-is ∙ ap (λ (u : ℕ). spanStart fs ls a u (start fs ls a a)) k ∙ rw (lt-leb a (dayAt fs v) f, spanStart))
 
   pub span-within : (v : ℕ) → m ≡ suc v → a ≤ getD ix (v + 1024) 0 → m ≡ start fs ls b a
   unfolding spanStart
   span-within v k h =
-      let f : a ≤ day fs v = rw (holding .firsts v (omega (arith, m-within))) at h in
-      k ∙ sym (span-is ∙ ap (λ (u : ℕ). spanStart fs ls a u (start fs ls a a)) k ∙ rw (le-leb a (day fs v) f, spanStart))
+      let f : a ≤ dayAt fs v = rw (holding .firsts v (omega (arith, m-within))) at h in
+      k ∙ sym (span-is ∙ ap (λ (u : ℕ). spanStart fs ls a u (start fs ls a a)) k ∙ rw (le-leb a (dayAt fs v) f, spanStart))
 
 -- span
 module _ (ix : List ℕ) (a b : ℕ) (out : List ℕ) where
@@ -241,10 +243,10 @@ module _ {ix : List ℕ} {x p : ℕ} (q : RowOf ix x p) where
   row-small = omega (arith, within, held .few)
 
   module _ {l f : ℕ} (e₁ : l ≡ getD ix (p + 2048) 0) (e₂ : f ≡ getD ix (p + 1024) 0) where
-    l-is : l ≡ day ks p
+    l-is : l ≡ dayAt ks p
     l-is = e₁ ∙ held .lasts p within
 
-    f-is : f ≡ day gs p
+    f-is : f ≡ dayAt gs p
     f-is = e₂ ∙ held .firsts p within
 
     pub cover-dated : 1 ≤ l

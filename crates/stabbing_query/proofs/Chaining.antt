@@ -5,7 +5,8 @@ use native.Mathlib.Omega.{arith}
 use mathlib.Core.List.{List}
 use mathlib.Core.Path.{_≡_, refl, sym, ap, _∙_}
 use lib.ListN.{length, getD, set}
-use Rattle.stabbing.specs.Tree.{Found, push, one, some, next, compare, chain}
+use Rattle.stabbing.specs.Tree.{one, some, next}
+use Rattle.stabbing.specs.Walk.{Found, push, compare, chain}
 use Rattle.stabbing.proofs.Walk.{compare-none}
 use Rattle.stabbing.proofs.Steps.{compare-same}
 use Rattle.stabbing.specs.Index.{lastOf}

@@ -15,7 +15,7 @@ use Rattle.standing.specs.declared.Undo.{Undo}
 use Rattle.standing.specs.declared.Standing.{Standing}
 use Rattle.standing.specs.Standing.{listOf, entries, undo, pastOf, pasts, Goods, Wf, Fresh, Edits, afterTakeBack, TakesBack}
 use Rattle.standing.specs.Search.{indexOf}
-use Rattle.standing.specs.Places.{onto, relisted, over, blankEntry, freshStanding, entering, replacing, noted}
+use Rattle.standing.specs.Places.{onto, relisted, holding, blankEntry, freshStanding, entering, replacing, noted}
 use Rattle.standing.proofs.Search.{remove-at}
 use Rattle.standing.proofs.Places.{onto-same, onto-twice, same, over-same, list-over, past-over, wf-over, over-relisted}
 use Rattle.model.proofs.Edits.{length-insert, removed-gone, orderly-none, orderly-insert, orderly-remove, orderly-replace, good-orderly, orderly-good, remove-none, remove-insert}
@@ -40,7 +40,7 @@ removed-none st k p fits e h =
 -- ---- Enter
 
 pub enter-made : (st : Standing) (s : Spell) → Wf st → Sound s → enterRefusal (listOf st) s ≡ accepted
-    → Edits st (record { standing = over st (insert s (listOf st)) (noted (entering s) (entries st)); refusal = accepted }) (enterRefusal (listOf st) s) (insert s (listOf st)) (entering s)
+    → Edits st (record { standing = holding st (insert s (listOf st)) (noted (entering s) (entries st)); refusal = accepted }) (enterRefusal (listOf st) s) (insert s (listOf st)) (entering s)
 enter-made st s w sound done =
     let e = enters (listOf st) s done in
     edited st (enterRefusal (listOf st) s) (insert s (listOf st)) (entering s) w
@@ -62,7 +62,7 @@ module _ (st : Standing) (w : Wf st) (k p : ℕ) (e : p ≡ indexOf k (listOf st
   put-back = insert-remove k (listOf st) (w .good .in-order) there
 
   pub strike-made : Edits st
-      (record { standing = over st (take p (listOf st) ++ drop (suc p) (listOf st)) (noted (record { number = k; stood = true; spell = getD (st .spells) p blank }) (entries st)); refusal = accepted })
+      (record { standing = holding st (take p (listOf st) ++ drop (suc p) (listOf st)) (noted (record { number = k; stood = true; spell = getD (st .spells) p blank }) (entries st)); refusal = accepted })
       (strikeRefusal (listOf st) k)
       (remove k (listOf st))
       (replacing k (listOf st))
@@ -86,7 +86,7 @@ amend-room st p w h =
 pub amend-made : (st : Standing) (s : Spell) (w : Wf st) (p : ℕ) (e : p ≡ indexOf (s .number) (listOf st)) (h : p < st .count) → Sound s
     → amendRefusal (listOf st) s ≡ accepted
     → let m = relisted st (take p (listOf st) ++ drop (suc p) (listOf st)) in
-    Edits st (record { standing = over m (insert s (listOf m)) (noted (record { number = s .number; stood = true; spell = getD (st .spells) p blank }) (entries st)); refusal = accepted })
+    Edits st (record { standing = holding m (insert s (listOf m)) (noted (record { number = s .number; stood = true; spell = getD (st .spells) p blank }) (entries st)); refusal = accepted })
     (amendRefusal (listOf st) s)
     (replace s (listOf st))
     (replacing (s .number) (listOf st))
@@ -135,8 +135,8 @@ unfolding pastOf
 no-past l = refl
 
 -- the list l and the entries es are what a take back leaves
-after-is : (st : Standing) (l : List Spell) (es : List Undo) → l ≡ frontOr (listOf st) (pasts st) → es ≡ drop 1 (entries st) → over st l es ≡ afterTakeBack st
-after-is st l es p q = ap (λ (x : List Spell). over st x es) p ∙ ap (over st (frontOr (listOf st) (pasts st))) q
+after-is : (st : Standing) (l : List Spell) (es : List Undo) → l ≡ frontOr (listOf st) (pasts st) → es ≡ drop 1 (entries st) → holding st l es ≡ afterTakeBack st
+after-is st l es p q = ap (λ (x : List Spell). holding st x es) p ∙ ap (holding st (frontOr (listOf st) (pasts st))) q
 
 pub takes-none : (st : Standing) → Wf st → st .depth ≡ 0 → TakesBack st (record { standing = st; refusal = noHistory })
 takes-none st w z =
@@ -177,7 +177,7 @@ module _ (st : Standing) (w : Wf st) (some : st .depth ≡ 0 → ⊥) where
   front-good = rw past-is at (w .goods)
 
   -- the list l with the entries but the newest, as the code makes it
-  lowered-is : (l : List Spell) → relisted (lowered st) l ≡ over st l rest
+  lowered-is : (l : List Spell) → relisted (lowered st) l ≡ holding st l rest
   lowered-is l =
       let d = st .depth - 1 in
       let fits : d ≤ length (st .journal) = omega (arith, w .rooms, w .depth-in) in
@@ -250,8 +250,8 @@ fresh-is = record {
 }
 
 -- a good list over a fresh start
-pub begun-wf : (l : List Spell) → Good l → Wf (over freshStanding l [])
+pub begun-wf : (l : List Spell) → Good l → Wf (holding freshStanding l [])
 begun-wf l good = wf-over freshStanding l [] (fresh-is .wf) good (omega arith) (no-goods l)
 
-pub begun-past : (l : List Spell) → pasts (over freshStanding l []) ≡ []
+pub begun-past : (l : List Spell) → pasts (holding freshStanding l []) ≡ []
 begun-past l = past-over freshStanding l [] ∙ no-past l

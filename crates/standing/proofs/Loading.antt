@@ -4,7 +4,7 @@ use mathlib.Core.Path.{_≡_, refl}
 use mathlib.Core.List.{List, []}
 use Rattle.spell.specs.Listing.{Good}
 use Rattle.register.specs.declared.Reading.{Reading}
-use Rattle.register.specs.Text.{Register, accepted, refused, readText}
+use Rattle.register.specs.Text.{Register, good, bad, readText}
 use Rattle.register.specs.Answers.{blank, readingOf}
 use Rattle.register.proofs.Texts.{written-read}
 use Rattle.model.specs.Model.{begun}
@@ -24,9 +24,9 @@ loadedOf g = record {
 
 pub loads : (text : List ℕ) (g : Register) → readText text ≡ g → Loads g (loadedOf (readingOf g))
 unfolding readingOf begun
-loads text (accepted l) e =
+loads text (good l) e =
     let good : Good l = written-read text l e .1 in
     rw (← onto-blank l 1024 blank (good .few))
     (record { wf = begun-wf l good; list = list-over freshStanding l []; past = begun-past l; refusal = refl; line = refl; whole = refl })
-loads text (refused n line) e =
+loads text (bad n line) e =
     record { wf = begun-wf [] good-none; list = refl; past = begun-past []; refusal = refl; line = refl; whole = refl }

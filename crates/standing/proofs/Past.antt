@@ -16,7 +16,7 @@ use Rattle.model.specs.Edits.{remember}
 use Rattle.standing.specs.declared.Undo.{Undo}
 use Rattle.standing.specs.declared.Standing.{Standing}
 use Rattle.standing.specs.Standing.{listOf, entries, undo, pastOf, pasts, Goods, Wf, Edits}
-use Rattle.standing.specs.Places.{onto, rejournaled, over, blankEntry, noted}
+use Rattle.standing.specs.Places.{onto, rejournaled, holding, blankEntry, noted}
 use Rattle.standing.proofs.Lists.{front, closed, front-length, closed-length}
 use Rattle.standing.proofs.Places.{onto-is, same, list-over, past-over, wf-over}
 
@@ -117,7 +117,7 @@ refused st k n l′ e w differ is =
 
 -- an edit that is made: the entry noted takes the list l′ back
 pub edited : (st : Standing) (n : ℕ) (l′ : List Spell) (e : Undo) → Wf st → Good l′ → undo e l′ ≡ listOf st → n ≡ accepted
-    → Edits st (record { standing = over st l′ (noted e (entries st)); refusal = accepted }) n l′ e
+    → Edits st (record { standing = holding st l′ (noted e (entries st)); refusal = accepted }) n l′ e
 edited st n l′ e w good back done =
     let es = noted e (entries st) in
     let past : pastOf l′ es ≡ remember (listOf st) (pasts st) = past-pushed e (listOf st) l′ (entries st) back in

@@ -9,7 +9,7 @@ use Rattle.spell.specs.declared.Spell.{Spell}
 use Rattle.spell.specs.Listing.{Good}
 use Rattle.standing.specs.declared.Undo.{Undo}
 use Rattle.standing.specs.declared.Standing.{Standing}
-use Rattle.standing.specs.Places.{onto, relisted, over}
+use Rattle.standing.specs.Places.{onto, relisted, holding}
 use Rattle.standing.specs.Standing.{listOf, entries, pastOf, pasts, Goods, Wf}
 
 -- ---- An array
@@ -56,7 +56,7 @@ pub same : {a b : List Spell} {n m : ℕ} {i j : List Undo} {d e : ℕ} → a �
 same p q r s = rw (p, q, r, s)
 
 -- its own list and entries change nothing
-pub over-same : (st : Standing) → Wf st → over st (listOf st) (entries st) ≡ st
+pub over-same : (st : Standing) → Wf st → holding st (listOf st) (entries st) ≡ st
 over-same st w =
     let long : length (take (st .count) (st .spells)) ≡ st .count = length-take-le (st .count) (st .spells) (omega (arith, w .places, w .count-in)) in
     let deep : length (take (st .depth) (st .journal)) ≡ st .depth = length-take-le (st .depth) (st .journal) (omega (arith, w .rooms, w .depth-in)) in
@@ -66,18 +66,18 @@ over-same st w =
     (length-reverse (take (st .depth) (st .journal)) ∙ deep)
 
 module _ (st : Standing) (l : List Spell) (es : List Undo) where
-  pub list-over : listOf (over st l es) ≡ l
+  pub list-over : listOf (holding st l es) ≡ l
   list-over = take-append-seam l (drop (length l) (st .spells))
 
-  pub entries-over : entries (over st l es) ≡ es
+  pub entries-over : entries (holding st l es) ≡ es
   entries-over =
       ap reverse (take-at (reverse es) (drop (length (reverse es)) (st .journal)) (length es) (length-reverse es)) ∙ reverse-reverse es
 
-  pub past-over : pasts (over st l es) ≡ pastOf l es
-  past-over = ap (λ (x : List Spell). pastOf x (entries (over st l es))) list-over ∙ ap (pastOf l) entries-over
+  pub past-over : pasts (holding st l es) ≡ pastOf l es
+  past-over = ap (λ (x : List Spell). pastOf x (entries (holding st l es))) list-over ∙ ap (pastOf l) entries-over
 
   -- it can stand where its list and its past can
-  pub wf-over : Wf st → Good l → length es ≤ 64 → Goods (pastOf l es) → Wf (over st l es)
+  pub wf-over : Wf st → Good l → length es ≤ 64 → Goods (pastOf l es) → Wf (holding st l es)
   wf-over w good few goods = record {
     places = onto-length l (st .spells) (omega (arith, good .few, w .places)) ∙ w .places;
     rooms = onto-length (reverse es) (st .journal) (omega (arith, length-reverse es, w .rooms)) ∙ w .rooms;
@@ -88,5 +88,5 @@ module _ (st : Standing) (l : List Spell) (es : List Undo) where
   }
 
 -- a list that is written over one no longer than it
-pub over-relisted : (st : Standing) (m l : List Spell) (es : List Undo) → length m ≤ length l → over (relisted st m) l es ≡ over st l es
+pub over-relisted : (st : Standing) (m l : List Spell) (es : List Undo) → length m ≤ length l → holding (relisted st m) l es ≡ holding st l es
 over-relisted st m l es h = same (onto-twice m l (st .spells) h) refl refl refl

@@ -24,8 +24,8 @@ abbrev pub rejournaled : Standing → List Undo → Standing
 rejournaled st es = record { spells = st .spells; count = st .count; journal = onto (reverse es) (st .journal); depth = length es }
 
 -- the list l and the entries es
-abbrev pub over : Standing → List Spell → List Undo → Standing
-over st l es = rejournaled (relisted st l) es
+abbrev pub holding : Standing → List Spell → List Undo → Standing
+holding st l es = rejournaled (relisted st l) es
 
 -- ---- The beginning
 

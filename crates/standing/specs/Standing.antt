@@ -13,7 +13,7 @@ use Rattle.standing.specs.declared.Undo.{Undo}
 use Rattle.standing.specs.declared.Standing.{Standing}
 use Rattle.standing.specs.declared.Edited.{Edited}
 use Rattle.standing.specs.declared.Loaded.{Loaded}
-use Rattle.standing.specs.Places.{over, freshStanding, noted}
+use Rattle.standing.specs.Places.{holding, freshStanding, noted}
 use Rattle.register.specs.Text.{Register}
 use Rattle.model.specs.Model.{begun, refusalIn, lineIn}
 
@@ -65,7 +65,7 @@ pub record Fresh (r : Standing) : Type 0 where
 
 -- all places after an edit that is refused with the number n, or, at 0, makes the standing list l′ and notes the entry e
 abbrev pub afterEdit : Standing → ℕ → List Spell → Undo → Standing
-afterEdit st n l′ e = cond (eqb n accepted) (over st l′ (noted e (entries st))) st
+afterEdit st n l′ e = cond (eqb n accepted) (holding st l′ (noted e (entries st))) st
 
 -- an edit that is refused with the number n and changes nothing, or, at 0, makes the standing list l′ and remembers the former one
 pub record Edits (st : Standing) (r : Edited) (n : ℕ) (l′ : List Spell) (e : Undo) : Type 0 where
@@ -78,7 +78,7 @@ pub record Edits (st : Standing) (r : Edited) (n : ℕ) (l′ : List Spell) (e :
 
 -- all places after a take back: the newest entry goes
 abbrev pub afterTakeBack : Standing → Standing
-afterTakeBack st = over st (frontOr (listOf st) (pasts st)) (drop 1 (entries st))
+afterTakeBack st = holding st (frontOr (listOf st) (pasts st)) (drop 1 (entries st))
 
 -- take back: the standing list becomes the front of the past, which loses it
 pub record TakesBack (st : Standing) (r : Edited) : Type 0 where
@@ -93,7 +93,7 @@ pub record TakesBack (st : Standing) (r : Edited) : Type 0 where
 
 -- all places after a reading: the list with which the account begins, over a fresh start
 abbrev pub afterReading : Register → Standing
-afterReading g = over freshStanding (begun g .standing) []
+afterReading g = holding freshStanding (begun g .standing) []
 
 -- a reading: the standing list and the past with which the account begins, the refusal's number and its line
 pub record Loads (g : Register) (r : Loaded) : Type 0 where

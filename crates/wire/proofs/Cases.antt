@@ -5,7 +5,7 @@ use mathlib.Core.List.{List, [], _∷_, map}
 use lib.Ieee.{isNan, toBits, ofBits}
 use Rattle.spell.specs.Order.{earlierOf}
 use Rattle.spell.specs.Listing.{stands}
-use Rattle.stabbing.specs.Tree.{below, keep, count, head, next, parent, child, leftSibling, lastChild, fits, start, onPath, formula}
+use Rattle.stabbing.specs.Tree.{below, keep, count, head, next, parent, child, leftSibling, lastChild, fitsAt, start, onPath, formula}
 use Rattle.fields.specs.Fields.{digitsOf, decimalOf, hexDigit, hexOf, numbersText, passed, readDigits, readDecimal, hexValue, readHex}
 use Rattle.register.specs.Text.{lineText, textOnto, readLetter, readValue, readUrgency, readLine, follows, lineRefusal, lineAnswer, nextLine, readLines, readText}
 use Rattle.model.specs.Edits.{insert, enterRefusal, strikeRefusal, remember}
@@ -61,5 +61,5 @@ unfolding spelled converse turnOf registerOf callText readingText acceptedText f
     begins askedBy askedOf readDays digitsOf decimalOf hexDigit hexOf numbersText passed readDigits readDecimal hexValue readHex
     lineText textOnto readLetter readValue readUrgency readLine follows lineRefusal lineAnswer nextLine readLines readText
     settle effectOf takeBack ask cover enterRefusal strikeRefusal insert remember earlierOf stands isNan toBits ofBits
-    onAny daysOk rising filter comparisonsOf below keep count head next parent child leftSibling lastChild fits start onPath formula
+    onAny daysOk rising filter comparisonsOf below keep count head next parent child leftSibling lastChild fitsAt start onPath formula
 example = refl

@@ -6,7 +6,7 @@ use lib.Dec.{leb}
 use lib.ListN.{replicate}
 use Rattle.refusal.specs.Table.{malformed as malformedNumber}
 use Rattle.register.specs.Text.{Register, readText}
-use Rattle.register.specs.Text.Register.{refused as bad}
+use Rattle.register.specs.Text.Register.{bad}
 use Rattle.model.specs.declared.Call.{Call}
 use Rattle.model.specs.Model.{State, fresh, begun, Request, After, step}
 use Rattle.requests.specs.Requests.{Asked, asksCall, asksRoom, asksRead, malformed, askedOf}

@@ -8,7 +8,7 @@ use native.Mathlib.Omega.{arith}
 use lib.ListN.{drop, replicate, length-replicate, getD-replicate}
 use Rattle.spell.specs.Entry.{refusalOf}
 use Rattle.fields.specs.Fields.{found}
-use Rattle.register.specs.Text.{refused, readLine}
+use Rattle.register.specs.Text.{bad, readLine}
 use Rattle.register.specs.Answers.{lineOf, readingOf}
 use Rattle.register.proofs.Progress.{State, text-long, begin, is-malformed, refuses-entry, refuses-taken, refuses-misplaced, refuses-full, goes-on, gives}
 use Rattle.register.proofs.read.Statement.{statement}
@@ -80,7 +80,7 @@ returns-3 c =
     let e = read .refusal-of .ensures in
     c .refuse3 .ensures
     ∙ sym (ap readingOf (refuses-entry (head .before .before .before .before .args .text .now) (head .loop .spells) (head .loop .seen) (head .loop .before) (head .loop .count) (head .loop .at) (head .loop .inv) (line .before .s .given .0 .0) (line .before .s .given .0 .1 .0) (line-read line) (λ z. c .before .if2 .taken (e ∙ z))
-    ∙ ap (λ (k : ℕ). refused k (head .loop .count + 1)) (sym e)))
+    ∙ ap (λ (k : ℕ). bad k (head .loop .count + 1)) (sym e)))
 
 -- it passes the checks 1 to 5
 enters : (c : tie.After-struct-known Inv-loop μ-loop) → refusalOf (c .before .before .before .before .s .given .0 .0) ≡ 0

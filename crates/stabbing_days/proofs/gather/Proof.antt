@@ -1,7 +1,7 @@
 -- `stabbing_days::gather` meets its contract: each need is a step of `proofs/Several.antt`. Assumes nothing.
-use Prim.Native.Nat.{_-_}
+use Prim.Native.Nat.{_≤_, _-_}
 use native.Mathlib.Omega.{arith}
-use mathlib.Core.Path.{refl}
+use mathlib.Core.Path.{_≡_, refl}
 use lib.ListN.{length}
 use borrow.Author.Needs.{needs}
 use Rattle.stabbing_days.proofs.Several as Steps

@@ -6,12 +6,13 @@ use lib.ListN.{take}
 use borrow.Author.Needs.{needs}
 use Rattle.stabbing_index.proofs.DayTables as Steps
 use Rattle.stabbing.specs.Tree as Tree
+use Rattle.stabbing.specs.Stored as Stored
 use Rattle.stabbing_index.specs.Passes.{Dayed}
 use Rattle.stabbing_index.proofs.days.Statement.{statement}
 use Rattle.stabbing_index.proofs.days.Tie as tie
 
 abbrev Inv-loop : tie.InvT-loop
-Inv-loop first last n parent start₀ begun₀ d₀ m₀ s₀ start begun d m s = Dayed (take n first) (take n last) start begun (d + 1) × (m ≡ Tree.latest (take n first) (take n last) d) × (s ≡ Tree.start (take n first) (take n last) d d) × (d ≤ 4000)
+Inv-loop first last n parent start₀ begun₀ d₀ m₀ s₀ start begun d m s = Dayed (take n first) (take n last) start begun (d + 1) × (m ≡ Stored.latest (take n first) (take n last) d) × (s ≡ Tree.start (take n first) (take n last) d d) × (d ≤ 4000)
 
 abbrev μ-loop : tie.MeasureT-loop
 μ-loop first last n parent start₀ begun₀ d₀ m₀ s₀ start begun d m s = 4000 - d

@@ -3,7 +3,8 @@
 use native.Mathlib.Omega.{arith}
 use mathlib.Core.Logic.{inl, inr}
 use borrow.Author.Needs.{needs}
-use Rattle.stabbing.specs.Tree.{lastChild, compare}
+use Rattle.stabbing.specs.Tree.{lastChild}
+use Rattle.stabbing.specs.Walk.{compare}
 use Rattle.stabbing.specs.Index.{firsts, lasts}
 use Rattle.stabbing_query.specs.Code.{Does, RiseAsks, riseOf}
 use Rattle.stabbing_query.proofs.Rising as Steps
