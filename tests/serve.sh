@@ -7,10 +7,10 @@
 set -u
 here=$(cd "$(dirname "$0")" && pwd)
 program=${1:-$here/../target/bin/serve}
-runner=$here/../bin/run-program
 stored=$here/../crates/serve
 work=$(mktemp -d)
-trap 'rm -rf "$work"' EXIT
+mounted=
+trap '[ -z "$mounted" ] || umount "$mounted"; rm -rf "$work"' EXIT
 
 fail() {
     echo "serve.sh: $1" >&2
@@ -22,17 +22,7 @@ says() {
     printf '%b' "$2" | cmp - "$work/out" >&2 || fail "$1: the output differs"
 }
 
-# run COMMAND: by bin/run-program, and no longer than two minutes
-run() {
-    timeout 120 "$runner" "$@"
-}
-
-# told WHAT STATUS MESSAGE: the message alone was told, and the status is 1
-told() {
-    printf '%b\n' "$3" | cmp - "$work/told" >&2 || fail "$1: told on standard error: $(cat "$work/told")"
-    [ "$2" -eq 1 ] || fail "$1: the status is $2"
-}
-
+. "$here/failures.sh"
 [ -x "$program" ] || fail "no program at $program"
 
 # the protocol's example; tests/plainwire.py sees that the document says the same
@@ -79,29 +69,8 @@ says "a text cut short" ''
 head -c 200000 /dev/zero | "$program" > "$work/out"
 says "a line with no end" ''
 
-# an output that is closed after the first line: a signal ends the program
-{ run "$program" < "$stored/stdin" 2> "$work/told"; echo $? > "$work/status"; } | head -n 1 > "$work/out"
-says "the first line alone" "$(head -n 1 "$stored/stdout")\n"
-[ "$(cat "$work/status")" -gt 128 ] || fail "the first line alone: the status is $(cat "$work/status")"
-
-# the same where that signal is ignored, and an output that was never open, is full, or becomes full
-(trap '' PIPE; { run "$program" < "$stored/stdin" 2> "$work/told"; echo $? > "$work/status"; } | head -n 1 > "$work/out")
-told "a closed output" "$(cat "$work/status")" "serve: standard output: Broken pipe"
-run "$program" < "$stored/stdin" >&- 2> "$work/told"
-told "no output" $? "serve: standard output: Bad file descriptor"
-run "$program" < "$stored/stdin" > /dev/full 2> "$work/told"
-told "a full device" $? "serve: standard output: No space left on device"
-(trap '' XFSZ; ulimit -f 40; run "$program" < "$stored/stdin" > "$work/out" 2> "$work/told")
-told "a file that may not grow" $? "serve: standard output: File too large"
-head -c "$(wc -c < "$work/out")" "$stored/stdout" | cmp - "$work/out" >&2 || fail "a file that may not grow: the output differs"
-
-# pipes that do not wait, with a slow writer and a slow reader: no answer is lost
-timeout 120 python3 "$here/nonblocking.py" "$runner" "$program" < "$stored/stdin" > "$work/out" 2> "$work/told" || fail "pipes that do not wait: the status is $?"
-cmp "$work/out" "$stored/stdout" >&2 || fail "pipes that do not wait: the output differs"
-
-# an input that can't be read
-run "$program" < "$here" > "$work/out" 2> "$work/told"
-told "a directory as input" $? "serve: standard input: Is a directory"
+# where its input or output fails
+failures serve "$stored/stdin" "$stored/stdout"
 
 # files that can't be taken: a message, and nothing on standard output
 run "$program" "$work/none" < "$stored/stdin" > "$work/out" 2> "$work/told"
@@ -114,13 +83,9 @@ run "$program" "$(head -c 5000 /dev/zero | tr '\0' a)" < "$stored/stdin" > "$wor
 told "a name longer than a path" $? "serve: the name of the file: File name too long"
 says "a name longer than a path" ''
 
-# arguments: the use is told, and nothing else is done
+# arguments
 for arguments in --help -x 'a b'; do
-    # shellcheck disable=SC2086
-    run "$program" $arguments < "$stored/stdin" > "$work/out" 2> "$work/told"
-    [ $? -eq 1 ] || fail "serve $arguments: the status is not 1"
-    says "serve $arguments" ''
-    grep -q '^usage: serve' "$work/told" || fail "serve $arguments: no use is told"
+    usage serve "$stored/stdin" "$arguments"
 done
 
 echo "serve.sh: ok"
