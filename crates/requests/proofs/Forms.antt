@@ -1,5 +1,5 @@
 -- What a line asks, by its word and its last field. Assumes nothing.
-use mathlib.Core.Path.{_≡_, refl, sym}
+use mathlib.Core.Path.{_≡_, refl, sym, _∙_}
 use mathlib.Core.Bool.{false}
 use mathlib.Core.List.{List}
 use Prim.Native.Nat.{ℕ, _≤_, _<_}
@@ -44,18 +44,23 @@ module _ (line days : List ℕ) where
   parses-long h = record { answer = rw (lt-leb (length line) 65536 h); places = rw (lt-leb (length line) 65536 h); sized = refl }
 
   module _ (short : length line ≤ 65536) where
-    pub parses-by : (w : Word) → isDays w ≡ false → wordOf line ≡ w → (r : Request) → r ≡ requestOf (askedBy w (length days) line) → Parses line days r days
+    -- a word that is followed by no list of days
+    pub parses-by : {found w : Word} → found ≡ wordOf line → found ≡ w → isDays w ≡ false → {r : Request} → r ≡ requestOf (askedBy w (length days) line) → Parses line days r days
     unfolding askedOf daysOf
-    parses-by w n e r a = record {
-      answer = rw (le-leb (length line) 65536 short, e) a;
-      places = rw (le-leb (length line) 65536 short, e, n);
-      sized = refl;
-    }
+    parses-by is told none a =
+        let e : wordOf line ≡ _ = sym is ∙ told in
+        record {
+          answer = rw (le-leb (length line) 65536 short, e) a;
+          places = rw (le-leb (length line) 65536 short, e, none);
+          sized = refl;
+        }
 
-    pub parses-days : wordOf line ≡ Days → (r : Request) (exit : List ℕ) → ReadsDays (readDays (length days) (drop 5 line)) days r exit → Parses line days r exit
+    pub parses-days : {found : Word} → found ≡ wordOf line → found ≡ Days → {r : Request} {exit : List ℕ} → ReadsDays (readDays (length days) (drop 5 line)) days r exit → Parses line days r exit
     unfolding askedOf daysOf askedBy isDays
-    parses-days e r exit p = record {
-      answer = rw (le-leb (length line) 65536 short, e) (p .answer);
-      places = rw (le-leb (length line) 65536 short, e) (p .places);
-      sized = p .sized;
-    }
+    parses-days is told p =
+        let e : wordOf line ≡ Days = sym is ∙ told in
+        record {
+          answer = rw (le-leb (length line) 65536 short, e) (p .answer);
+          places = rw (le-leb (length line) 65536 short, e) (p .places);
+          sized = p .sized;
+        }
