@@ -25,7 +25,7 @@ says() {
 . "$here/failures.sh"
 [ -x "$program" ] || fail "no program at $program"
 
-# the protocol's example; tests/plainwire.py sees that the document says the same
+# the protocol's example; `tests/check documents` sees that the document says the same
 "$program" < "$here/../examples/conversation.requests" | cmp - "$here/../examples/conversation.answers" >&2 || fail "the protocol's example: the output differs"
 
 # a pipe that hands over a byte at a time

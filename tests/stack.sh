@@ -34,7 +34,7 @@ awk 'BEGIN {
     cat "$work/deep"
     printf 'publish\nday\t1600\nspan\t1600\t1700\ncover\t500\ndays\t1600\t1700\nwrite\n'
 } > "$work/requests"
-(cd "$here" && python3 -B plainserve.py) < "$work/requests" > "$work/answers" || fail "the plain wire failed"
+"$here/check" account serve < "$work/requests" > "$work/answers" || fail "the plain account failed"
 "$stand" < "$work/deep" > "$work/days"
 
 limited "$stand_kb" "$stand" "$here/../crates/stand/stdin" "$here/../crates/stand/stdout"

@@ -6,15 +6,13 @@
 
 mod calls;
 mod contenders;
-#[allow(dead_code)]
-#[path = "../../rust/links.rs"]
 mod links;
 #[allow(dead_code)]
 #[path = "../../include/phayaklit.rs"]
 mod phayaklit;
 mod proved;
 #[allow(dead_code)]
-#[path = "../../rust/rng.rs"]
+#[path = "../../rust/generate/src/rng.rs"]
 mod rng;
 mod rows;
 mod table;

@@ -1,8 +1,6 @@
 -- What the decimals are for: a decimal that is written is read back, whatever follows it, and one that is read is what
 -- is written of its value. Assumes nothing.
-use Prim.Native.Nat.{ℕ, _≤_, _<_}
-use mathlib.Core.Path.{_≡_}
-use mathlib.Core.List.{List}
+use Rattle.basis.proofs.Prelude.{_≡_, _<_, _≤_, ℕ, List}
 use Rattle.fields.specs.Fields.{found, readNumber, numberText}
 use Rattle.decimals.proofs.Decimals.{read-number, write-number}
 

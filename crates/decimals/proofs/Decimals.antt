@@ -1,13 +1,5 @@
 -- A decimal is read as it was written, and what is read is what is written. Assumes nothing.
-use mathlib.Core.Path.{_≡_, refl, sym, _∙_}
-use mathlib.Core.Bool.{true, false}
-use mathlib.Core.Logic.{inl, inr}
-use mathlib.Core.List.{List, [], _∷_}
-use Prim.Native.Nat.{ℕ, zero, suc, _+_, _-_, _*_, _/_, _%_, _≤_, _<_}
-use native.Mathlib.Omega.{arith}
-use borrow.Author.Tests.{lt-ltb, le-ltb, le-leb, lt-leb, eq-eqb, ne-eqb, eqb-true, eqb-false}
-use native.Mathlib.Decide.{decLe}
-use lib.Dec.{eqb}
+use Rattle.basis.proofs.Prelude.{_∙_, _≡_, refl, sym, _%_, _*_, _+_, _-_, _/_, _<_, _≤_, suc, zero, ℕ, List, [], _∷_, false, true, inl, inr, eqb, decLe, arith, eq-eqb, eqb-false, eqb-true, le-leb, le-ltb, lt-leb, lt-ltb, ne-eqb}
 use Rattle.fields.specs.Fields.{Found, found, unreadable, onward, passed, isDigit, readDigits, readDecimal, readLength, readNumber, digitsOf, decimalOf}
 use Rattle.fields.proofs.Bytes.{which, never, digit-is, low-not, digit-low, digit-high, write-passed}
 use Rattle.fields.proofs.Widths.{limit, more}

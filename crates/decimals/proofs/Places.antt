@@ -1,10 +1,5 @@
 -- What a reader of decimals finds at a place of a text. Assumes nothing.
-use mathlib.Core.Path.{_≡_}
-use mathlib.Core.Bool.{true, false}
-use mathlib.Core.List.{List}
-use Prim.Native.Nat.{ℕ, _+_, _-_, _*_, _≤_, _<_}
-use borrow.Author.Tests.{eq-eqb, ne-eqb}
-use lib.ListN.{length, drop, getD}
+use Rattle.basis.proofs.Prelude.{_≡_, _*_, _+_, _-_, _<_, _≤_, ℕ, List, false, true, drop, getD, length, eq-eqb, ne-eqb}
 use Rattle.fields.specs.Fields.{found, unreadable, isDigit, readDigits, readDecimal}
 use Rattle.fields.proofs.Places.{here, past-end}
 use Rattle.decimals.proofs.Decimals.{digits-on, digits-above, digits-end}

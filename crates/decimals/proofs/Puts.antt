@@ -1,9 +1,5 @@
 -- The digits of a number, put into a list from the last to the first. Assumes nothing.
-use mathlib.Core.Path.{_≡_, refl, sym, ap, _∙_}
-use mathlib.Core.List.{List}
-use Prim.Native.Nat.{ℕ, _+_, _-_, _/_, _%_, _≤_, _<_}
-use native.Mathlib.Omega.{arith}
-use lib.ListN.{length, drop, set}
+use Rattle.basis.proofs.Prelude.{_∙_, _≡_, ap, refl, sym, _%_, _+_, _-_, _/_, _<_, _≤_, ℕ, List, drop, length, set, arith}
 use Rattle.fields.specs.Fields.{decimalOf}
 use Rattle.fields.proofs.Puts.{Put, put-one, put-place}
 use Rattle.fields.proofs.Widths.{decimal-width, decimal-wide}

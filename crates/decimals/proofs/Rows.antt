@@ -1,10 +1,5 @@
 -- Decimals parted by tabs, put into a list from the last to the first. Assumes nothing.
-use mathlib.Core.Path.{_≡_, _∙_}
-use mathlib.Core.List.{List, _∷_}
-use Prim.Native.Nat.{ℕ, suc, _-_, _*_, _≤_, _<_}
-use native.Mathlib.Omega.{arith}
-use lib.ListN.{length, drop, getD, length-drop}
-use lib.Seq.{drop-cons, drop-length}
+use Rattle.basis.proofs.Prelude.{_∙_, _≡_, _*_, _-_, _<_, _≤_, suc, ℕ, List, _∷_, drop, getD, length, length-drop, drop-cons, drop-length, arith}
 use Rattle.fields.specs.Fields.{numberText, endBefore, numbersText}
 use Rattle.fields.specs.Answers.{Puts}
 use Rattle.fields.proofs.Puts.{Put, put-none, put-on, put-place, number-put, puts-room}

@@ -1,12 +1,5 @@
 -- Single bytes: those that are digits, and the byte that ends a field. Assumes nothing.
-use mathlib.Core.Path.{_≡_, refl}
-use mathlib.Core.Bool.{Bool, true, false, _&&_, false≢true}
-use mathlib.Core.Logic.{_⊎_, inl, inr}
-use mathlib.Core.List.{List, [], _∷_}
-use Prim.Native.Nat.{ℕ, _≤_, _<_}
-use native.Mathlib.Omega.{arith}
-use borrow.Author.Tests.{le-leb, lt-leb, leb-true, eqb-true}
-use lib.Dec.{leb, eqb}
+use Rattle.basis.proofs.Prelude.{_≡_, refl, _<_, _≤_, ℕ, List, [], _∷_, Bool, _&&_, false, false≢true, true, _⊎_, inl, inr, eqb, leb, arith, eqb-true, le-leb, leb-true, lt-leb}
 use Rattle.fields.specs.Fields.{found, unreadable, passed, isDigit}
 
 pub which : (t : Bool) → (t ≡ true) ⊎ (t ≡ false)

@@ -1,9 +1,5 @@
 -- How many places a field takes. Assumes nothing.
-use Prim.Native.Nat.{ℕ, _+_, _≤_}
-use native.Mathlib.Omega.{arith}
-use mathlib.Core.Path.{_≡_}
-use mathlib.Core.List.{List, _∷_}
-use lib.ListN.{length}
+use Rattle.basis.proofs.Prelude.{_≡_, _+_, _≤_, ℕ, List, _∷_, length, arith}
 use Rattle.fields.specs.Fields.{numberText, bitsText}
 use Rattle.fields.proofs.Widths.{decimal-width, hex-width}
 

@@ -1,14 +1,5 @@
 -- What stands at a place of a text. Assumes nothing.
-use mathlib.Core.Path.{_≡_, sym, ap, _∙_}
-use mathlib.Core.Bool.{true, false, false≢true}
-use mathlib.Core.List.{List, [], _∷_}
-use Prim.Native.Nat.{ℕ, _+_, _≤_, _<_}
-use native.Mathlib.Numerals.{add-one}
-use native.Mathlib.Omega.{arith}
-use borrow.Author.Tests.{lt-ltb, le-ltb}
-use native.Mathlib.Decide.{decLe}
-use lib.ListN.{length, drop, getD, drop-of-length-le, length-drop}
-use lib.Seq.{drop-cons}
+use Rattle.basis.proofs.Prelude.{_∙_, _≡_, ap, sym, _+_, _<_, _≤_, ℕ, List, [], _∷_, false, false≢true, true, drop, drop-of-length-le, getD, length, length-drop, drop-cons, add-one, decLe, arith, le-ltb, lt-ltb}
 use Rattle.fields.specs.declared.Field.{Field}
 use Rattle.fields.specs.declared.Field.the-variants.{Value as FieldValue}
 use Rattle.fields.specs.declared.Length.{Length}

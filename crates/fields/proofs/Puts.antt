@@ -1,11 +1,5 @@
 -- A text that is put into a list before a place, byte by byte from its end to its front. Assumes nothing.
-use mathlib.Core.Path.{_≡_, refl, sym, ap, _∙_}
-use mathlib.Core.List.{List, _∷_, _++_}
-use Prim.Native.Nat.{ℕ, suc, _+_, _-_, _≤_, _<_}
-use native.Mathlib.Omega.{arith}
-use borrow.Author.Tests.{le-leb, lt-leb}
-use lib.ListN.{length, take, drop, set, length-set, length-drop, length-append, take-append-drop}
-use lib.Seq.{set-split, drop-at, take-at, take-set-le, take-take, length-take-le}
+use Rattle.basis.proofs.Prelude.{_∙_, _≡_, ap, refl, sym, _+_, _-_, _<_, _≤_, suc, ℕ, List, _++_, _∷_, drop, length, length-append, length-drop, length-set, set, take, take-append-drop, drop-at, length-take-le, set-split, take-at, take-set-le, take-take, arith, le-leb, lt-leb}
 use Rattle.fields.specs.Fields.{byteText, numberText, bitsText}
 use Rattle.fields.specs.Answers.{Puts}
 use Rattle.fields.proofs.Widths.{decimal-width, hex-width}

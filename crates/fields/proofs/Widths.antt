@@ -1,12 +1,5 @@
 -- How long a written field is. Assumes nothing.
-use mathlib.Core.Path.{_≡_, ap}
-use mathlib.Core.Bool.{Bool, true, false, cond}
-use mathlib.Core.List.{List, _∷_}
-use Prim.Native.Nat.{ℕ, zero, suc, _+_, _*_, _/_, _%_, _≤_, _<_}
-use native.Mathlib.Omega.{arith}
-use borrow.Author.Tests.{lt-ltb}
-use lib.Dec.{ltb}
-use lib.ListN.{length}
+use Rattle.basis.proofs.Prelude.{_≡_, ap, _%_, _*_, _+_, _/_, _<_, _≤_, suc, zero, ℕ, List, _∷_, Bool, cond, false, true, ltb, length, arith, lt-ltb}
 use Rattle.fields.specs.Fields.{digitsOf, decimalOf, hexDigit, hexOf}
 
 -- ---- more places than the digits take

@@ -1,7 +1,5 @@
 -- A stream, computed. Assumes nothing.
-use mathlib.Core.Path.{_≡_, refl}
-use mathlib.Core.List.{List, [], _∷_, _++_}
-use Prim.Native.Nat.{ℕ}
+use Rattle.basis.proofs.Prelude.{_≡_, refl, ℕ, List, [], _++_, _∷_}
 use Rattle.fields.specs.Fields.{passed, readDigits, readDecimal}
 use Rattle.requests.specs.Requests.{begins, askedBy, askedOf, following}
 use Rattle.framing.specs.Stream.{begun, kept, wants, settled, lineFed, feed, onward, cutFrom, cut, leftBy, left, cutPieces}

@@ -1,11 +1,9 @@
 -- What framing is for: in whatever pieces a stream arrives, its requests are those of the whole stream. Assumes nothing.
-use Prim.Native.Nat.{ℕ}
-use mathlib.Core.Path.{_≡_, ap, _∙_}
-use mathlib.Core.List.{List, _∷_, _++_, flatten}
-use lib.ListN.{drop}
+use mathlib.Core.List.{flatten}
+use Rattle.basis.proofs.Prelude.{_∙_, _≡_, ap, ℕ, List, _++_, _∷_, drop}
 use Rattle.model.specs.Model.{fresh}
-use Rattle.standing.specs.declared.Standing.{Standing}
-use Rattle.service.specs.Service.{Represents}
+use Rattle.service.specs.declared.Service.{Service}
+use Rattle.service.specs.Service.{Blocks, Represents}
 use Rattle.wire.specs.declared.Answered.{Answered}
 use Rattle.wire.specs.Conversation.{Sent, Conv, opening, converse, converseOn}
 use Rattle.wire.specs.Answering.{roomOf, Restarted}
@@ -32,20 +30,20 @@ unfolding flatten partOf
 heard-stream r = heard-cut r
 
 -- THE ANSWERS TO A STREAM, in whatever pieces it arrives, on a service that stands for v: those of the conversation on its requests
-pub stream-converse : {sv : Standing} {ix : List ℕ} {room : ℕ} {line payload piece : List ℕ} {pieces : List (List ℕ)} {qs : List Sent} {replies : List (List ℕ)} (v : Conv)
-    → Represents sv ix (v .state) → roomOf room ≡ v .room
-    → Heard opened line payload piece 0 pieces qs → Spoken sv ix room qs replies
+pub stream-converse : {sv : Service} {bs : Blocks} {room : ℕ} {line payload piece : List ℕ} {pieces : List (List ℕ)} {qs : List Sent} {replies : List (List ℕ)} (v : Conv)
+    → Represents sv bs (v .state) → roomOf room ≡ v .room
+    → Heard opened line payload piece 0 pieces qs → Spoken sv bs room qs replies
     → replies ≡ converse v (cut (flatten (piece ∷ pieces)))
 stream-converse v s e r c = spoken-converse v s e c ∙ ap (converse v) (heard-stream r)
 
 -- begun fresh
-pub stream-fresh : {sv : Standing} {ix line payload piece : List ℕ} {pieces : List (List ℕ)} {qs : List Sent} {replies : List (List ℕ)}
-    → Represents sv ix fresh → Heard opened line payload piece 0 pieces qs → Spoken sv ix 65536 qs replies
+pub stream-fresh : {sv : Service} {bs : Blocks} {line payload piece : List ℕ} {pieces : List (List ℕ)} {qs : List Sent} {replies : List (List ℕ)}
+    → Represents sv bs fresh → Heard opened line payload piece 0 pieces qs → Spoken sv bs 65536 qs replies
     → replies ≡ converse opening (cut (flatten (piece ∷ pieces)))
 stream-fresh s r c = spoken-fresh s c ∙ ap (converse opening) (heard-stream r)
 
 -- begun on a text of n bytes, whose answer comes first
-pub stream-begun : {ix line payload piece : List ℕ} {pieces : List (List ℕ)} {qs : List Sent} {replies : List (List ℕ)} (n : ℕ) (text out out′ : List ℕ) (x : Answered)
-    → Restarted 65536 n text out x ix out′ → Heard opened line payload piece 0 pieces qs → Spoken (x .service) ix (x .room) qs replies
+pub stream-begun : {bs : Blocks} {line payload piece : List ℕ} {pieces : List (List ℕ)} {qs : List Sent} {replies : List (List ℕ)} (n : ℕ) (text out out′ : List ℕ) (x : Answered)
+    → Restarted 65536 n text out x bs out′ → Heard opened line payload piece 0 pieces qs → Spoken (x .service) bs (x .room) qs replies
     → (drop (x .place) out′ ∷ replies) ≡ converseOn n text (cut (flatten (piece ∷ pieces)))
 stream-begun n text out out′ x d r c = spoken-begun n text out out′ x d c ∙ ap (λ (qs : List Sent). converseOn n text qs) (heard-stream r)

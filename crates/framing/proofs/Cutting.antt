@@ -1,9 +1,6 @@
 -- Laws of cutting: a piece, and what comes after it. Assumes nothing.
-use Prim.Native.Nat.{ℕ, suc, _<_}
-use mathlib.Core.Path.{_≡_, refl, ap}
-use mathlib.Core.List.{List, [], _∷_, _++_, flatten}
-use native.Mathlib.Omega.{arith}
-use lib.ListN.{length, drop, length-drop}
+use mathlib.Core.List.{flatten}
+use Rattle.basis.proofs.Prelude.{_≡_, ap, refl, _<_, suc, ℕ, List, [], _++_, _∷_, drop, length, length-drop, arith}
 use Rattle.wire.specs.Conversation.{Sent}
 use Rattle.framing.specs.declared.Frame.{Frame}
 use Rattle.framing.specs.declared.Framed.the-variants.{Whole}

@@ -1,11 +1,5 @@
 -- The requests of a stream by the shape of its bytes: a line with its LF and the text after it, or less. Assumes nothing.
-use Prim.Native.Nat.{ℕ, zero, suc, _≤_, _<_}
-use mathlib.Core.Path.{_≡_, refl, ap, _∙_}
-use mathlib.Core.List.{List, [], _∷_, _++_, append-assoc, append-nil}
-use native.Mathlib.Omega.{arith}
-use borrow.Author.Tests.{lt-leb}
-use lib.ListN.{length, take, length-append}
-use lib.Seq.{length-take-le}
+use Rattle.basis.proofs.Prelude.{_∙_, _≡_, ap, refl, _<_, _≤_, suc, zero, ℕ, List, [], _++_, _∷_, append-assoc, append-nil, length, length-append, take, length-take-le, arith, lt-leb}
 use Rattle.requests.specs.Requests.{malformed, askedOf, following}
 use Rattle.framing.specs.Stream.{inLine, kept, wants, settled, lineFed, feed, onward, cutFrom, cut, Plain}
 

@@ -1,14 +1,5 @@
 -- The laws that the code follows: a byte put into its place, a byte of a line, a byte of a text. Assumes nothing.
-use Prim.Native.Nat.{ℕ, zero, suc, _+_, _-_, _≤_, _<_}
-use mathlib.Core.Path.{_≡_, refl, sym, ap, _∙_}
-use mathlib.Core.List.{List, [], _∷_, _++_}
-use native.Mathlib.Numerals.{add-one}
-use native.Mathlib.Omega.{arith}
-use borrow.Author.Tests.{eq-eqb, ne-eqb, leb-true, leb-false}
-use mathlib.Core.Bool.{Bool, true, false, cond}
-use lib.Dec.{leb}
-use lib.ListN.{length, take, drop, getD, set, length-set, length-append, drop-of-length-le}
-use lib.Seq.{drop-drop, drop-set-lt, drop-length, drop-cons, take-suc-set, take-all, take-length, take-append-seam, length-take-le}
+use Rattle.basis.proofs.Prelude.{_∙_, _≡_, ap, refl, sym, _+_, _-_, _<_, _≤_, suc, zero, ℕ, List, [], _++_, _∷_, Bool, cond, false, true, leb, drop, drop-of-length-le, getD, length, length-append, length-set, set, take, drop-cons, drop-drop, drop-length, drop-set-lt, length-take-le, take-all, take-append-seam, take-length, take-suc-set, add-one, arith, eq-eqb, leb-false, leb-true, ne-eqb}
 use Rattle.framing.specs.declared.Frame.{Frame}
 use Rattle.framing.specs.declared.Framed.{Framed}
 use Rattle.framing.specs.declared.Framed.the-variants.{Whole, Part}

@@ -1,8 +1,6 @@
 -- The step of `Heard` is the contract of `advance` itself, as the prover reads it: by computation, and not by copying. Neither `advance`
 -- nor its form for a host asks anything of its caller. Assumes nothing.
-use mathlib.Core.Path.{_≡_, refl}
-use mathlib.Core.List.{List}
-use Prim.Native.Nat.{ℕ}
+use Rattle.basis.proofs.Prelude.{_≡_, refl, ℕ, List}
 use contract.Lifetimes.{Lfts}
 use denote.Ref.{RefT, now}
 use Rattle.framing.specs.declared.Frame.{Frame}

@@ -1,8 +1,6 @@
 -- What the hex digits are for: a field that is written is read back, whatever follows it, and a field that is read is what
 -- is written of its value. Assumes nothing.
-use Prim.Native.Nat.{ℕ, _<_}
-use mathlib.Core.Path.{_≡_}
-use mathlib.Core.List.{List}
+use Rattle.basis.proofs.Prelude.{_≡_, _<_, ℕ, List}
 use Rattle.fields.specs.Fields.{found, readBits, bitsText}
 use Rattle.hex.proofs.Hex.{read-bits, write-bits}
 

@@ -1,13 +1,5 @@
 -- Eight hex digits are read as they were written, and what is read is what is written. Assumes nothing.
-use mathlib.Core.Path.{_≡_, refl, sym, _∙_}
-use mathlib.Core.Logic.{inl, inr}
-use mathlib.Core.List.{List, [], _∷_}
-use Prim.Native.Nat.{ℕ, zero, suc, _+_, _-_, _*_, _/_, _%_, _≤_, _<_}
-use native.Mathlib.Numerals.{add-one}
-use native.Mathlib.Omega.{arith}
-use native.Mathlib.Decide.{decLe}
-use borrow.Author.Tests.{lt-ltb, le-ltb, le-leb, lt-leb, eq-eqb, leb-true}
-use lib.Dec.{leb}
+use Rattle.basis.proofs.Prelude.{_∙_, _≡_, refl, sym, _%_, _*_, _+_, _-_, _/_, _<_, _≤_, suc, zero, ℕ, List, [], _∷_, inl, inr, leb, add-one, decLe, arith, eq-eqb, le-leb, le-ltb, leb-true, lt-leb, lt-ltb}
 use Rattle.fields.specs.Fields.{Found, found, unreadable, onward, passed, isDigit, hexDigit, hexOf, hexValue, readHex, readBits}
 use Rattle.fields.proofs.Bytes.{which, never, digit-is, digit-low, digit-high, write-passed}
 

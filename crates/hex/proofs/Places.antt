@@ -1,8 +1,5 @@
 -- What a reader of hex digits finds at a place of a text. Assumes nothing.
-use mathlib.Core.Path.{_≡_}
-use mathlib.Core.List.{List}
-use Prim.Native.Nat.{ℕ, suc, _+_, _*_, _≤_, _<_}
-use lib.ListN.{length, drop, getD}
+use Rattle.basis.proofs.Prelude.{_≡_, _*_, _+_, _<_, _≤_, suc, ℕ, List, drop, getD, length}
 use Rattle.fields.specs.Fields.{unreadable, hexValue, readHex}
 use Rattle.fields.proofs.Places.{here, past-end}
 use Rattle.hex.proofs.Hex.{hex-on, hex-bad, hex-short}

@@ -1,9 +1,5 @@
 -- Eight hex digits, put into a list from the last to the first. Assumes nothing.
-use mathlib.Core.Path.{_≡_, refl, sym, _∙_}
-use mathlib.Core.List.{List, _∷_}
-use Prim.Native.Nat.{ℕ, suc, _+_, _-_, _/_, _%_, _≤_, _<_}
-use native.Mathlib.Omega.{arith}
-use lib.ListN.{length, drop, set}
+use Rattle.basis.proofs.Prelude.{_∙_, _≡_, refl, sym, _%_, _+_, _-_, _/_, _<_, _≤_, suc, ℕ, List, _∷_, drop, length, set, arith}
 use Rattle.fields.specs.Fields.{hexDigit, hexOf}
 use Rattle.fields.proofs.Puts.{Put, put-one}
 

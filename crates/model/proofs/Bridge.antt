@@ -1,13 +1,8 @@
 -- Positions and rows: the positions that pass a test lead to the rows that pass the same test. Assumes nothing.
-use Prim.Native.Nat.{ℕ, zero, suc, _≤_, _<_, _*_}
-use native.Mathlib.Omega.{arith}
-use mathlib.Core.Path.{_≡_, refl, sym, ap, _∙_}
-use mathlib.Core.Bool.{Bool, cond}
-use mathlib.Core.List.{List, [], _∷_, _++_, map, append-assoc}
-use lib.ListN.{length, getD, length-map}
+use Rattle.basis.proofs.Prelude.{_∙_, _≡_, ap, refl, sym, _*_, _<_, _≤_, suc, zero, ℕ, List, [], _++_, _∷_, append-assoc, map, Bool, cond, getD, length, length-map, arith, by-test}
 use Rattle.spell.specs.declared.Spell.{Spell}
 use Rattle.stabbing.specs.Tree.{keep, fitsAt, start}
-use Rattle.stabbing.proofs.Marks.{by-test, keep-hit, keep-miss}
+use Rattle.stabbing.proofs.Marks.{keep-hit, keep-miss}
 use Rattle.stabbing.proofs.Walk.{formula-le}
 use Rattle.model.specs.Questions.{reaches, filter, listed, firstsOf, lastsOf, comparisonsOf}
 

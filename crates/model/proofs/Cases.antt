@@ -1,9 +1,6 @@
 -- Document 01's register A, M1 and M2 run through the account: what each call answers, computed. Assumes nothing.
-use Prim.Native.Nat.{ℕ}
-use mathlib.Core.Path.{_≡_, refl}
-use mathlib.Core.List.{List, [], _∷_, _++_, map}
+use Rattle.basis.proofs.Prelude.{_≡_, refl, ℕ, List, [], _++_, _∷_, map, replicate, take}
 use lib.Ieee.{binary32, isNan, toBits, ofBits}
-use lib.ListN.{take, replicate}
 use Rattle.spell.specs.declared.Urgency.{Urgency}
 use Rattle.spell.specs.declared.Urgency.the-variants.{Grade, Reading}
 use Rattle.spell.specs.declared.Spell.{Spell}
@@ -13,8 +10,9 @@ use Rattle.stabbing.specs.Tree.{below, keep, count, head, next, parent, child, 
 use Rattle.model.specs.declared.Call.{Call}
 use Rattle.model.specs.declared.Call.the-variants.{Enter, Amend, Strike, TakeBack, Publish, Ask}
 use Rattle.model.specs.declared.Question.the-variants.{Day, Span, Cover, Days}
-use Rattle.model.specs.Edits.{insert, remove, enterRefusal, amendRefusal, strikeRefusal, remember}
-use Rattle.model.specs.Questions.{onAny, daysOk, rising, filter, comparisonsOf}
+use Rattle.model.specs.Edits.{insertBy, remove, enterRefusal, amendRefusal, strikeRefusal, remember}
+use Rattle.calendar.specs.Calendar.{daysOk}
+use Rattle.model.specs.Questions.{onAny, rising, filter, comparisonsOf}
 use Rattle.model.specs.Effects.{settle}
 use Rattle.model.specs.Model.{fresh, Request, Answer, takeBack, cover, ask, effectOf, run}
 
@@ -96,7 +94,7 @@ pub document-cases : map answers ((entering ++ asking) ∷ M1 ∷ M2 ∷ [])
     ∷ (replicate 3 (plain 0) ++ ((0 ∷ 1 ∷ 0 ∷ 1 ∷ 99 ∷ 99 ∷ 99 ∷ 99 ∷ 99 ∷ []) ∷ []))
     ∷ (replicate 5 (plain 0) ++ ((0 ∷ 3 ∷ 0 ∷ 1 ∷ 2 ∷ 4 ∷ 99 ∷ 99 ∷ 99 ∷ []) ∷ []))
     ∷ []
-unfolding run settle effectOf ask cover enterRefusal insert remember earlierOf stands isNan toBits ofBits
+unfolding run settle effectOf ask cover enterRefusal insertBy remember earlierOf stands isNan toBits ofBits
     onAny daysOk rising filter comparisonsOf below keep count head next parent child leftSibling lastChild fitsAt start onPath formula
 document-cases = refl
 
@@ -134,7 +132,7 @@ refusing = call TakeBack
 
 pub refusals : map (λ (a : Answer). a .refusal) (run fresh refusing)
     ≡ 9 ∷ 0 ∷ 6 ∷ 1 ∷ 7 ∷ 3 ∷ 7 ∷ 7 ∷ 0 ∷ 11 ∷ 0 ∷ 3 ∷ 4 ∷ 3 ∷ 10 ∷ 3 ∷ 0 ∷ 0 ∷ 0 ∷ 9 ∷ []
-unfolding run settle effectOf takeBack ask cover enterRefusal amendRefusal strikeRefusal insert remove remember earlierOf stands isNan toBits
+unfolding run settle effectOf takeBack ask cover enterRefusal amendRefusal strikeRefusal insertBy remove remember earlierOf stands isNan toBits
     onAny daysOk rising filter comparisonsOf
 refusals = refl
 
@@ -177,7 +175,7 @@ pub edits : map found (run fresh editing)
     ∷ (1 ∷ 3 ∷ []) ∷ []
     ∷ (1 ∷ [])
     ∷ []
-unfolding run settle effectOf takeBack ask enterRefusal amendRefusal strikeRefusal insert remove remember earlierOf stands filter
+unfolding run settle effectOf takeBack ask enterRefusal amendRefusal strikeRefusal insertBy remove remember earlierOf stands filter
 edits = refl
 
 -- ---- The 65th list falls off
@@ -188,5 +186,5 @@ abbrev longPast : List Request
 longPast = (call (Enter one) ∷ replicate 64 (call (Amend one))) ++ (replicate 65 (call TakeBack) ++ (call (Strike 11) ∷ call (Strike 11) ∷ []))
 
 pub past-64 : map (λ (a : Answer). a .refusal) (run fresh longPast) ≡ replicate 129 0 ++ (9 ∷ 0 ∷ 7 ∷ [])
-unfolding run settle effectOf takeBack enterRefusal amendRefusal strikeRefusal insert remove remember earlierOf stands
+unfolding run settle effectOf takeBack enterRefusal amendRefusal strikeRefusal insertBy remove remember earlierOf stands
 past-64 = refl

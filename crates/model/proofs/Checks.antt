@@ -1,13 +1,5 @@
 -- When the checks of an edit accept it. Assumes nothing.
-use mathlib.Core.Path.{_≡_, refl, sym, _∙_}
-use mathlib.Core.Logic.{_↔_}
-use mathlib.Core.Bool.{Bool, true, false, cond}
-use mathlib.Core.List.{List}
-use Prim.Native.Nat.{ℕ, _<_}
-use native.Mathlib.Omega.{arith}
-use borrow.Author.Tests.{eq-eqb, ne-eqb, eqb-true, eqb-false, lt-leb, leb-false}
-use lib.Dec.{eqb, leb}
-use lib.ListN.{length}
+use Rattle.basis.proofs.Prelude.{_∙_, _≡_, refl, sym, _<_, ℕ, List, Bool, cond, false, true, _↔_, eqb, leb, length, arith, eq-eqb, eqb-false, eqb-true, leb-false, lt-leb, ne-eqb}
 use Rattle.refusal.specs.Table.{accepted, duplicateNumber, unknownNumber, full}
 use Rattle.spell.specs.declared.Spell.{Spell}
 use Rattle.spell.specs.Entry.{refusalOf}

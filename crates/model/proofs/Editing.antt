@@ -1,21 +1,17 @@
 -- What the edits do, each claim one of every state. Assumes nothing.
-use Prim.Native.Nat.{ℕ, _≤_}
-use mathlib.Core.Path.{_≡_, refl, sym, ap, _∙_}
-use mathlib.Core.Logic.{_⊎_, inl, inr, _↔_}
-use mathlib.Core.Bool.{true, false}
-use mathlib.Core.List.{List, _∷_, _++_, List·Memᴰ}
-use borrow.Author.Tests.{le-leb}
-use lib.ListN.{length, take, drop}
+use Rattle.basis.proofs.Prelude.{_∙_, _≡_, ap, refl, sym, _≤_, ℕ, List, List·Memᴰ, _++_, _∷_, false, true, _↔_, _⊎_, inl, inr, drop, length, take, le-leb}
 use Rattle.refusal.specs.Table.{accepted, duplicateNumber, unknownNumber, full}
 use Rattle.spell.specs.declared.Spell.{Spell}
 use Rattle.spell.specs.Entry.{refusalOf}
+use Rattle.spell.specs.Order.{earlierOf}
 use Rattle.spell.specs.Listing.{stands, distinct}
 use Rattle.register.specs.Text.{writeAll}
 use Rattle.model.specs.declared.Call.the-variants.{Enter, Amend, Strike, TakeBack, Publish, Write, Ask}
 use Rattle.model.specs.declared.Question.the-variants.{Day}
 use Rattle.model.specs.Edits.{insert, remove, replace, enterRefusal, amendRefusal, strikeRefusal, remember}
 use Rattle.model.specs.Questions.{onDay, listed}
-use Rattle.model.specs.Effects.{State, Request, After, over, refuse, settle}
+use Rattle.model.specs.Effects.{State, withStanding, Request, After, refuse, settle}
+use Rattle.buffer.specs.Buffer.{over}
 use Rattle.model.specs.Model.{edit, effectOf, stepOf}
 use Rattle.model.specs.Reached.{Passes}
 use Rattle.model.proofs.Checks.{stops, passes, Enters, enter-accepted, Amends, amend-accepted, strike-accepted}
@@ -93,7 +89,7 @@ module _ (m : State) (q : Request) where
   pub enter-adds : (s : Spell) → stepOf (Enter s) m q .answer .refusal ≡ accepted
       → Edited (λ x. (x ≡ s) ⊎ List·Memᴰ x (m .standing)) (stepOf (Enter s) m q .state)
   unfolding effectOf
-  enter-adds s = edited (enterRefusal (m .standing) s) (insert s (m .standing)) (in-insert s (m .standing))
+  enter-adds s = edited (enterRefusal (m .standing) s) (insert s (m .standing)) (in-insert earlierOf s (m .standing))
 
   -- spell numbers are unique in every state that calls lead to (`always-kept` in `Runs.antt`)
   module _ (unique : distinct (m .standing) ≡ true) where
@@ -110,7 +106,7 @@ module _ (m : State) (q : Request) where
     amend-replaces s =
         let less = remove (s .number) (m .standing) in
         edited (amendRefusal (m .standing) s) (replace s (m .standing)) (λ x.
-        let put = in-insert s less x in
+        let put = in-insert earlierOf s less x in
         let kept = in-remove (s .number) (m .standing) unique x in (
           λ i. elim (put .0 i) [ inl e ↦ inl e | inr j ↦ inr (kept .0 j) ],
           λ i. put .1 (elim i [ inl e ↦ inl e | inr j ↦ inr (kept .1 j) ]),
@@ -118,7 +114,7 @@ module _ (m : State) (q : Request) where
 
   -- A TAKE BACK after an accepted edit gives the former standing list, and leaves the published list
   pub edit-taken-back : {In : Spell → Type 0} {x : State} → Edited In x → (r : Request)
-      → stepOf TakeBack x r ≡ refuse accepted (record { standing = m .standing; past = take 63 (m .past); published = m .published }) r
+      → stepOf TakeBack x r ≡ refuse accepted (withStanding (m .standing) (take 63 (m .past)) m) r
   edit-taken-back {In} {x} e r = rw (← e .published) (back-takes x r (m .standing) (take 63 (m .past)) (e .past))
 
 -- ---- What is amended after a publish is written, and not yet asked

@@ -1,32 +1,19 @@
 -- All calls of the account gone through once, for any property of what a call does, and what comes of an effect gone through
 -- once, for any property of an outcome. Assumes nothing.
-use Prim.Native.Nat.{ℕ}
-use mathlib.Core.Path.{_≡_, refl, sym, ap, _∙_}
-use mathlib.Core.Bool.{Bool, true, false, _&&_, cond, false≢true}
-use mathlib.Core.List.{List, [], _∷_, List·Memᴰ, List·Memᴰ·head, List·Memᴰ·tail}
-use borrow.Author.Tests.{eqb-true, eqb-false, leb-true, leb-false}
-use native.Mathlib.Omega.{arith}
-use lib.Dec.{leb, eqb}
-use lib.ListN.{length}
+use Rattle.basis.proofs.Prelude.{_∙_, _≡_, ap, refl, sym, ℕ, List, List·Memᴰ, List·Memᴰ·head, List·Memᴰ·tail, [], _∷_, Bool, _&&_, cond, false, false≢true, true, eqb, leb, length, arith, eqb-false, eqb-true, leb-false, leb-true, by-cases, by-test}
 use Rattle.refusal.specs.Table.{accepted, offCalendar, reversed, unknownNumber, unsortedDays, shortBuffer}
 use Rattle.spell.specs.declared.Spell.{Spell}
-use Rattle.spell.specs.Entry.{dayOk}
+use Rattle.calendar.specs.Calendar.{isDay, daysOk}
 use Rattle.register.specs.Text.{writeAll}
-use Rattle.stabbing.proofs.Marks.{by-test}
 use Rattle.model.specs.declared.Call.{Call}
 use Rattle.model.specs.declared.Call.the-variants.{Enter, Amend, Strike, TakeBack, Publish, Write, Ask}
 use Rattle.model.specs.declared.Question.{Question}
 use Rattle.model.specs.declared.Question.the-variants.{Day, Span, Cover, Days}
 use Rattle.model.specs.Edits.{insert, remove, replace, enterRefusal, amendRefusal, strikeRefusal, takeBackRefusal, remember, frontOr, restOf}
-use Rattle.model.specs.Questions.{onAny, daysOk, rising, listed}
-use Rattle.model.specs.Effects.{State, Request, After, Effect, refused, done, gives, writes, refuse, gave, wrote, settle}
+use Rattle.model.specs.Questions.{onAny, rising, listed}
+use Rattle.model.specs.Effects.{State, withStanding, Request, After, Effect, refused, done, gives, writes, refuse, gave, wrote, settle}
 use Rattle.model.specs.Model.{become, takeBack, publish, reaching, cover, ask, effectOf, step}
 use Rattle.model.proofs.Rules.{fits-given, short-refused, text-fits, text-short}
-
--- what holds of both outcomes of a test holds of the one that is taken
-pub by-cases : {A : Type 0} (P : A → Type 0) (b : Bool) {x y : A} → (b ≡ true → P x) → (b ≡ false → P y) → P (cond b x y)
-by-cases P true p q = p refl
-by-cases P false p q = q refl
 
 -- ---- What comes of an effect
 
@@ -70,7 +57,7 @@ module _ (F : Effect → Type 0) where
 
   -- an edit or a take back: what the check n says, it does
   pub become-does : (m : State) (n : ℕ) (l : List Spell) (p : List (List Spell))
-      → (n ≡ accepted → F (done (record { standing = l; past = p; published = m .published }))) → ((n ≡ accepted → ⊥) → F (refused n)) → F (become n l p m)
+      → (n ≡ accepted → F (done (withStanding l p m))) → ((n ≡ accepted → ⊥) → F (refused n)) → F (become n l p m)
   become-does m n l p made kept = by-cases F (eqb n accepted) (λ e. made (eqb-true n accepted e)) (λ e. kept (eqb-false n accepted e))
 
   -- F holds of whatever a question does
@@ -82,12 +69,12 @@ module _ (F : Effect → Type 0) where
   module _ (no : Refusing) (p : List Spell) where
     pub day-does : (d : ℕ) (ds : List ℕ) → F (reaching d d p) → F (ask (Day d) ds p)
     unfolding ask
-    day-does d ds asked = by-cases F (dayOk d) (λ _. asked) (λ _. no offCalendar (λ e. omega arith))
+    day-does d ds asked = by-cases F (isDay d) (λ _. asked) (λ _. no offCalendar (λ e. omega arith))
 
     pub span-does : (a b : ℕ) (ds : List ℕ) → F (reaching b a p) → F (ask (Span a b) ds p)
     unfolding ask
     span-does a b ds asked =
-        by-cases F (dayOk a && dayOk b)
+        by-cases F (isDay a && isDay b)
         (λ _. by-cases F (leb a b) (λ _. asked) (λ _. no reversed (λ e. omega arith)))
         (λ _. no offCalendar (λ e. omega arith))
 
@@ -115,7 +102,7 @@ module _ (F : Effect → Type 0) where
   module _ (ds : List ℕ) (m : State) (a : Asking ds (m .published)) (written : F (writes (writeAll (m .standing)))) where
     -- any call: an edit or a take back may leave any standing list and any past
     pub call-does : (c : Call)
-        → (reads c ≡ false → (l : List Spell) (p : List (List Spell)) → F (done (record { standing = l; past = p; published = m .published })))
+        → (reads c ≡ false → (l : List Spell) (p : List (List Spell)) → F (done (withStanding l p m)))
         → (c ≡ Publish → F (publish m)) → F (effectOf c ds m)
     unfolding effectOf takeBack
     call-does (Enter s) changed published =

@@ -1,18 +1,9 @@
 -- The spells of a list that pass a test: exactly those, in the order, each number once. Assumes nothing.
-use Prim.Native.Nat.{ℕ, suc, _≤_}
-use native.Mathlib.Omega.{arith}
-use mathlib.Core.Path.{_≡_, refl, sym, ap, _∙_}
-use mathlib.Core.Logic.{_⊎_, inl, inr}
-use mathlib.Core.Bool.{Bool, true, false, not, _||_, cond, false≢true}
-use mathlib.Core.List.{List, [], _∷_, List·Memᴰ, List·Memᴰ·head, List·Memᴰ·tail, List·Memᴰ·not-nil, List·Memᴰ·cases-cons}
-use lib.Dec.{eqb}
-use lib.ListN.{length, length-map}
-use borrow.Author.Tests.{not-true}
+use Rattle.basis.proofs.Prelude.{_∙_, _≡_, ap, refl, sym, _≤_, suc, ℕ, List, List·Memᴰ, List·Memᴰ·cases-cons, List·Memᴰ·head, List·Memᴰ·not-nil, List·Memᴰ·tail, [], _∷_, Bool, _||_, cond, false, false≢true, not, true, _⊎_, inl, inr, eqb, length, length-map, arith, not-true, both}
 use Rattle.spell.specs.declared.Spell.{Spell}
-use Rattle.spell.specs.Order.{earlierOf, ordered}
+use Rattle.spell.specs.Order.{earlierOf, ordered, orderedBy}
 use Rattle.spell.specs.Listing.{stands, distinct, Each}
-use Rattle.spell.proofs.Entered.{both}
-use Rattle.spell.proofs.Order.{ordered-tail, ordered-first, ordered-cons}
+use Rattle.spell.proofs.Order.{text-order, ordered-tail, ordered-first, ordered-cons}
 use Rattle.model.specs.Questions.{filter, listed}
 
 module _ (t : Spell → Bool) where
@@ -72,12 +63,12 @@ module _ (t : Spell → Bool) where
   -- ---- A list in the order stays in the order
 
   pub filter-ordered : (l : List Spell) → ordered l ≡ true → ordered (filter t l) ≡ true
-  unfolding filter ordered
+  unfolding filter orderedBy
   filter-ordered [] h = refl
-  filter-ordered (y ∷ l) h = go (t y) (filter-ordered l (ordered-tail y l h))
+  filter-ordered (y ∷ l) h = go (t y) (filter-ordered l (ordered-tail text-order y l h))
     where
       go : (b : Bool) → ordered (filter t l) ≡ true → ordered (cond b (y ∷ filter t l) (filter t l)) ≡ true
-      go true k = ordered-cons y (filter t l) (filter-each (λ z. earlierOf y z ≡ true) l (ordered-first y l h)) k
+      go true k = ordered-cons text-order y (filter t l) (filter-each (λ z. earlierOf y z ≡ true) l (ordered-first text-order y l h)) k
       go false k = k
 
   -- ---- Unique numbers stay unique

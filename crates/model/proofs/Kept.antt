@@ -1,13 +1,9 @@
 -- The lists of the account stay in the order, their numbers unique, through every call. Assumes nothing.
-use Prim.Native.Nat.{ℕ, zero, suc, _≤_}
-use mathlib.Core.Path.{_≡_, refl}
-use mathlib.Core.Logic.{inl, inr}
-use mathlib.Core.List.{List, [], _∷_, List·Memᴰ, List·Memᴰ·head, List·Memᴰ·tail, List·Memᴰ·not-nil, List·Memᴰ·cases-cons}
-use native.Mathlib.Omega.{arith}
-use lib.ListN.{length, take, length-take}
+use Rattle.basis.proofs.Prelude.{_≡_, refl, _≤_, suc, zero, ℕ, List, List·Memᴰ, List·Memᴰ·cases-cons, List·Memᴰ·head, List·Memᴰ·not-nil, List·Memᴰ·tail, [], _∷_, inl, inr, length, length-take, take, arith}
 use Rattle.refusal.specs.Table.{accepted}
 use Rattle.spell.specs.declared.Spell.{Spell}
-use Rattle.spell.specs.Listing.{Each, Sound, Good}
+use Rattle.spell.specs.Listing.{Sound, Good, Orderly}
+use Rattle.spell.proofs.Order.{text-order, each-map}
 use Rattle.register.specs.Text.{Register, readText}
 use Rattle.register.specs.Text.Register.{good, bad}
 use Rattle.register.proofs.Claims.{text-again}
@@ -16,7 +12,7 @@ use Rattle.model.specs.declared.Call.the-variants.{Enter, Amend, Strike,
 use Rattle.model.specs.Edits.{insert, remove, replace, enterRefusal, amendRefusal, strikeRefusal, remember}
 use Rattle.model.specs.Effects.{State, Request, After, Effect}
 use Rattle.model.specs.Model.{begun, edit, takeBack, effectOf, step}
-use Rattle.model.specs.Reached.{Begun, afresh, reading, after, Orderly, Kept, Brings}
+use Rattle.model.specs.Reached.{Begun, afresh, reading, after, Kept, Brings}
 use Rattle.model.proofs.Edits.{orderly-none, orderly-insert, orderly-remove, orderly-replace}
 use Rattle.model.proofs.Checks.{enters, amends, strike-accepted}
 use Rattle.model.proofs.Effects.{Comes, settles, become-does, asks-does}
@@ -32,15 +28,10 @@ module _ (P : Spell → Type 0) where
 
   kept-none : {m : State} → Orderly P (m .standing) → m .past ≡ [] → m .published ≡ [] → Kept P m
   kept-none o past published =
-      record { standing = o; past = λ l i. absurd (List·Memᴰ·not-nil (rw past at i)); depth = rw past (omega arith); published = rw published (orderly-none P) }
-
-  each-sound : ((s : Spell) → Sound s → P s) → (l : List Spell) → Each Sound l → Each P l
-  unfolding Each
-  each-sound f [] e = tt
-  each-sound f (s ∷ l) e = (f s (e .0), each-sound f l (e .1))
+      record { standing = o; past = λ l i. absurd (List·Memᴰ·not-nil (rw past at i)); depth = rw past (omega arith); published = rw published (orderly-none text-order P) }
 
   pub begun-kept : ((s : Spell) → Sound s → P s) → {m : State} → Begun m → Kept P m
-  begun-kept f afresh = kept-none (orderly-none P) refl refl
+  begun-kept f afresh = kept-none (orderly-none text-order P) refl refl
   begun-kept f (reading text) =
       let none = reading-begins (readText text) in
       kept-none (go (readText text) refl) (none .0) (none .1)
@@ -48,8 +39,8 @@ module _ (P : Spell → Type 0) where
       go : (g : Register) → readText text ≡ g → Orderly P (begun g .standing)
       go (good l) e = unfold begun in
           let g : Good l = text-again text l e .1 in
-          record { each = each-sound f l (g .each); in-order = g .in-order; unique = g .unique; few = g .few }
-      go (bad n line) e = unfold begun in orderly-none P
+          record { each = each-map Sound P f l (g .each); in-order = g .in-order; unique = g .unique; few = g .few }
+      go (bad n line) e = unfold begun in orderly-none text-order P
 
   -- ---- A call
 
@@ -80,14 +71,14 @@ module _ (P : Spell → Type 0) where
     call-keeps (Enter s) b =
         edit-keeps (enterRefusal (m .standing) s) (insert s (m .standing)) (λ e.
         let c = enters (m .standing) s e in
-        orderly-insert P s (m .standing) (k .standing) (b s (inl refl) (c .passes)) (c .free) (c .room))
+        orderly-insert text-order P s (m .standing) (k .standing) (b s (inl refl) (c .passes)) (c .free) (c .room))
     call-keeps (Amend s) b =
         edit-keeps (amendRefusal (m .standing) s) (replace s (m .standing)) (λ e.
         let c = amends (m .standing) s e in
-        orderly-replace P s (m .standing) (k .standing) (b s (inr refl) (c .passes)) (c .there))
+        orderly-replace text-order P s (m .standing) (k .standing) (b s (inr refl) (c .passes)) (c .there))
     call-keeps (Strike n) b =
         edit-keeps (strikeRefusal (m .standing) n) (remove n (m .standing)) (λ e.
-        orderly-remove P n (m .standing) (k .standing) (strike-accepted (m .standing) n .0 e))
+        orderly-remove text-order P n (m .standing) (k .standing) (strike-accepted (m .standing) n .0 e))
     call-keeps TakeBack b = back-keeps (m .past) (k .past) (k .depth)
     call-keeps Publish b = record { standing = k .standing; past = k .past; depth = k .depth; published = k .standing }
     call-keeps Write b = k

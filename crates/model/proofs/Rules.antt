@@ -1,20 +1,13 @@
 -- Document 01's plain account, what begins it and what take back, publish and writing do, as claims of every state. The edits are in
 -- `Editing.antt`, the questions in `Claims.antt`, whole lists of calls in `Runs.antt`. Assumes nothing.
-use Prim.Native.Nat.{ℕ, _≤_, _<_}
-use mathlib.Core.Path.{_≡_, refl}
-use mathlib.Core.List.{List, [], _∷_, _++_}
-use native.Mathlib.Omega.{arith}
-use borrow.Author.Tests.{le-leb, lt-leb, leb-true, leb-false}
-use lib.Dec.{leb}
-use lib.ListN.{length, drop}
+use Rattle.basis.proofs.Prelude.{_≡_, refl, _<_, _≤_, ℕ, List, [], _++_, _∷_, leb, drop, length, arith, le-leb, leb-false, leb-true, lt-leb, by-test}
 use Rattle.refusal.specs.Table.{accepted, noHistory, shortBuffer}
 use Rattle.spell.specs.declared.Spell.{Spell}
 use Rattle.register.specs.Text.{Register, readText, writeAll}
 use Rattle.register.specs.Text.Register.{good, bad}
 use Rattle.register.proofs.Claims.{text-again}
-use Rattle.stabbing.proofs.Marks.{by-test}
 use Rattle.model.specs.declared.Call.the-variants.{TakeBack, Publish, Write}
-use Rattle.model.specs.Effects.{State, Request, Answer, gives, writes, refuse, gave, wrote, settle}
+use Rattle.model.specs.Effects.{State, withStanding, withPublished, Request, Answer, gives, writes, refuse, gave, wrote, settle}
 use Rattle.model.specs.Model.{fresh, begun, takeBack, effectOf, stepOf}
 
 -- ---- The beginning
@@ -59,7 +52,7 @@ module _ (m : State) (q : Request) where
 
   -- TAKE BACK: the standing list becomes the front of the past, which loses it; the published list is as it was
   pub back-takes : (l : List Spell) (past : List (List Spell)) → m .past ≡ l ∷ past
-      → stepOf TakeBack m q ≡ refuse accepted (record { standing = l; past = past; published = m .published }) q
+      → stepOf TakeBack m q ≡ refuse accepted (withStanding l past m) q
   unfolding effectOf takeBack settle
   back-takes l past e = rw e
 
@@ -69,7 +62,7 @@ module _ (m : State) (q : Request) where
   back-refused e = rw e
 
   -- PUBLISH is never refused, and leaves the standing list and the past as they are
-  pub publish-keeps-past : stepOf Publish m q ≡ refuse accepted (record { standing = m .standing; past = m .past; published = m .standing }) q
+  pub publish-keeps-past : stepOf Publish m q ≡ refuse accepted (withPublished (m .standing) m) q
   unfolding effectOf settle
   publish-keeps-past = refl
 

@@ -1,17 +1,9 @@
 -- What is claimed of every list of calls, begun fresh or on any text. Assumes nothing.
-use Prim.Native.Nat.{ℕ, _≤_}
-use mathlib.Core.Path.{_≡_, refl, sym, ap, _∙_}
-use mathlib.Core.Logic.{_⊎_, inl, inr, _↔_}
-use mathlib.Core.Bool.{Bool, true, false, _||_, false≢true}
-use mathlib.Core.List.{List, [], _∷_, _++_, map, List·Memᴰ, List·Memᴰ·head, List·Memᴰ·tail, List·Memᴰ·not-nil, List·Memᴰ·cases-cons}
-use borrow.Author.Tests.{leb-true, le-leb}
-use lib.Dec.{leb}
-use lib.ListN.{length, drop, length-map}
+use Rattle.basis.proofs.Prelude.{_∙_, _≡_, ap, refl, sym, _≤_, ℕ, List, List·Memᴰ, List·Memᴰ·cases-cons, List·Memᴰ·head, List·Memᴰ·not-nil, List·Memᴰ·tail, [], _++_, _∷_, map, Bool, _||_, false, false≢true, true, _↔_, _⊎_, inl, inr, leb, drop, length, length-map, le-leb, leb-true, both, either}
 use Rattle.refusal.specs.Table.{accepted}
 use Rattle.spell.specs.declared.Spell.{Spell}
 use Rattle.spell.specs.Order.{ordered}
 use Rattle.spell.specs.Listing.{distinct, Sound}
-use Rattle.spell.proofs.Entered.{both}
 use Rattle.register.specs.Text.{writeAll, readText}
 use Rattle.register.specs.Text.Register.{good}
 use Rattle.register.proofs.Claims.{list-again}
@@ -22,7 +14,7 @@ use Rattle.model.specs.Questions.{reaches, onDay, onSpan, covers, onAny,
 use Rattle.model.specs.Model.{State, Request, Answer, stepOf, step, run}
 use Rattle.model.specs.Reached.{Begun, after, Kept, Passes, Brings}
 use Rattle.model.proofs.Claims.{Lists, day-lists, span-lists, cover-lists, days-lists, listed-exactly, listed-ordered, listed-once}
-use Rattle.model.proofs.Edits.{orderly-good, one-spell}
+use Rattle.model.proofs.Edits.{one-spell}
 use Rattle.model.proofs.Kept.{begun-kept, after-kept}
 
 -- the answer of a call in a list of calls is that of a step from the state that the calls before it left
@@ -46,7 +38,7 @@ module _ {m₀ : State} (begin : Begun m₀) (calls : List Request) where
 
   -- so the text of the standing list reads back as the standing list
   pub written-again : ((q : Request) → List·Memᴰ q calls → Brings Sound (q .call)) → readText (writeAll (after m₀ calls .standing)) ≡ good (after m₀ calls .standing)
-  written-again b = list-again (after m₀ calls .standing) (orderly-good (always-sound b .standing))
+  written-again b = list-again (after m₀ calls .standing) (always-sound b .standing)
 
 -- ---- The answers of the questions
 
@@ -72,10 +64,6 @@ reaching h l x = (
   λ e. let p = both (leb (x .first) h) (leb l (x .last)) e in (leb-true (x .first) h (p .0), leb-true l (x .last) (p .1)),
   λ f. rw (le-leb (x .first) h (f .0), le-leb l (x .last) (f .1)),
 )
-
-either : (a b : Bool) → a || b ≡ true → (a ≡ true) ⊎ (b ≡ true)
-either true b e = inl refl
-either false b e = inr e
 
 on-any : (ds : List ℕ) (x : Spell) → onAny ds x ≡ true → Fits Days ds [] x
 unfolding onAny

@@ -1,6 +1,6 @@
 -- The edits of the standing list and what they leave in the past (document 01, "The plain account"). Assumes nothing.
 use Prim.Native.Nat.{ℕ}
-use mathlib.Core.Bool.{cond}
+use mathlib.Core.Bool.{Bool, cond}
 use mathlib.Core.List.{List, [], _∷_}
 use lib.Dec.{leb, eqb}
 use lib.ListN.{length, take}
@@ -12,10 +12,14 @@ use Rattle.spell.specs.Listing.{stands}
 
 -- ---- The standing list, kept in the order
 
--- the spell s put in, before the first that is not earlier
-unfoldable pub insert : Spell → List Spell → List Spell
-insert s [] = s ∷ []
-insert s (x ∷ l) = cond (earlierOf x s) (x ∷ insert s l) (s ∷ x ∷ l)
+-- the spell s put in by an order, before the first that is not earlier
+unfoldable pub insertBy : (Spell → Spell → Bool) → Spell → List Spell → List Spell
+insertBy t s [] = s ∷ []
+insertBy t s (x ∷ l) = cond (t x s) (x ∷ insertBy t s l) (s ∷ x ∷ l)
+
+-- the spell s put in by the order
+abbrev pub insert : Spell → List Spell → List Spell
+insert s l = insertBy earlierOf s l
 
 -- the spell of the number k removed
 unfoldable pub remove : ℕ → List Spell → List Spell

@@ -2,9 +2,10 @@
 -- "Refusal table"). Only this page speaks of the lists that a call is lent, of zeros and of refusal 11. Assumes nothing.
 use Prim.Native.Nat.{ℕ}
 use mathlib.Core.Bool.{cond}
-use mathlib.Core.List.{List, _++_}
+use mathlib.Core.List.{List}
 use lib.Dec.{leb}
-use lib.ListN.{length, drop}
+use lib.ListN.{length}
+use Rattle.buffer.specs.Buffer.{over}
 use Rattle.refusal.specs.Table.{accepted, shortBuffer}
 use Rattle.spell.specs.declared.Spell.{Spell}
 use Rattle.model.specs.declared.Call.{Call}
@@ -16,6 +17,14 @@ pub record State : Type 0 where
   pub standing : List Spell
   pub past : List (List Spell)
   pub published : List Spell
+
+-- the standing list becomes l and the past p
+abbrev pub withStanding : List Spell → List (List Spell) → State → State
+withStanding l p m = record { standing = l; past = p; published = m .published }
+
+-- the published list becomes p
+abbrev pub withPublished : List Spell → State → State
+withPublished p m = record { standing = m .standing; past = m .past; published = p }
 
 -- ---- A call with what its lent lists hold beforehand, and its whole answer
 
@@ -52,10 +61,6 @@ pub data Effect : Type 0 where
   writes : List ℕ → Effect
 
 -- ---- What comes of it
-
--- a list in the first places of a lent one, whose later places keep what they held
-abbrev pub over : List ℕ → List ℕ → List ℕ
-over l lent = l ++ drop (length l) lent
 
 -- a number and no more: count, looks and length are 0, and the lent lists keep every place
 abbrev pub refuse : ℕ → State → Request → After

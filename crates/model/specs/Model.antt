@@ -6,7 +6,7 @@ use mathlib.Core.List.{List, [], _∷_}
 use lib.Dec.{leb, eqb}
 use Rattle.refusal.specs.Table.{accepted, offCalendar, reversed, unknownNumber, unsortedDays}
 use Rattle.spell.specs.declared.Spell.{Spell}
-use Rattle.spell.specs.Entry.{dayOk}
+use Rattle.calendar.specs.Calendar.{isDay, daysOk}
 use Rattle.register.specs.Text.{Register, writeAll}
 use Rattle.register.specs.Text.Register.{good, bad}
 use Rattle.model.specs.declared.Call.{Call}
@@ -14,9 +14,9 @@ use Rattle.model.specs.declared.Call.the-variants.{Enter, Amend, Strike,
 use Rattle.model.specs.declared.Question.{Question}
 use Rattle.model.specs.declared.Question.the-variants.{Day, Span, Cover, Days}
 use Rattle.model.specs.Edits.{insert, remove, replace, enterRefusal, amendRefusal, strikeRefusal, takeBackRefusal, remember, frontOr, restOf}
-use Rattle.model.specs.Questions.{reaches, onAny, daysOk, rising, listed, comparisonsOf}
+use Rattle.model.specs.Questions.{reaches, onAny, rising, listed, comparisonsOf}
 use Rattle.model.specs.Effects.{Effect, refused, done, gives, writes, settle}
-pub use Rattle.model.specs.Effects.{State, Request, Answer, After}
+pub use Rattle.model.specs.Effects.{State, withStanding, withPublished, Request, Answer, After}
 
 -- ---- The beginning
 
@@ -27,7 +27,7 @@ fresh = record { standing = []; past = []; published = [] }
 -- reading a register makes a service with that standing list, an empty past and an empty published list; a refused reading
 -- makes a fresh one
 unfoldable pub begun : Register → State
-begun (good l) = record { standing = l; past = []; published = [] }
+begun (good l) = withStanding l [] fresh
 begun (bad n line) = fresh
 
 -- a reading's answer: the refusal's number and its line, counted from 1; 0 and 0 where it is accepted
@@ -43,7 +43,7 @@ lineIn (bad n line) = line
 
 -- where the check n accepts, the standing list becomes l and the past p
 abbrev pub become : ℕ → List Spell → List (List Spell) → State → Effect
-become n l p m = cond (eqb n accepted) (done (record { standing = l; past = p; published = m .published })) (refused n)
+become n l p m = cond (eqb n accepted) (done (withStanding l p m)) (refused n)
 
 -- an edit: the former standing list goes to the front of the past
 abbrev pub edit : ℕ → List Spell → State → Effect
@@ -56,7 +56,7 @@ takeBack past m = become (takeBackRefusal past) (frontOr (m .standing) past) (re
 
 -- the published list becomes the standing list; the past is untouched
 abbrev pub publish : State → Effect
-publish m = done (record { standing = m .standing; past = m .past; published = m .standing })
+publish m = done (withPublished (m .standing) m)
 
 -- ---- Questions, of the published list p
 
@@ -71,8 +71,8 @@ cover k (x ∷ l) p = cond (eqb (x .number) k) (reaching (x .first) (x .last) p)
 
 -- day: 3. Span: 3, 4. Cover: 7. Days, of the list ds: 3 over all, then 10; no looks are reported. Then 11, of each.
 unfoldable pub ask : Question → List ℕ → List Spell → Effect
-ask (Day d) ds p = cond (dayOk d) (reaching d d p) (refused offCalendar)
-ask (Span a b) ds p = cond (dayOk a && dayOk b) (cond (leb a b) (reaching b a p) (refused reversed)) (refused offCalendar)
+ask (Day d) ds p = cond (isDay d) (reaching d d p) (refused offCalendar)
+ask (Span a b) ds p = cond (isDay a && isDay b) (cond (leb a b) (reaching b a p) (refused reversed)) (refused offCalendar)
 ask (Cover k) ds p = cover k p p
 ask Days ds p = cond (daysOk ds) (cond (rising ds) (gives (listed (onAny ds) p) 0) (refused unsortedDays)) (refused offCalendar)
 

@@ -6,7 +6,7 @@ use mathlib.Core.List.{List, [], _∷_, map}
 use lib.Dec.{leb, ltb}
 use lib.ListN.{length}
 use Rattle.spell.specs.declared.Spell.{Spell}
-use Rattle.spell.specs.Entry.{dayOk}
+use Rattle.calendar.specs.Calendar.{isDay}
 use Rattle.stabbing.specs.Tree.{keep, fitsAt, start, formula}
 
 -- ---- Which spells fit
@@ -33,11 +33,6 @@ onAny [] s = false
 onAny (d ∷ ds) s = onDay d s || onAny ds s
 
 -- ---- Lists of days
-
--- every day is on the calendar
-unfoldable pub daysOk : List ℕ → Bool
-daysOk [] = true
-daysOk (d ∷ ds) = dayOk d && daysOk ds
 
 -- strictly rising
 unfoldable pub rising : List ℕ → Bool

@@ -8,8 +8,7 @@ use lib.ListN.{length}
 use Rattle.refusal.specs.Table.{accepted}
 use Rattle.spell.specs.declared.Spell.{Spell}
 use Rattle.spell.specs.Entry.{refusalOf}
-use Rattle.spell.specs.Order.{ordered}
-use Rattle.spell.specs.Listing.{distinct, Each}
+use Rattle.spell.specs.Listing.{Orderly}
 use Rattle.register.specs.Text.{readText}
 use Rattle.model.specs.declared.Call.{Call}
 use Rattle.model.specs.declared.Call.the-variants.{Enter, Amend}
@@ -29,14 +28,7 @@ after m (q ∷ qs) = after (step m q .state) qs
 
 -- ---- Their lists
 
--- a list kept in the order, its numbers unique, at most 1,024, and P true of each spell
-pub record Orderly (P : Spell → Type 0) (l : List Spell) : Type 0 where
-  pub each : Each P l
-  pub in-order : ordered l ≡ true
-  pub unique : distinct l ≡ true
-  pub few : length l ≤ 1024
-
--- such are the standing list, each of at most 64 lists of the past, and the published list
+-- such lists are the standing list, each of at most 64 lists of the past, and the published list
 pub record Kept (P : Spell → Type 0) (m : State) : Type 0 where
   pub standing : Orderly P (m .standing)
   pub past : (l : List Spell) → List·Memᴰ l (m .past) → Orderly P l

@@ -1,14 +1,5 @@
 -- Values written one after the other, and read back: how a loop writes and reads them, and that reading gives back what was written. Assumes nothing.
-use mathlib.Core.Path.{_≡_, refl, sym, ap, _∙_}
-use mathlib.Core.List.{List, [], _∷_, _++_, append-assoc, append-nil}
-use Prim.Native.Nat.{ℕ, zero, suc, _+_, _*_, _≤_, _<_}
-use native.Mathlib.Numerals.{add-one}
-use native.Mathlib.Nat.{suc-mul, zero-mul, le-trans, mul-le-mul-right}
-use native.Mathlib.Decide.{decLe}
-use native.Mathlib.Omega.{arith}
-use borrow.Author.Tests.{le-leb, lt-leb}
-use lib.ListN.{length, getD, take, drop, set, length-append, length-drop, drop-of-length-le}
-use lib.Seq.{take-at, drop-at, drop-drop, drop-append-add, take-suc, drop-cons, set-at, append-snoc, sets, sets-eq, length-sets, length-take-le, take-all}
+use Rattle.basis.proofs.Prelude.{_∙_, _≡_, ap, refl, sym, _*_, _+_, _<_, _≤_, suc, zero, ℕ, List, [], _++_, _∷_, append-assoc, append-nil, drop, drop-of-length-le, getD, length, length-append, length-drop, set, take, append-snoc, drop-append-add, drop-at, drop-cons, drop-drop, length-sets, length-take-le, set-at, sets, sets-eq, take-all, take-at, take-suc, le-trans, mul-le-mul-right, suc-mul, zero-mul, add-one, decLe, arith, le-leb, lt-leb}
 use Rattle.packing.specs.Blocks.{put, written, parts, Every, Put, PutAll}
 
 -- ---- Words put into a list

@@ -1,12 +1,11 @@
 -- Worked examples: a spell's words at the edges of its numbers, and the urgency of a kind and a value. Assumes nothing.
-use mathlib.Core.Path.{_≡_, refl}
-use mathlib.Core.List.{List, [], _∷_}
-use Prim.Native.Nat.{ℕ}
+use Rattle.basis.proofs.Prelude.{_≡_, refl, ℕ, List, [], _∷_}
 use lib.Ieee.{binary32, ofBits, toBits}
 use Rattle.spell.specs.declared.Urgency.{Urgency}
 use Rattle.spell.specs.declared.Urgency.the-variants.{Grade, Reading}
 use Rattle.spell.specs.declared.Spell.{Spell}
-use Rattle.packing.specs.Words.{urgencyOf, noSpell, spellWords, spellOf}
+use Rattle.spell.specs.Blank.{blank}
+use Rattle.packing.specs.Words.{urgencyOf, spellWords, spellOf}
 
 -- five fields that differ, each of more than 8 bits
 abbrev of : Urgency → Spell
@@ -52,7 +51,7 @@ high-read : spellOf (words 0 1 1) ≡ of (Grade 0)
 unfolding spellOf urgencyOf
 high-read = refl
 
-six-read : spellOf (1 ∷ 2 ∷ 3 ∷ 4 ∷ 0 ∷ 1 ∷ []) ≡ noSpell
+six-read : spellOf (1 ∷ 2 ∷ 3 ∷ 4 ∷ 0 ∷ 1 ∷ []) ≡ blank
 unfolding spellOf
 six-read = refl
 

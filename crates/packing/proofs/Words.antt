@@ -1,17 +1,7 @@
 -- A spell's words read back as the spell. Assumes nothing.
-use mathlib.Core.Path.{_≡_, refl, ap}
-use mathlib.Core.List.{List, _++_}
-use Prim.Native.Nat.{ℕ, _+_, _≤_, _<_}
-use native.Mathlib.Omega.{arith}
-use native.Mathlib.Nat.{div-add-mod', add-zero}
-use native.Mathlib.Numerals.{add-one, add-two, add-three, add-four, add-five, add-six}
-use mathlib.Core.Bool.{true}
-use borrow.Author.Tests.{le-leb, lt-leb, leb-true}
-use lib.Dec.{leb}
+use Rattle.basis.proofs.Prelude.{_≡_, ap, refl, _+_, _<_, _≤_, ℕ, List, _++_, true, leb, drop, getD, length, length-append, length-drop, set, getD-drop, add-zero, div-add-mod', add-five, add-four, add-one, add-six, add-three, add-two, arith, le-leb, leb-true, lt-leb, both}
 use lib.Ieee.{binary32}
 use lib.Ieee.Bits.{ofBits-toBits}
-use lib.ListN.{length, getD, drop, set, length-append, length-drop}
-use lib.Seq.{getD-drop}
 use mir.Val.{Val}
 use denote.Laws.{Is}
 use Rattle.spell.specs.declared.Urgency.{Urgency}
@@ -19,10 +9,11 @@ use Rattle.spell.specs.declared.Urgency.the-variants.{Grade, Reading}
 use Rattle.spell.specs.declared.Spell.{Spell}
 use Rattle.spell.specs.Entry.{urgencyOk}
 use Rattle.spell.specs.Listing.{HeldUrgency, Sound}
-use Rattle.spell.proofs.Entered.{both, entered}
+use Rattle.spell.proofs.Entered.{entered}
 use Rattle.spell.proofs.Urgency.{the-row as urgency-row}
 use Rattle.spell.proofs.Spell.{the-row as spell-row}
-use Rattle.packing.specs.Words.{kindOf, valueOf, urgencyOf, Narrow, low, high, joined, noSpell, spellWords, spellOf}
+use Rattle.spell.specs.Blank.{blank}
+use Rattle.packing.specs.Words.{kindOf, valueOf, urgencyOf, Narrow, low, high, joined, spellWords, spellOf}
 use Rattle.packing.specs.Blocks.{put}
 use Rattle.packing.proofs.Blocks.{put-sets}
 
@@ -78,7 +69,7 @@ pub spell-at : (l : List ℕ) (at : ℕ) → at + 7 ≤ length l → spellOf (dr
 unfolding spellOf
 spell-at l at h = simp (le-leb 7 (length (drop at l)) (omega (arith, length-drop at l)), getD-drop, add-zero)
 
-pub spell-none : (l : List ℕ) (at : ℕ) → length l < at + 7 → spellOf (drop at l) ≡ noSpell
+pub spell-none : (l : List ℕ) (at : ℕ) → length l < at + 7 → spellOf (drop at l) ≡ blank
 unfolding spellOf
 spell-none l at h = simp (lt-leb 7 (length (drop at l)) (omega (arith, length-drop at l)))
 

@@ -8,6 +8,7 @@ use lib.ListN.{length, getD}
 use Rattle.spell.specs.declared.Urgency.{Urgency}
 use Rattle.spell.specs.declared.Urgency.the-variants.{Grade, Reading}
 use Rattle.spell.specs.declared.Spell.{Spell}
+use Rattle.spell.specs.Blank.{blank}
 
 -- ---- An urgency in two numbers
 
@@ -45,9 +46,6 @@ unfoldable pub spellWords : Spell → List ℕ
 spellWords s =
     s .number ∷ s .candidate ∷ s .first ∷ s .last ∷ kindOf (s .urgency) ∷ low (valueOf (s .urgency)) ∷ high (valueOf (s .urgency)) ∷ []
 
-abbrev pub noSpell : Spell
-noSpell = record { number = 0; candidate = 0; first = 0; last = 0; urgency = Grade 0 }
-
 -- the spell of the first seven words; one of zeros where there are fewer
 unfoldable pub spellOf : List ℕ → Spell
 spellOf l =
@@ -59,4 +57,4 @@ spellOf l =
       last = getD l 3 0;
       urgency = urgencyOf (getD l 4 0) (joined (getD l 5 0) (getD l 6 0));
     })
-    noSpell
+    blank

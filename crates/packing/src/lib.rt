@@ -3,7 +3,7 @@
 ghost use mathlib.Core.Path.{_≡_};
 ghost use lib.ListN.{drop};
 ghost use Rattle.packing.specs.Blocks.{parts, Put, PutAll};
-ghost use Rattle.packing.specs.Words.{kindOf, valueOf, urgencyOf, low, high, joined, noSpell, spellWords, spellOf};
+ghost use Rattle.packing.specs.Words.{kindOf, valueOf, urgencyOf, low, high, joined, spellWords, spellOf};
 use spell::Spell;
 use spell::Urgency;
 
@@ -89,27 +89,15 @@ pub fn put_spell(s: Spell, out: &mut [u16], at: usize)
     out[at + 6] = high;
 }
 
-fn none() -> Spell
-    ensures { λ r. ⌜ r ≡ noSpell ⌝ }
-{
-    Spell {
-        number: 0,
-        candidate: 0,
-        first: 0,
-        last: 0,
-        urgency: Urgency::Grade(0),
-    }
-}
-
 // The spell of the seven words at the place `at`; where there are not seven, one of zeros.
 pub fn spell_at(words: &[u16], at: usize) -> Spell
     ensures { λ r. ⌜ r ≡ spellOf (drop at (now (words .entry))) ⌝ }
 {
     if words.len() < 7 {
-        return none();
+        return spell::blank();
     }
     if words.len() - 7 < at {
-        return none();
+        return spell::blank();
     }
     let value = join(words[at + 5], words[at + 6]);
     let urgency = urgency_of(words[at + 4], value);
@@ -143,7 +131,7 @@ pub fn put_spells(spells: [Spell; 1024], out: &mut [u16])
 pub fn spells_at(words: &[u16]) -> [Spell; 1024]
     ensures { λ r. ⌜ r ≡ parts 7 spellOf 1024 (now (words .entry)) ⌝ }
 {
-    let mut spells = [none(); 1024];
+    let mut spells = [spell::blank(); 1024];
     let mut i = 0;
     while i < 1024 {
         spells[i] = spell_at(words, 7 * i);

@@ -1,17 +1,15 @@
 -- A history's call is the contract of an exported function itself, as the prover reads it: each contract gives one; and what each asks.
 -- Assumes nothing.
-use mathlib.Core.Path.{_≡_, refl}
-use Prim.Native.Nat.{ℕ}
-use mathlib.Core.List.{List, []}
+use Rattle.basis.proofs.Prelude.{_≡_, refl, ℕ, List, []}
 use contract.Lifetimes.{Lfts}
 use denote.Ref.{RefT, now}
 use Rattle.register.specs.Text.{readText}
 use Rattle.model.specs.declared.Call.the-variants.{Enter, Amend, Strike, TakeBack, Publish, Write, Ask}
 use Rattle.model.specs.declared.Question.the-variants.{Day, Span, Cover, Days}
 use Rattle.model.specs.Model.{fresh, begun}
-use Rattle.standing.specs.Places.{freshStanding}
-use Rattle.standing.specs.Packed.{packed, unpacked}
-use Rattle.service.specs.Service.{asking, indexOf, Represents, Published, Begins}
+use Rattle.service.specs.Places.{freshService}
+use Rattle.service.specs.Packed.{packed, unpacked}
+use Rattle.service.specs.Service.{Blocks, blocks, asking, indexOf, Represents, Published, Begins}
 use Rattle.phayaklit.specs.declared.Entry.{Entry}
 use Rattle.phayaklit.specs.declared.Reply.{Reply}
 use Rattle.phayaklit.specs.declared.Opened.{Opened}
@@ -35,39 +33,39 @@ use Rattle.phayaklit.proofs.phayaklit_version.Reads as version-reads
 -- ---- The beginning
 
 pub fresh-is : (κs : Lfts 2) (words words′ index index′ : RefT (List ℕ)) (u : Unit {0})
-    → fresh-reads.Post κs (words, (index, tt)) u (words′, (index′, tt)) ≡ (Represents (unpacked (now words′)) (now index′) fresh × (Laid (now words′) × (now words′ ≡ packed freshStanding)))
+    → fresh-reads.Post κs (words, (index, tt)) u (words′, (index′, tt)) ≡ (Represents (unpacked (now words′)) (blocks (now index′)) fresh × (Laid (now words′) × (now words′ ≡ packed freshService)))
 fresh-is κs words words′ index index′ u = refl
 
 pub fresh-opens : (κs : Lfts 2) (words words′ index index′ : RefT (List ℕ)) (u : Unit {0})
-    → fresh-reads.Post κs (words, (index, tt)) u (words′, (index′, tt)) → Opens (now words′) (now index′) fresh
+    → fresh-reads.Post κs (words, (index, tt)) u (words′, (index′, tt)) → Opens (now words′) (blocks (now index′)) fresh
 fresh-opens κs words words′ index index′ u f = (f .0, f .1 .0)
 
 module _ (κs : Lfts 3) (text words words′ index index′ : RefT (List ℕ)) (r : Opened) where
   pub read-is : read-reads.Post κs (text, (words, (index, tt))) r (text, (words′, (index′, tt)))
-      ≡ (Begins (readText (now text)) (startedOf (now words′) r) (now index′) × Laid (now words′))
+      ≡ (Begins (readText (now text)) (startedOf (now words′) r) (blocks (now index′)) × Laid (now words′))
   read-is = refl
 
   pub read-opens : read-reads.Post κs (text, (words, (index, tt))) r (text, (words′, (index′, tt)))
-      → Opens (now words′) (now index′) (begun (readText (now text)))
+      → Opens (now words′) (blocks (now index′)) (begun (readText (now text)))
   read-opens b = (b .0 .represents, b .1)
 
 -- ---- Edits
 
-module _ (κs : Lfts 1) (words words′ : RefT (List ℕ)) (r : Reply) {ix days numbers text : List ℕ} where
+module _ (κs : Lfts 1) (words words′ : RefT (List ℕ)) (r : Reply) {bs : Blocks} {days numbers text : List ℕ} where
   pub enter-called : (e : Entry) → (enter-reads.Pre κs (words, (e, tt)) → enter-reads.Post κs (words, (e, tt)) r (words′, (e, tt)))
-      → Called (now words) ix (asking (Enter (spellIn e)) days numbers text) r (now words′) ix numbers text
+      → Called (now words) bs (asking (Enter (spellIn e)) days numbers text) r (now words′) bs numbers text
   enter-called e met = edited (Enter (spellIn e)) r met
 
   pub amend-called : (e : Entry) → (amend-reads.Pre κs (words, (e, tt)) → amend-reads.Post κs (words, (e, tt)) r (words′, (e, tt)))
-      → Called (now words) ix (asking (Amend (spellIn e)) days numbers text) r (now words′) ix numbers text
+      → Called (now words) bs (asking (Amend (spellIn e)) days numbers text) r (now words′) bs numbers text
   amend-called e met = edited (Amend (spellIn e)) r met
 
   pub strike-called : (n : ℕ) → (strike-reads.Pre κs (words, (n, tt)) → strike-reads.Post κs (words, (n, tt)) r (words′, (n, tt)))
-      → Called (now words) ix (asking (Strike n) days numbers text) r (now words′) ix numbers text
+      → Called (now words) bs (asking (Strike n) days numbers text) r (now words′) bs numbers text
   strike-called n met = edited (Strike n) r met
 
   pub take-back-called : (take-back-reads.Pre κs (words, tt) → take-back-reads.Post κs (words, tt) r (words′, tt))
-      → Called (now words) ix (asking TakeBack days numbers text) r (now words′) ix numbers text
+      → Called (now words) bs (asking TakeBack days numbers text) r (now words′) bs numbers text
   take-back-called met = edited TakeBack r met
 
 -- ---- Publish and writing
@@ -75,33 +73,33 @@ module _ (κs : Lfts 1) (words words′ : RefT (List ℕ)) (r : Reply) {ix days 
 module _ (κs : Lfts 2) (words : RefT (List ℕ)) (r : Reply) where
   pub publish-called : (index index′ : RefT (List ℕ)) {days numbers text : List ℕ}
       → (publish-reads.Pre κs (words, (index, tt)) → publish-reads.Post κs (words, (index, tt)) r (words, (index′, tt)))
-      → Called (now words) (now index) (asking Publish days numbers text) r (now words) (now index′) numbers text
+      → Called (now words) (blocks (now index)) (asking Publish days numbers text) r (now words) (blocks (now index′)) numbers text
   publish-called index index′ met = published r met
 
-  pub write-called : (text text′ : RefT (List ℕ)) {ix days numbers : List ℕ}
+  pub write-called : (text text′ : RefT (List ℕ)) {bs : Blocks} {days numbers : List ℕ}
       → (write-reads.Pre κs (words, (text, tt)) → write-reads.Post κs (words, (text, tt)) r (words, (text′, tt)))
-      → Called (now words) ix (asking Write days numbers (now text)) r (now words) ix numbers (now text′)
+      → Called (now words) bs (asking Write days numbers (now text)) r (now words) bs numbers (now text′)
   write-called text text′ met = wrote r met
 
 -- ---- Questions
 
 module _ (κs : Lfts 2) (index numbers numbers′ : RefT (List ℕ)) (r : Reply) {words days text : List ℕ} where
   pub day-called : (d : ℕ) → (day-reads.Pre κs (index, (d, (numbers, tt))) → day-reads.Post κs (index, (d, (numbers, tt))) r (index, (d, (numbers′, tt))))
-      → Called words (now index) (asking (Ask (Day d)) days (now numbers) text) r words (now index) (now numbers′) text
+      → Called words (blocks (now index)) (asking (Ask (Day d)) days (now numbers) text) r words (blocks (now index)) (now numbers′) text
   day-called d met = asked (Day d) r (λ p. met p days)
 
   pub span-called : (a b : ℕ)
       → (span-reads.Pre κs (index, (a, (b, (numbers, tt)))) → span-reads.Post κs (index, (a, (b, (numbers, tt)))) r (index, (a, (b, (numbers′, tt)))))
-      → Called words (now index) (asking (Ask (Span a b)) days (now numbers) text) r words (now index) (now numbers′) text
+      → Called words (blocks (now index)) (asking (Ask (Span a b)) days (now numbers) text) r words (blocks (now index)) (now numbers′) text
   span-called a b met = asked (Span a b) r (λ p. met p days)
 
   pub cover-called : (n : ℕ) → (cover-reads.Pre κs (index, (n, (numbers, tt))) → cover-reads.Post κs (index, (n, (numbers, tt))) r (index, (n, (numbers′, tt))))
-      → Called words (now index) (asking (Ask (Cover n)) days (now numbers) text) r words (now index) (now numbers′) text
+      → Called words (blocks (now index)) (asking (Ask (Cover n)) days (now numbers) text) r words (blocks (now index)) (now numbers′) text
   cover-called n met = asked (Cover n) r (λ p. met p days)
 
 pub days-called : (κs : Lfts 3) (index days numbers numbers′ : RefT (List ℕ)) (r : Reply) {words text : List ℕ}
     → (days-reads.Pre κs (index, (days, (numbers, tt))) → days-reads.Post κs (index, (days, (numbers, tt))) r (index, (days, (numbers′, tt))))
-    → Called words (now index) (asking (Ask Days) (now days) (now numbers) text) r words (now index) (now numbers′) text
+    → Called words (blocks (now index)) (asking (Ask Days) (now days) (now numbers) text) r words (blocks (now index)) (now numbers′) text
 days-called κs index days numbers numbers′ r met = asked Days r met
 
 -- ---- What each asks: at the beginning nothing, and else that the words, or the index, are what the calls gave

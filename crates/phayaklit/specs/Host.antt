@@ -4,8 +4,8 @@ use mathlib.Core.Path.{_≡_}
 use mathlib.Core.List.{List}
 use Rattle.spell.specs.declared.Spell.{Spell}
 use Rattle.packing.specs.Words.{urgencyOf}
-use Rattle.standing.specs.Standing.{Wf}
-use Rattle.standing.specs.Packed.{packed, unpacked}
+use Rattle.service.specs.Packed.{packed, unpacked}
+use Rattle.service.specs.Service.{Valid}
 use Rattle.service.specs.declared.Outcome.{Outcome}
 use Rattle.service.specs.declared.Stepped.{Stepped}
 use Rattle.service.specs.declared.Started.{Started}
@@ -19,7 +19,7 @@ version = 1
 
 -- the words of a service that the calls gave
 abbrev pub Held : List ℕ → Type 0
-Held words = Wf (unpacked words)
+Held words = Valid (unpacked words)
 
 -- every word of a block that a call wrote: the words are those of the service that they hold
 abbrev pub Laid : List ℕ → Type 0

@@ -5,18 +5,17 @@ ghost use Prim.Native.Nat.{ℕ};
 ghost use mathlib.Core.List.{List, []};
 ghost use Rattle.model.specs.Model.{fresh};
 ghost use Rattle.register.specs.Text.{readText};
-ghost use Rattle.standing.specs.Standing.{Wf};
-ghost use Rattle.standing.specs.Places.{freshStanding};
-ghost use Rattle.standing.specs.Packed.{packed, unpacked};
-ghost use Rattle.service.specs.Service.{indexOf, Represents, Published, Changed, Publishes, Asked, Wrote, Begins};
+ghost use Rattle.service.specs.Places.{freshService};
+ghost use Rattle.service.specs.Packed.{packed, unpacked};
+ghost use Rattle.service.specs.Service.{blocks, indexOf, Valid, Represents, Published, Changed, Publishes, Asked, Wrote, Begins};
 ghost use Rattle.phayaklit.specs.Host.{version, Held, Laid, spellIn, outcomeOf, steppedOf, startedOf};
 use model::Call;
 use model::Question;
 use service::Outcome;
+use service::SERVICE;
 use service::Stepped;
 use spell::Spell;
 use stabbing::INDEX;
-use standing::words::SERVICE;
 
 // A spell as a host gives it. Kind 0 is a grade, and `value` is the grade; kind 1 is a reading, and `value` is its bits. Any other
 // kind, and a grade above 65,535, is a bad urgency, which is refused in its turn among the checks.
@@ -73,13 +72,13 @@ fn answered(o: Outcome) -> Reply
 
 // What an edit gave, with its service in the host's words.
 fn put_back(r: Stepped, words: &mut [u16; SERVICE]) -> Reply
-    requires { ⌜ Wf (r .service) ⌝ }
+    requires { ⌜ Valid (r .service) ⌝ }
     ensures { λ x. ⌜ steppedOf (now (words .exit)) x ≡ r ⌝ }
     ensures { λ _. ⌜ Laid (now (words .exit)) ⌝ }
 {
     let service = r.service;
     let outcome = r.outcome;
-    standing::words::pack(service, words);
+    service::pack(service, words);
     answered(outcome)
 }
 
@@ -108,12 +107,12 @@ pub extern "C" fn phayaklit_fresh_index(index: &mut [u16; INDEX])
 // A fresh service: nothing stands, nothing is published, and there is no past.
 #[no_mangle]
 pub extern "C" fn phayaklit_fresh(words: &mut [u16; SERVICE], index: &mut [u16; INDEX])
-    ensures { λ _. ⌜ Represents (unpacked (now (words .exit))) (now (index .exit)) fresh ⌝ }
+    ensures { λ _. ⌜ Represents (unpacked (now (words .exit))) (blocks (now (index .exit))) fresh ⌝ }
     ensures { λ _. ⌜ Laid (now (words .exit)) ⌝ }
-    ensures { λ _. ⌜ now (words .exit) ≡ packed freshStanding ⌝ }
+    ensures { λ _. ⌜ now (words .exit) ≡ packed freshService ⌝ }
 {
     let service = service::fresh(index);
-    standing::words::pack(service, words);
+    service::pack(service, words);
 }
 
 // The service that a register text makes; a refused text makes a fresh one.
@@ -123,12 +122,12 @@ pub extern "C" fn phayaklit_read(
     words: &mut [u16; SERVICE],
     index: &mut [u16; INDEX],
 ) -> Opened
-    ensures { λ r. ⌜ Begins (readText (now (text .entry))) (startedOf (now (words .exit)) r) (now (index .exit)) ⌝ }
+    ensures { λ r. ⌜ Begins (readText (now (text .entry))) (startedOf (now (words .exit)) r) (blocks (now (index .exit))) ⌝ }
     ensures { λ _. ⌜ Laid (now (words .exit)) ⌝ }
 {
     let got = service::read(text, index);
     let service = got.service;
-    standing::words::pack(service, words);
+    service::pack(service, words);
     Opened {
         refusal: got.refusal,
         line: got.line,
@@ -144,7 +143,7 @@ pub extern "C" fn phayaklit_enter(words: &mut [u16; SERVICE], entry: Entry) -> R
     ensures { λ r. ⌜ Changed (unpacked (now (words .entry))) (Call.Enter (spellIn entry)) (steppedOf (now (words .exit)) r) ⌝ }
     ensures { λ _. ⌜ Laid (now (words .exit)) ⌝ }
 {
-    let service = standing::words::unpack(words);
+    let service = service::unpack(words);
     put_back(service::enter(service, spell_in(entry)), words)
 }
 
@@ -155,7 +154,7 @@ pub extern "C" fn phayaklit_amend(words: &mut [u16; SERVICE], entry: Entry) -> R
     ensures { λ r. ⌜ Changed (unpacked (now (words .entry))) (Call.Amend (spellIn entry)) (steppedOf (now (words .exit)) r) ⌝ }
     ensures { λ _. ⌜ Laid (now (words .exit)) ⌝ }
 {
-    let service = standing::words::unpack(words);
+    let service = service::unpack(words);
     put_back(service::amend(service, spell_in(entry)), words)
 }
 
@@ -166,7 +165,7 @@ pub extern "C" fn phayaklit_strike(words: &mut [u16; SERVICE], number: u16) -> R
     ensures { λ r. ⌜ Changed (unpacked (now (words .entry))) (Call.Strike number) (steppedOf (now (words .exit)) r) ⌝ }
     ensures { λ _. ⌜ Laid (now (words .exit)) ⌝ }
 {
-    let service = standing::words::unpack(words);
+    let service = service::unpack(words);
     put_back(service::strike(service, number), words)
 }
 
@@ -177,7 +176,7 @@ pub extern "C" fn phayaklit_take_back(words: &mut [u16; SERVICE]) -> Reply
     ensures { λ r. ⌜ Changed (unpacked (now (words .entry))) Call.TakeBack (steppedOf (now (words .exit)) r) ⌝ }
     ensures { λ _. ⌜ Laid (now (words .exit)) ⌝ }
 {
-    let service = standing::words::unpack(words);
+    let service = service::unpack(words);
     put_back(service::take_back(service), words)
 }
 
@@ -187,9 +186,9 @@ pub extern "C" fn phayaklit_take_back(words: &mut [u16; SERVICE]) -> Reply
 #[no_mangle]
 pub extern "C" fn phayaklit_publish(words: &[u16; SERVICE], index: &mut [u16; INDEX]) -> Reply
     requires { ⌜ Held (now words) ⌝ }
-    ensures { λ r. ⌜ Publishes (unpacked (now (words .entry))) (steppedOf (now (words .entry)) r) (now (index .exit)) ⌝ }
+    ensures { λ r. ⌜ Publishes (unpacked (now (words .entry))) (steppedOf (now (words .entry)) r) (blocks (now (index .exit))) ⌝ }
 {
-    let service = standing::words::unpack(words);
+    let service = service::unpack(words);
     let r = service::publish(service, index);
     answered(r.outcome)
 }
@@ -200,7 +199,7 @@ pub extern "C" fn phayaklit_write(words: &[u16; SERVICE], text: &mut [u8]) -> Re
     requires { ⌜ Held (now words) ⌝ }
     ensures { λ r. ⌜ Wrote (unpacked (now (words .entry))) (now (text .entry)) (outcomeOf r) (now (text .exit)) ⌝ }
 {
-    let service = standing::words::unpack(words);
+    let service = service::unpack(words);
     answered(service::write(service, text))
 }
 
@@ -210,7 +209,7 @@ pub extern "C" fn phayaklit_write(words: &[u16; SERVICE], text: &mut [u8]) -> Re
 #[no_mangle]
 pub extern "C" fn phayaklit_day(index: &[u16; INDEX], d: u16, numbers: &mut [u16]) -> Reply
     requires { ⌜ Published (now index) ⌝ }
-    ensures { λ r. ⌜ ((days : List ℕ) → Asked (now (index .entry)) (Question.Day d) days (now (numbers .entry)) (outcomeOf r) (now (numbers .exit))) ⌝ }
+    ensures { λ r. ⌜ ((days : List ℕ) → Asked (blocks (now (index .entry))) (Question.Day d) days (now (numbers .entry)) (outcomeOf r) (now (numbers .exit))) ⌝ }
 {
     answered(service::day(index, d, numbers))
 }
@@ -219,7 +218,7 @@ pub extern "C" fn phayaklit_day(index: &[u16; INDEX], d: u16, numbers: &mut [u16
 #[no_mangle]
 pub extern "C" fn phayaklit_span(index: &[u16; INDEX], a: u16, b: u16, numbers: &mut [u16]) -> Reply
     requires { ⌜ Published (now index) ⌝ }
-    ensures { λ r. ⌜ ((days : List ℕ) → Asked (now (index .entry)) (Question.Span a b) days (now (numbers .entry)) (outcomeOf r) (now (numbers .exit))) ⌝ }
+    ensures { λ r. ⌜ ((days : List ℕ) → Asked (blocks (now (index .entry))) (Question.Span a b) days (now (numbers .entry)) (outcomeOf r) (now (numbers .exit))) ⌝ }
 {
     answered(service::span(index, a, b, numbers))
 }
@@ -228,7 +227,7 @@ pub extern "C" fn phayaklit_span(index: &[u16; INDEX], a: u16, b: u16, numbers: 
 #[no_mangle]
 pub extern "C" fn phayaklit_cover(index: &[u16; INDEX], number: u16, numbers: &mut [u16]) -> Reply
     requires { ⌜ Published (now index) ⌝ }
-    ensures { λ r. ⌜ ((days : List ℕ) → Asked (now (index .entry)) (Question.Cover number) days (now (numbers .entry)) (outcomeOf r) (now (numbers .exit))) ⌝ }
+    ensures { λ r. ⌜ ((days : List ℕ) → Asked (blocks (now (index .entry))) (Question.Cover number) days (now (numbers .entry)) (outcomeOf r) (now (numbers .exit))) ⌝ }
 {
     answered(service::cover(index, number, numbers))
 }
@@ -237,7 +236,7 @@ pub extern "C" fn phayaklit_cover(index: &[u16; INDEX], number: u16, numbers: &m
 #[no_mangle]
 pub extern "C" fn phayaklit_days(index: &[u16; INDEX], days: &[u16], numbers: &mut [u16]) -> Reply
     requires { ⌜ Published (now index) ⌝ }
-    ensures { λ r. ⌜ Asked (now (index .entry)) Question.Days (now (days .entry)) (now (numbers .entry)) (outcomeOf r) (now (numbers .exit)) ⌝ }
+    ensures { λ r. ⌜ Asked (blocks (now (index .entry))) Question.Days (now (days .entry)) (now (numbers .entry)) (outcomeOf r) (now (numbers .exit)) ⌝ }
 {
     answered(service::days(index, days, numbers))
 }

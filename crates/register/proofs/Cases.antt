@@ -1,7 +1,5 @@
 -- Document 01's Register A, read and written, and single refusals. Assumes nothing.
-use mathlib.Core.Path.{_≡_, refl}
-use mathlib.Core.List.{List, [], _∷_}
-use Prim.Native.Nat.{ℕ}
+use Rattle.basis.proofs.Prelude.{_≡_, refl, ℕ, List, [], _∷_}
 use lib.Ieee.{binary32, isNan, ofBits, toBits}
 use Rattle.spell.specs.declared.Urgency.{Urgency}
 use Rattle.spell.specs.declared.Urgency.the-variants.{Grade, Reading}

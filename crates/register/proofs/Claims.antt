@@ -1,8 +1,5 @@
 -- What the register text is for: the round trip of reading and writing, and the length of a text. Assumes nothing.
-use Prim.Native.Nat.{ℕ, _≤_}
-use mathlib.Core.Path.{_≡_}
-use mathlib.Core.List.{List}
-use lib.ListN.{length}
+use Rattle.basis.proofs.Prelude.{_≡_, _≤_, ℕ, List, length}
 use Rattle.spell.specs.declared.Spell.{Spell}
 use Rattle.spell.specs.Entry.{refusalOf}
 use Rattle.spell.specs.Listing.{Sound, Good}

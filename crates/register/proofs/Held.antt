@@ -1,16 +1,12 @@
 -- What the answer of a reading holds, for whoever takes it on. Assumes nothing.
-use mathlib.Core.Path.{_≡_, refl, sym, _∙_, subst}
-use mathlib.Core.List.{List, [], _++_}
-use Prim.Native.Nat.{ℕ, _-_}
-use native.Mathlib.Omega.{arith}
-use lib.ListN.{length, take, replicate, length-append, length-replicate}
-use lib.Seq.{take-at}
+use Rattle.basis.proofs.Prelude.{_∙_, _≡_, refl, subst, sym, _-_, ℕ, List, [], _++_, length, length-append, length-replicate, replicate, take, take-at, arith}
 use Rattle.spell.specs.declared.Spell.{Spell}
-use Rattle.spell.specs.Order.{ordered}
+use Rattle.spell.specs.Order.{orderedBy}
 use Rattle.spell.specs.Listing.{distinct, Each, Good}
 use Rattle.register.specs.declared.Reading.{Reading}
 use Rattle.register.specs.Text.{Register, good, bad, readText}
-use Rattle.register.specs.Answers.{blank, readingOf}
+use Rattle.spell.specs.Blank.{blank}
+use Rattle.register.specs.Answers.{readingOf}
 use Rattle.register.proofs.Texts.{written-read}
 
 -- the spells of an answer
@@ -27,7 +23,7 @@ unfolding readingOf
 held-refused k n = refl
 
 none-good : Good []
-unfolding Each ordered distinct
+unfolding Each orderedBy distinct
 none-good = record { each = tt; in-order = refl; unique = refl; few = omega arith }
 
 -- they can stand, whatever the text

@@ -1,10 +1,7 @@
-pub mod Places
 pub mod Widths
 pub mod Ordered
 pub mod Lines
 pub mod Texts
-pub mod Progress
-pub mod Backward
 pub mod Held
 pub mod Claims
 pub mod Cases

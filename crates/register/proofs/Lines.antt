@@ -1,19 +1,12 @@
 -- A line is read as it was written, and what is read is what is written. Assumes nothing.
-use mathlib.Core.Path.{_≡_, refl, sym, ap, _∙_, subst}
-use mathlib.Core.Bool.{true, false, not, false≢true}
-use mathlib.Core.Logic.{inl, inr}
-use mathlib.Core.List.{List, [], _∷_}
-use Prim.Native.Nat.{ℕ, _≤_, _<_}
-use native.Mathlib.Omega.{arith}
-use borrow.Author.Tests.{eqb-true, leb-true}
-use lib.Dec.{leb, eqb}
+use Rattle.basis.proofs.Prelude.{_∙_, _≡_, ap, refl, subst, sym, _<_, _≤_, ℕ, List, [], _∷_, false, false≢true, not, true, inl, inr, eqb, leb, arith, eqb-true, leb-true, both}
 use lib.Ieee.{Float, binary32, isNan, toBits, ofBits}
 use lib.Ieee.Bits.{ofBits-toBits, toBits-ofBits, ofBits-fits}
 use Rattle.spell.specs.declared.Urgency.{Urgency}
 use Rattle.spell.specs.declared.Urgency.the-variants.{Grade, Reading}
 use Rattle.spell.specs.declared.Spell.{Spell}
 use Rattle.spell.specs.Entry.{refusalOf, urgencyOk}
-use Rattle.spell.proofs.Entered.{entered, both}
+use Rattle.spell.proofs.Entered.{entered}
 use Rattle.spell.specs.Listing.{HeldUrgency, Sound}
 use Rattle.fields.specs.Fields.{Found, found, unreadable, onward, passed, readNumber, readBits, decimalOf}
 use Rattle.register.specs.Text.{readLetter, readValue, readUrgency, readLine, urgencyText, lineText}

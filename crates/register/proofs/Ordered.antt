@@ -1,20 +1,17 @@
 -- A list in order, and one spell more at its end. Assumes nothing.
-use mathlib.Core.Path.{_≡_, refl}
-use mathlib.Core.Bool.{true}
-use mathlib.Core.List.{List, [], _∷_, _++_}
+use Rattle.basis.proofs.Prelude.{_≡_, refl, List, [], _++_, _∷_, true, both}
 use Rattle.spell.specs.declared.Spell.{Spell}
-use Rattle.spell.specs.Order.{earlierOf, ordered}
-use Rattle.spell.proofs.Entered.{both}
+use Rattle.spell.specs.Order.{earlierOf, ordered, orderedBy}
 use Rattle.register.specs.Text.{follows}
 
 pub ordered-follows : (l : List Spell) (x : Spell) (m : List Spell) → ordered (l ++ x ∷ m) ≡ true → follows l x ≡ true
-unfolding ordered follows
+unfolding orderedBy follows
 ordered-follows [] x m h = refl
 ordered-follows (a ∷ []) x m h = both (earlierOf a x) (ordered (x ∷ m)) h .0
 ordered-follows (a ∷ b ∷ l) x m h = ordered-follows (b ∷ l) x m (both (earlierOf a b) (ordered (b ∷ (l ++ x ∷ m))) h .1)
 
 pub ordered-more : (l : List Spell) (x : Spell) → ordered l ≡ true → follows l x ≡ true → ordered (l ++ (x ∷ [])) ≡ true
-unfolding ordered follows
+unfolding orderedBy follows
 ordered-more [] x h k = refl
 ordered-more (a ∷ []) x h k = rw k
 ordered-more (a ∷ b ∷ l) x h k =

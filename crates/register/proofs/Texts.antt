@@ -1,18 +1,9 @@
 -- A text is read as it was written, and what is read is what is written. Assumes nothing.
-use mathlib.Core.Path.{_≡_, refl, sym, ap, _∙_, subst}
-use mathlib.Core.Bool.{Bool, true, false, cond, false≢true}
-use mathlib.Core.Logic.{inl, inr}
-use mathlib.Core.List.{List, [], _∷_, _++_, append-nil}
-use Prim.Native.Nat.{ℕ, zero, suc, _+_, _≤_, _<_}
-use native.Mathlib.Omega.{arith}
-use borrow.Author.Tests.{eq-eqb, eqb-true, le-leb}
-use lib.Dec.{leb, eqb}
-use lib.ListN.{length}
-use lib.Seq.{append-snoc}
+use Rattle.basis.proofs.Prelude.{_∙_, _≡_, ap, refl, subst, sym, _+_, _<_, _≤_, suc, zero, ℕ, List, [], _++_, _∷_, append-nil, Bool, cond, false, false≢true, true, inl, inr, eqb, leb, length, append-snoc, arith, eq-eqb, eqb-true, le-leb}
 use Rattle.spell.specs.declared.Spell.{Spell}
 use Rattle.spell.specs.Entry.{refusalOf}
 use Rattle.spell.proofs.Entered.{past}
-use Rattle.spell.specs.Order.{ordered}
+use Rattle.spell.specs.Order.{ordered, orderedBy}
 use Rattle.spell.specs.Listing.{stands, distinct, Each, Sound, Good}
 use Rattle.spell.proofs.Listing.{distinct-fresh, distinct-more}
 use Rattle.fields.specs.Fields.{Found, found, unreadable, readDecimal}
@@ -171,7 +162,7 @@ one-more room before t l s rest e h r =
     }
 
 empty-ordered : ordered [] ≡ true
-unfolding ordered
+unfolding orderedBy
 empty-ordered = refl
 
 empty-distinct : distinct [] ≡ true

@@ -2,17 +2,15 @@
 use mathlib.Core.Path.{_≡_}
 use mathlib.Core.Bool.{cond}
 use lib.Dec.{leb}
-use Prim.Native.Nat.{ℕ, _-_, _≤_}
+use Prim.Native.Nat.{ℕ, _-_}
 use mathlib.Core.List.{List, _++_}
 use lib.ListN.{drop, length, replicate}
+use Rattle.buffer.specs.Buffer.{over}
 use Rattle.refusal.specs.Table.{accepted, shortBuffer}
-use Rattle.spell.specs.declared.Urgency.{Urgency}
-use Rattle.spell.specs.declared.Urgency.the-variants.{Grade}
 use Rattle.spell.specs.declared.Spell.{Spell}
+use Rattle.spell.specs.Blank.{blank}
 use Rattle.fields.specs.Fields.{Found, found, unreadable}
 use Rattle.fields.specs.Answers.{placeOf}
-use Rattle.register.specs.declared.Kind.{Kind}
-use Rattle.register.specs.declared.Kind.the-variants.{Value as KindValue, Malformed as KindMalformed}
 use Rattle.register.specs.declared.Line.{Line}
 use Rattle.register.specs.declared.Line.the-variants.{Value as LineValue, Malformed as LineMalformed}
 use Rattle.register.specs.declared.Reading.{Reading}
@@ -22,14 +20,6 @@ use Rattle.register.specs.Text.{Register, good, bad}
 -- ---- Reading
 
 -- an answer, and what it says: the value with the text from the next place on, or that a field can't be read
-abbrev pub kindAt : List ℕ → Found Urgency → Kind
-kindAt text (found u rest) = KindValue u (placeOf text rest)
-kindAt text unreadable = KindMalformed
-
-abbrev pub kindOf : List ℕ → Kind → Found Urgency
-kindOf text (KindValue u next) = found u (drop next text)
-kindOf text KindMalformed = unreadable
-
 abbrev pub lineAt : List ℕ → Found Spell → Line
 lineAt text (found s rest) = LineValue s (placeOf text rest)
 lineAt text unreadable = LineMalformed
@@ -38,28 +28,12 @@ abbrev pub lineOf : List ℕ → Line → Found Spell
 lineOf text (LineValue s next) = found s (drop next text)
 lineOf text LineMalformed = unreadable
 
--- a place of the list that holds no spell
-abbrev pub blank : Spell
-blank = record { number = 0; candidate = 0; first = 0; last = 0; urgency = Grade 0 }
-
 -- a reading's answer: the spells in the first places and their count, or the refusal's number and line
 unfoldable pub readingOf : Register → Reading
 readingOf (good l) = record { spells = l ++ replicate (1024 - length l) blank; count = length l; refusal = accepted; line = 0 }
 readingOf (bad k n) = record { spells = replicate 1024 blank; count = 0; refusal = k; line = n }
 
 -- ---- Writing
-
--- the scratch list, with n places before the place `at`
-pub record Room (buf : List ℕ) (at n : ℕ) : Type 0 where
-  pub sized : length buf ≡ 35840
-  pub inside : at ≤ 35840
-  pub wide : n ≤ at
-
--- the scratch list, with the text from the place r to its end
-pub record Ends (buf : List ℕ) (r : ℕ) (text : List ℕ) : Type 0 where
-  pub sized : length buf ≡ 35840
-  pub inside : r ≤ 35840
-  pub written : drop r buf ≡ text
 
 -- a text's writing into a lent list of n places: its length, or "short list"
 abbrev pub writtenOf : List ℕ → ℕ → Written
@@ -69,7 +43,7 @@ writtenOf t n =
 -- what the lent list holds after: the text in its first places, and later places as they were; where it is too short
 -- every place is kept
 abbrev pub outOf : List ℕ → List ℕ → List ℕ
-outOf t entry = cond (leb (length t) (length entry)) (t ++ drop (length t) entry) entry
+outOf t entry = cond (leb (length t) (length entry)) (over t entry) entry
 
 pub record Writes (t entry : List ℕ) (r : Written) (exit : List ℕ) : Type 0 where
   pub answer : r ≡ writtenOf t (length entry)

@@ -1,9 +1,6 @@
 -- A coded list of calls worked out: what it codes, and what the account's answers leave in the lists. Assumes nothing.
-use Prim.Native.Nat.{ℕ}
-use mathlib.Core.Path.{_≡_, refl}
-use mathlib.Core.List.{List, [], _∷_, _++_}
+use Rattle.basis.proofs.Prelude.{_≡_, refl, ℕ, List, [], _++_, _∷_, length, replicate}
 use lib.Ieee.{binary32, isNan, toBits, ofBits}
-use lib.ListN.{length, replicate}
 use Rattle.spell.specs.declared.Urgency.the-variants.{Grade, Reading}
 use Rattle.spell.specs.Order.{earlierOf}
 use Rattle.spell.specs.Listing.{stands}
@@ -11,11 +8,14 @@ use Rattle.stabbing.specs.Tree.{below, keep, count, head, next, parent, child, 
 use Rattle.model.specs.declared.Call.{Call}
 use Rattle.model.specs.declared.Call.the-variants.{Enter, Amend, Strike, TakeBack, Publish, Write, Ask}
 use Rattle.model.specs.declared.Question.the-variants.{Day, Span, Cover, Days}
-use Rattle.model.specs.Edits.{insert, enterRefusal, remember}
-use Rattle.model.specs.Questions.{onAny, daysOk, rising, filter, comparisonsOf}
+use Rattle.model.specs.Edits.{insertBy, enterRefusal, remember}
+use Rattle.calendar.specs.Calendar.{daysOk}
+use Rattle.model.specs.Questions.{onAny, rising, filter, comparisonsOf}
 use Rattle.model.specs.Effects.{settle}
 use Rattle.model.specs.Model.{Request, Answer, fresh, ask, effectOf, run}
-use Rattle.replay.specs.Coded.{codeAt, callOf, nextOf, decodeFrom, decode, resultsOf, numbersOf, textsOf, over}
+use Rattle.buffer.specs.Buffer.{over}
+use Rattle.packing.specs.Blocks.{written}
+use Rattle.replay.specs.Coded.{codeAt, callOf, nextOf, decodeFrom, decode, resultsOf, numbersOf, textsOf}
 
 -- enter 11, with a word of more than 16 bits; enter 12, with a reading; publish; day 3, lent three places; days 1 and 4, lent
 -- two places; a number that no call has; and a code of three words
@@ -60,7 +60,7 @@ no-room = refl
 pub answered : (over (resultsOf (run fresh (coded 24))) (results 24)
     ≡ (0 ∷ 0 ∷ 0 ∷ 0 ∷ []) ++ (0 ∷ 0 ∷ 0 ∷ 0 ∷ []) ++ (0 ∷ 0 ∷ 0 ∷ 0 ∷ []) ++ (0 ∷ 2 ∷ 0 ∷ 0 ∷ []) ++ (0 ∷ 2 ∷ 0 ∷ 0 ∷ []) ++ (77 ∷ 77 ∷ 77 ∷ 77 ∷ []))
     × (over (numbersOf (run fresh (coded 24))) lentNumbers ≡ 11 ∷ 12 ∷ 93 ∷ 11 ∷ 12 ∷ 96 ∷ [])
-unfolding decodeFrom codeAt nextOf callOf resultsOf numbersOf run settle effectOf ask enterRefusal insert remember earlierOf stands isNan toBits ofBits
+unfolding decodeFrom codeAt nextOf callOf written run settle effectOf ask enterRefusal insertBy remember earlierOf stands isNan toBits ofBits
     onAny daysOk rising filter comparisonsOf below keep count head next parent child leftSibling lastChild fitsAt start onPath formula
 answered = (refl, refl)
 
@@ -93,5 +93,5 @@ two =
 pub each-place : (over (resultsOf two) (replicate 9 77) ≡ 1 ∷ 2 ∷ 3 ∷ 4 ∷ 5 ∷ 6 ∷ 7 ∷ 8 ∷ 77 ∷ [])
     × ((over (numbersOf two) (replicate 4 77) ≡ 21 ∷ 22 ∷ 23 ∷ 77 ∷ [])
     × (over (textsOf two) (replicate 4 77) ≡ 31 ∷ 32 ∷ 33 ∷ 77 ∷ []))
-unfolding resultsOf numbersOf textsOf
+unfolding written
 each-place = (refl, (refl, refl))

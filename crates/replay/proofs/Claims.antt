@@ -1,15 +1,7 @@
 -- Every list of calls has words, so that the contract of `run` speaks of every list. Assumes nothing.
-use mathlib.Core.Path.{_≡_, refl, sym, ap, _∙_, fun-ext}
-use Prim.Native.Nat.{ℕ, suc, _+_, _*_, _/_, _≤_, _<_, min}
-use mathlib.Core.Bool.{Bool}
-use mathlib.Core.List.{List, [], _∷_, _++_, append-assoc}
-use native.Mathlib.Nat.{zero-add, mod-eq-of-lt}
-use native.Mathlib.Omega.{arith}
-use borrow.Author.Tests.{le-leb}
+use Rattle.basis.proofs.Prelude.{_∙_, _≡_, ap, fun-ext, refl, sym, _*_, _+_, _<_, _≤_, suc, ℕ, List, [], _++_, _∷_, append-assoc, Bool, getD, length, length-append, drop-at, getD-append-add, take-at, mod-eq-of-lt, zero-add, arith, le-leb}
 use lib.Ieee.{binary32}
 use lib.Ieee.Bits.{ofBits-toBits, toBits-lt}
-use lib.ListN.{length, getD, length-append}
-use lib.Seq.{getD-append-add, take-at, drop-at}
 use Rattle.spell.specs.declared.Urgency.{Urgency}
 use Rattle.spell.specs.declared.Urgency.the-variants.{Grade, Reading}
 use Rattle.spell.specs.declared.Spell.{Spell}
@@ -22,11 +14,11 @@ use Rattle.model.specs.Model.{Request, run}
 use Rattle.replay.specs.declared.Code.{Code}
 use Rattle.replay.specs.declared.Next.the-variants.{Go}
 use Rattle.replay.specs.declared.Ran.{Ran}
-use Rattle.replay.specs.Coded.{low16, urgencyOf, word, codeAt, spellOf, callOf, nextOf, decodeFrom, wholeOf, Holds, beginning, Replayed}
+use Rattle.replay.specs.Coded.{codeWidth, resultWidth, low16, urgencyOf, word, codeAt, callOf, nextOf, decodeFrom, wholeOf, Holds, beginning, Replayed}
 use Rattle.replay.specs.Coding.{fieldsOf, Fits, Codable, Coding}
 use Rattle.replay.proofs.Runs.{decode-go}
 
--- ---- The ten words of a call
+-- ---- The words of a call
 
 abbrev opOf : Call → ℕ
 opOf (Enter s) = 1
@@ -89,7 +81,7 @@ next-back q rest d n t f hd hn ht =
 
 -- ---- A code after others
 
-word-at : (pre r : List ℕ) (k j : ℕ) → length pre ≡ 10 * k → word (pre ++ r) k j ≡ word r 0 j
+word-at : (pre r : List ℕ) (k j : ℕ) → length pre ≡ codeWidth * k → word (pre ++ r) k j ≡ word r 0 j
 word-at pre r k j e =
     ap (λ (n : ℕ). getD (pre ++ r) (n + j) 0) (sym e) ∙ getD-append-add pre r j 0 ∙ ap (λ (n : ℕ). getD r n 0) (sym (zero-add j))
 
@@ -108,7 +100,7 @@ codeFrom w = record {
   text = w 9;
 }
 
-code-at : (pre r : List ℕ) (k : ℕ) → length pre ≡ 10 * k → codeAt (pre ++ r) k ≡ codeAt r 0
+code-at : (pre r : List ℕ) (k : ℕ) → length pre ≡ codeWidth * k → codeAt (pre ++ r) k ≡ codeAt r 0
 unfolding codeAt
 code-at pre r k e =
     let words : ℕ → ℕ = λ j. word (pre ++ r) k j in
@@ -131,7 +123,7 @@ abbrev codesOf : List Request → List ℕ
 codesOf qs = written requestWords qs
 
 -- after the codes of k calls, those of qs are qs
-from : (qs : List Request) (pre : List ℕ) (k : ℕ) → length pre ≡ 10 * k → Every Codable qs
+from : (qs : List Request) (pre : List ℕ) (k : ℕ) → length pre ≡ codeWidth * k → Every Codable qs
     → decodeFrom (pre ++ codesOf qs) (length qs) k (daysOf qs) (numbersOf qs) (textOf qs) ≡ qs
 unfolding written Every decodeFrom codeAt
 from [] pre k e f = refl
@@ -153,7 +145,7 @@ from (q ∷ qs) pre k e f =
       next,
     )
 
-codes-long : (qs : List Request) → length (codesOf qs) ≡ 10 * length qs
+codes-long : (qs : List Request) → length (codesOf qs) ≡ codeWidth * length qs
 unfolding written
 codes-long [] = refl
 codes-long (q ∷ qs) = omega (arith, codes-long qs)
@@ -210,7 +202,7 @@ every-coded qs f = record {
 
 -- so THE CLAIM is one about every list: run on its coding, its answers are those of the account's own run of it
 pub every-run : {qs : List Request} (k : Coding qs) (new : Bool) (register results results′ numbers′ text′ : List ℕ) (r : Ran)
-    → 4 * length qs ≤ length results
+    → resultWidth * length qs ≤ length results
     → Replayed new register (k .codes) (daysOf qs) results (numbersOf qs) (textOf qs) r results′ numbers′ text′
     → Holds (run (beginning new register) qs) results (numbersOf qs) (textOf qs) (r .made) results′ numbers′ text′
 every-run k new register results results′ numbers′ text′ r room h = rw (k .decodes results room) at (h .calls)

@@ -1,13 +1,6 @@
 -- A list that is filled from the front, part after part. Assumes nothing.
-use mathlib.Core.Path.{_≡_, sym, _∙_}
-use Prim.Native.Nat.{ℕ, _+_, _≤_}
-use mathlib.Core.List.{List, [], _∷_, _++_, append-assoc}
-use native.Mathlib.Numerals.{add-one, add-two, add-three}
-use native.Mathlib.Omega.{arith}
-use native.Mathlib.Nat.{add-assoc}
-use lib.ListN.{length, take, drop, set, length-append, length-drop, take-append-drop}
-use lib.Seq.{drop-drop, take-at, drop-at, length-take-le, sets-eq}
-use Rattle.replay.specs.Coded.{over}
+use Rattle.basis.proofs.Prelude.{_∙_, _≡_, sym, _+_, _≤_, ℕ, List, [], _++_, append-assoc, drop, length, length-append, length-drop, take, take-append-drop, drop-at, drop-drop, length-take-le, take-at, add-assoc, arith}
+use Rattle.buffer.specs.Buffer.{over}
 
 -- l as it is up to the place at, and new in its places from there on: the whole is all over what the list was, l₀
 abbrev pub Laid : List ℕ → List ℕ → ℕ → List ℕ → List ℕ → Type 0
@@ -38,11 +31,6 @@ module _ (l l′ u : List ℕ) (k m : ℕ) (room : k + m ≤ length l) (long : l
 
   pub laid-more : (l₀ v all : List ℕ) → Laid l₀ l k (u ++ v) all → Laid l₀ l′ (k + m) v all
   laid-more l₀ v all e = put-over v ∙ e
-
--- four stores one after the other
-pub four-stores : (l : List ℕ) (k a b c d : ℕ) → k + 4 ≤ length l
-    → set (set (set (set l k a) (k + 1) b) (k + 2) c) (k + 3) d ≡ (take k l ++ (a ∷ b ∷ c ∷ d ∷ [])) ++ drop (k + 4) l
-four-stores l k a b c d h = rw (add-one, add-two, add-three) (sets-eq (a ∷ b ∷ c ∷ d ∷ []) l k h)
 
 -- a part of k places at the place n, lent and back with u in it
 pub part-back : (l u : List ℕ) (n k m : ℕ) → k ≡ m → take n l ++ (u ++ drop k (drop n l)) ≡ (take n l ++ u) ++ drop (n + m) l

@@ -1,24 +1,16 @@
 -- The loop of `calls`: what is still to come, and what a turn does to it. Assumes nothing.
-use mathlib.Core.Path.{_≡_, refl, sym, ap, _∙_}
-use Prim.Native.Nat.{ℕ, zero, suc, _+_, _-_, _*_, _/_, _≤_, _<_, min}
-use mathlib.Core.Bool.{Bool, true, false, cond}
-use mathlib.Core.List.{List, [], _∷_, _++_}
-use native.Mathlib.Numerals.{add-one}
-use native.Mathlib.Omega.{arith}
-use lib.Dec.{leb}
-use lib.ListN.{length, take, drop, length-drop}
-use lib.Seq.{drop-drop}
-use borrow.Author.Tests.{leb-true}
-use Rattle.standing.specs.declared.Standing.{Standing}
+use Rattle.basis.proofs.Prelude.{_∙_, _≡_, ap, refl, sym, _*_, _+_, _-_, _/_, _<_, _≤_, min, suc, zero, ℕ, List, [], _++_, _∷_, Bool, cond, false, true, leb, drop, length, length-drop, take, drop-drop, add-one, arith, leb-true}
+use Rattle.service.specs.declared.Service.{Service}
 use Rattle.model.specs.declared.Call.{Call}
 use Rattle.register.specs.Text.{readText}
 use Rattle.model.specs.Model.{State, fresh, begun, refusalIn, lineIn, Request, Answer, step, run}
+use Rattle.packing.specs.Blocks.{written}
 use Rattle.service.specs.declared.Stepped.{Stepped}
-use Rattle.service.specs.Service.{Represents, Given, answerOf, Met}
+use Rattle.service.specs.Service.{Blocks, Represents, Given, answerOf, Met}
 use Rattle.replay.specs.declared.Code.{Code}
 use Rattle.replay.specs.declared.Next.{Next}
 use Rattle.replay.specs.declared.Next.the-variants.{Stop, Go}
-use Rattle.replay.specs.Coded.{codeAt, nextOf, decodeFrom, decode, four, tellAt, resultsOf, numbersOf, textsOf, Holds, Replayed}
+use Rattle.replay.specs.Coded.{codeWidth, resultWidth, codeAt, nextOf, decodeFrom, decode, told, tellAt, resultsOf, numbersOf, textsOf, Holds, Replayed}
 use Rattle.replay.proofs.Laid.{Laid, laid-done, laid-more, put-drop, put-length, part-back, part-length}
 
 -- ---- A call is found only where there is room
@@ -62,26 +54,26 @@ module _ (codes days numbers text : List ℕ) (k : ℕ) where
 
 -- ---- The loop's invariant
 
--- lists before the loop: the index, the codes, the days, the three lent lists; and how many codes are whole
-module _ (sv₀ : Standing) (ix₀ codes days results₀ numbers₀ text₀ : List ℕ) (whole : ℕ) where
+-- before the loop: the blocks, the codes, the days, the three lent lists; and how many codes are whole
+module _ (sv₀ : Service) (bs₀ : Blocks) (codes days results₀ numbers₀ text₀ : List ℕ) (whole : ℕ) where
   -- all the answers from the state m₀
   abbrev answers : State → List Answer
   answers m₀ = run m₀ (decodeFrom codes whole 0 days numbers₀ text₀)
 
-  -- What is done, followed by what is still to come from the state that service and index stand for, is the whole.
-  pub record Reached (m₀ : State) (sv : Standing) (ix results numbers text : List ℕ) (made d n t : ℕ) : Type 0 where
+  -- What is done, followed by what is still to come from the state that service and blocks stand for, is the whole.
+  pub record Reached (m₀ : State) (sv : Service) (bs : Blocks) (results numbers text : List ℕ) (made d n t : ℕ) : Type 0 where
     pub state : State
-    pub represents : Represents sv ix state
+    pub represents : Represents sv bs state
     pub more : List Answer
     pub to-come : run state (decodeFrom codes (whole - made) made (drop d days) (drop n numbers) (drop t text)) ≡ more
     pub count : made + length more ≡ length (answers m₀)
-    pub told : Laid results₀ results (4 * made) (resultsOf more) (resultsOf (answers m₀))
+    pub told : Laid results₀ results (resultWidth * made) (resultsOf more) (resultsOf (answers m₀))
     pub listed : Laid numbers₀ numbers n (numbersOf more) (numbersOf (answers m₀))
     pub written : Laid text₀ text t (textsOf more) (textsOf (answers m₀))
 
   -- THE LOOP'S INVARIANT
-  pub record Going (sv : Standing) (ix results numbers text : List ℕ) (made d n t : ℕ) : Type 0 where
-    pub given : Given sv ix
+  pub record Going (sv : Service) (bs : Blocks) (results numbers text : List ℕ) (made d n t : ℕ) : Type 0 where
+    pub given : Given sv bs
     pub made-in : made ≤ whole
     pub d-in : d ≤ length days
     pub n-in : n ≤ length numbers
@@ -89,10 +81,10 @@ module _ (sv₀ : Standing) (ix₀ codes days results₀ numbers₀ text₀ : Li
     pub results-long : length results ≡ length results₀
     pub numbers-long : length numbers ≡ length numbers₀
     pub text-long : length text ≡ length text₀
-    pub so-far : (m₀ : State) → Represents sv₀ ix₀ m₀ → Reached m₀ sv ix results numbers text made d n t
+    pub so-far : (m₀ : State) → Represents sv₀ bs₀ m₀ → Reached m₀ sv bs results numbers text made d n t
 
   -- before the first turn
-  pub starts : Given sv₀ ix₀ → Going sv₀ ix₀ results₀ numbers₀ text₀ 0 0 0 0
+  pub starts : Given sv₀ bs₀ → Going sv₀ bs₀ results₀ numbers₀ text₀ 0 0 0 0
   starts g = record {
     given = g;
     made-in = omega arith;
@@ -105,35 +97,35 @@ module _ (sv₀ : Standing) (ix₀ codes days results₀ numbers₀ text₀ : Li
     so-far = λ m₀ r. record { state = m₀; represents = r; more = answers m₀; to-come = let z : whole - 0 ≡ whole = omega arith in rw z; count = omega arith; told = refl; listed = refl; written = refl };
   }
 
-  module _ (sv : Standing) (ix results numbers text : List ℕ) (made d n t : ℕ) (g : Going sv ix results numbers text made d n t) where
+  module _ (sv : Service) (bs : Blocks) (results numbers text : List ℕ) (made d n t : ℕ) (g : Going sv bs results numbers text made d n t) where
     -- nothing is still to come
     ended : decodeFrom codes (whole - made) made (drop d days) (drop n numbers) (drop t text) ≡ []
-        → (m₀ : State) → Represents sv₀ ix₀ m₀ → Holds (answers m₀) results₀ numbers₀ text₀ made results numbers text
-    unfolding run resultsOf numbersOf textsOf
+        → (m₀ : State) → Represents sv₀ bs₀ m₀ → Holds (answers m₀) results₀ numbers₀ text₀ made results numbers text
+    unfolding run written
     ended e m₀ r =
         let f = g .so-far m₀ r in
         let none : f .more ≡ [] = sym (f .to-come) ∙ ap (run (f .state)) e in
         record {
           count = omega (arith, rw none at (f .count));
-          told = laid-done results₀ results (resultsOf (answers m₀)) (4 * made) (rw none at (f .told));
+          told = laid-done results₀ results (resultsOf (answers m₀)) (resultWidth * made) (rw none at (f .told));
           listed = laid-done numbers₀ numbers (numbersOf (answers m₀)) n (rw none at (f .listed));
           written = laid-done text₀ text (textsOf (answers m₀)) t (rw none at (f .written));
         }
 
-    pub ended-all : whole ≤ made → (m₀ : State) → Represents sv₀ ix₀ m₀ → Holds (answers m₀) results₀ numbers₀ text₀ made results numbers text
+    pub ended-all : whole ≤ made → (m₀ : State) → Represents sv₀ bs₀ m₀ → Holds (answers m₀) results₀ numbers₀ text₀ made results numbers text
     unfolding decodeFrom
     ended-all h = let z : whole - made ≡ 0 = omega arith in ended (rw z)
 
     pub ended-stop : (c : Code) → c ≡ codeAt codes made
         → nextOf c (length days - d) (length numbers - n) (length text - t) ≡ Stop
-        → (m₀ : State) → Represents sv₀ ix₀ m₀ → Holds (answers m₀) results₀ numbers₀ text₀ made results numbers text
+        → (m₀ : State) → Represents sv₀ bs₀ m₀ → Holds (answers m₀) results₀ numbers₀ text₀ made results numbers text
     ended-stop c ec e =
         ended (decode-stop codes (drop d days) (drop n numbers) (drop t text) made (whole - made) (simp length-drop (rw ec at e)))
 
-    -- A turn: the call q of the code c is made, and gives r, with ix′ in the index, ns and ts in the lent parts.
-    module _ (c : Code) (q : Call) (r : Stepped) (ix′ ns ts results′ numbers′ text′ : List ℕ)
+    -- A turn: the call q of the code c is made, and gives r, with bs′ in the blocks, ns and ts in the lent parts.
+    module _ (c : Code) (q : Call) (r : Stepped) (bs′ : Blocks) (ns ts results′ numbers′ text′ : List ℕ)
         (h : made < whole)
-        (room : 4 * made + 4 ≤ length results)
+        (room : resultWidth * made + resultWidth ≤ length results)
         (ec : c ≡ codeAt codes made)
         (e : nextOf c (length days - d) (length numbers - n) (length text - t) ≡ Go q)
         (ln : length ns ≡ c .numbers)
@@ -162,9 +154,9 @@ module _ (sv₀ : Standing) (ix₀ codes days results₀ numbers₀ text₀ : Li
           (decode-go codes (drop d days) (drop n numbers) (drop t text) made (whole - (made + 1)) c q ec (simp length-drop e)
           ∙ rw add-one)
 
-      turn-reached : Met sv ix asked r ix′ ns ts → (m₀ : State) → Represents sv₀ ix₀ m₀
-          → Reached m₀ (r .service) ix′ results′ numbers′ text′ (made + 1) (d + c .days) (n + c .numbers) (t + c .text)
-      unfolding run resultsOf numbersOf textsOf
+      turn-reached : Met sv bs asked r bs′ ns ts → (m₀ : State) → Represents sv₀ bs₀ m₀
+          → Reached m₀ (r .service) bs′ results′ numbers′ text′ (made + 1) (d + c .days) (n + c .numbers) (t + c .text)
+      unfolding run written
       turn-reached met m₀ rp =
           let f = g .so-far m₀ rp in
           let m = f .state in
@@ -172,21 +164,21 @@ module _ (sv₀ : Standing) (ix₀ codes days results₀ numbers₀ text₀ : Li
           let more : List Answer = run after (decodeFrom codes (whole - (made + 1)) (made + 1) (drop (d + c .days) days) (drop (n + c .numbers) numbers′) (drop (t + c .text) text′)) in
           let key : f .more ≡ answerOf (r .outcome) ns ts ∷ more =
           sym (f .to-come) ∙ ap (run m) coming ∙ ap (λ (a : Answer). a ∷ more) (sym (met .answer m (f .represents))) in
-          let next : 4 * (made + 1) ≡ 4 * made + 4 = omega arith in
+          let next : resultWidth * (made + 1) ≡ resultWidth * made + resultWidth = omega arith in
           record {
             state = after;
             represents = met .after m (f .represents);
             more = more;
             to-come = refl;
             count = omega (arith, rw key at (f .count));
-            told = rw next (laid-more results results′ (four (r .outcome)) (4 * made) 4 room refl er results₀ (resultsOf more) (resultsOf (answers m₀)) (rw key at (f .told)));
+            told = rw next (laid-more results results′ (told (answerOf (r .outcome) ns ts)) (resultWidth * made) resultWidth room refl er results₀ (resultsOf more) (resultsOf (answers m₀)) (rw key at (f .told)));
             listed = laid-more numbers numbers′ ns n (c .numbers) numbers-room ln en numbers₀ (numbersOf more) (numbersOf (answers m₀)) (rw key at (f .listed));
             written = laid-more text text′ ts t (c .text) text-room lt et text₀ (textsOf more) (textsOf (answers m₀)) (rw key at (f .written));
           }
 
-      pub turn : Met sv ix asked r ix′ ns ts → Going (r .service) ix′ results′ numbers′ text′ (made + 1) (d + c .days) (n + c .numbers) (t + c .text)
+      pub turn : Met sv bs asked r bs′ ns ts → Going (r .service) bs′ results′ numbers′ text′ (made + 1) (d + c .days) (n + c .numbers) (t + c .text)
       turn met =
-          let lr = put-length results results′ (four (r .outcome)) (4 * made) 4 room refl er in
+          let lr = put-length results results′ (told (answerOf (r .outcome) ns ts)) (resultWidth * made) resultWidth room refl er in
           let ln′ = put-length numbers numbers′ ns n (c .numbers) numbers-room ln en in
           let lt′ = put-length text text′ ts t (c .text) text-room lt et in
           record {
@@ -202,20 +194,20 @@ module _ (sv₀ : Standing) (ix₀ codes days results₀ numbers₀ text₀ : Li
           }
 
     -- the same in the words of the code: parts of kd, kn and kt places are lent and come back
-    pub turned : (c : Code) (q : Call) (r : Stepped) (ix′ ns ts results′ : List ℕ) (kd kn kt : ℕ)
+    pub turned : (c : Code) (q : Call) (r : Stepped) (bs′ : Blocks) (ns ts results′ : List ℕ) (kd kn kt : ℕ)
         → made < whole
-        → 4 * made + 4 ≤ length results
+        → resultWidth * made + resultWidth ≤ length results
         → c ≡ codeAt codes made
         → nextOf c (length days - d) (length numbers - n) (length text - t) ≡ Go q
         → kd ≡ c .days → kn ≡ c .numbers → kt ≡ c .text
         → length ns ≡ length (take kn (drop n numbers)) → length ts ≡ length (take kt (drop t text))
-        → Met sv ix (record { call = q; days = take kd (drop d days); numbers = take kn (drop n numbers); text = take kt (drop t text) }) r ix′ ns ts
+        → Met sv bs (record { call = q; days = take kd (drop d days); numbers = take kn (drop n numbers); text = take kt (drop t text) }) r bs′ ns ts
         → results′ ≡ tellAt made (r .outcome) results
-        → Going (r .service) ix′ results′ (take n numbers ++ (ns ++ drop kn (drop n numbers))) (take t text ++ (ts ++ drop kt (drop t text)))
+        → Going (r .service) bs′ results′ (take n numbers ++ (ns ++ drop kn (drop n numbers))) (take t text ++ (ts ++ drop kt (drop t text)))
         (made + 1) (d + c .days) (n + c .numbers) (t + c .text)
-    turned c q r ix′ ns ts results′ kd kn kt h room ec e ed en et ln lt met er =
+    turned c q r bs′ ns ts results′ kd kn kt h room ec e ed en et ln lt met er =
         let fit : Room c (length days - d) (length numbers - n) (length text - t) = next-room c _ _ _ q e in
-        turn c q r ix′ ns ts results′ _ _ h room ec e
+        turn c q r bs′ ns ts results′ _ _ h room ec e
         (part-length numbers ns n kn (c .numbers) en (omega (arith, fit .for-numbers, g .n-in)) ln)
         (part-length text ts t kt (c .text) et (omega (arith, fit .for-text, g .t-in)) lt)
         er
@@ -225,7 +217,8 @@ module _ (sv₀ : Standing) (ix₀ codes days results₀ numbers₀ text₀ : Li
 
 -- ---- A code is whole, and its results have room
 
-pub whole-room : (codes results whole k : ℕ) → whole ≡ min (codes / 10) (results / 4) → k < whole → (10 * k + 10 ≤ codes) × (4 * k + 4 ≤ results)
+pub whole-room : (codes results whole k : ℕ) → whole ≡ min (codes / codeWidth) (results / resultWidth) → k < whole
+    → (codeWidth * k + codeWidth ≤ codes) × (resultWidth * k + resultWidth ≤ results)
 whole-room codes results whole k e h = (omega arith, omega arith)
 
 -- ---- The beginning

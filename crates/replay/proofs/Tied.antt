@@ -1,8 +1,5 @@
 -- The contract of `run`, as the prover reads it, by computation: it asks nothing, and ensures the claim. Assumes nothing.
-use mathlib.Core.Path.{_≡_, refl}
-use Prim.Native.Nat.{ℕ}
-use mathlib.Core.List.{List}
-use mathlib.Core.Bool.{Bool}
+use Rattle.basis.proofs.Prelude.{_≡_, refl, ℕ, List, Bool}
 use contract.Lifetimes.{Lfts}
 use denote.Ref.{RefT, now}
 use Rattle.replay.specs.declared.Ran.{Ran}

@@ -1,4 +1,4 @@
--- A list of calls as words, ten for a call, and what the answers leave in the lent lists. Assumes nothing.
+-- A list of calls as words, and what the answers leave in the lent lists. Assumes nothing.
 use Prim.Native.Nat.{ℕ, zero, suc, _+_, _*_, _/_, _%_, min}
 use mathlib.Core.Path.{_≡_}
 use mathlib.Core.Bool.{Bool, cond}
@@ -13,17 +13,25 @@ use Rattle.spell.specs.declared.Spell.{Spell}
 use Rattle.register.specs.Text.{readText}
 use Rattle.model.specs.declared.Call.the-variants.{Enter, Amend, Strike, TakeBack, Publish, Write, Ask}
 use Rattle.model.specs.declared.Question.the-variants.{Day, Span, Cover, Days}
-pub use Rattle.model.specs.Effects.{over}
+use Rattle.buffer.specs.Buffer.{over}
+use Rattle.packing.specs.Blocks.{written}
 use Rattle.model.specs.Model.{State, fresh, begun, refusalIn, lineIn, Request, Answer, run}
-use Rattle.standing.specs.declared.Standing.{Standing}
+use Rattle.service.specs.declared.Service.{Service}
 use Rattle.service.specs.declared.Outcome.{Outcome}
-use Rattle.service.specs.Service.{Represents}
+use Rattle.service.specs.Service.{Blocks, answerOf, Represents}
 use Rattle.replay.specs.declared.Code.{Code}
 use Rattle.replay.specs.declared.Next.{Next}
 use Rattle.replay.specs.declared.Next.the-variants.{Stop, Go}
 use Rattle.replay.specs.declared.Ran.{Ran}
 
 -- ---- One call's code
+
+-- how many words code a call, and how many results a call has
+abbrev pub codeWidth : ℕ
+codeWidth = 10
+
+abbrev pub resultWidth : ℕ
+resultWidth = 4
 
 -- a number of 16 bits: a word's lowest
 abbrev pub low16 : ℕ → ℕ
@@ -33,9 +41,9 @@ low16 x = x % 65536
 abbrev pub urgencyOf : ℕ → ℕ → Urgency
 urgencyOf kind value = cond (eqb kind 0) (Grade (low16 value)) (Reading (ofBits binary32 (value % 4294967296)))
 
--- the word j of the code k, which are ten words each
+-- the word j of the code k
 abbrev pub word : List ℕ → ℕ → ℕ → ℕ
-word codes k j = getD codes (10 * k + j) 0
+word codes k j = getD codes (codeWidth * k + j) 0
 
 -- the call's number, the fields of a spell, and how many places of each list the call is lent
 unfoldable pub codeAt : List ℕ → ℕ → Code
@@ -82,9 +90,9 @@ nextOf c days numbers text =
 
 -- ---- The list of calls
 
--- as many codes as are whole and have four places for their results
+-- as many codes as are whole and have places for their results
 abbrev pub wholeOf : List ℕ → List ℕ → ℕ
-wholeOf codes results = min (length codes / 10) (length results / 4)
+wholeOf codes results = min (length codes / codeWidth) (length results / resultWidth)
 
 abbrev pub andThen : Next → List ℕ → List ℕ → List ℕ → List Request → List Request
 andThen Stop days numbers text rest = []
@@ -106,28 +114,23 @@ decode codes days results numbers text = decodeFrom codes (wholeOf codes results
 
 -- ---- The answers
 
--- a call's four results
-abbrev pub four : Outcome → List ℕ
-four o = o .refusal ∷ o .count ∷ o .comparisons ∷ o .length ∷ []
+-- a call's results
+abbrev pub told : Answer → List ℕ
+told a = a .refusal ∷ a .count ∷ a .comparisons ∷ a .length ∷ []
 
 -- a list with the results of the call k in their places
 abbrev pub tellAt : ℕ → Outcome → List ℕ → List ℕ
-tellAt k o l = (take (4 * k) l ++ four o) ++ drop (4 * k + 4) l
+tellAt k o l = (take (resultWidth * k) l ++ told (answerOf o [] [])) ++ drop (resultWidth * k + resultWidth) l
 
--- the results of all calls, end to end
-unfoldable pub resultsOf : List Answer → List ℕ
-resultsOf [] = []
-resultsOf (a ∷ rest) = a .refusal ∷ a .count ∷ a .comparisons ∷ a .length ∷ resultsOf rest
+-- the results of all calls, end to end; so the lists of numbers, and those of text
+abbrev pub resultsOf : List Answer → List ℕ
+resultsOf answers = written told answers
 
--- the lists of numbers, end to end
-unfoldable pub numbersOf : List Answer → List ℕ
-numbersOf [] = []
-numbersOf (a ∷ rest) = a .numbers ++ numbersOf rest
+abbrev pub numbersOf : List Answer → List ℕ
+numbersOf answers = written (λ (a : Answer). a .numbers) answers
 
--- the lists of text, end to end
-unfoldable pub textsOf : List Answer → List ℕ
-textsOf [] = []
-textsOf (a ∷ rest) = a .text ++ textsOf rest
+abbrev pub textsOf : List Answer → List ℕ
+textsOf answers = written (λ (a : Answer). a .text) answers
 
 -- so many calls were made, and results, numbers and text hold these answers
 pub record Holds (answers : List Answer) (results numbers text : List ℕ) (made : ℕ) (results′ numbers′ text′ : List ℕ) : Type 0 where
@@ -136,10 +139,10 @@ pub record Holds (answers : List Answer) (results numbers text : List ℕ) (made
   pub listed : numbers′ ≡ over (numbersOf answers) numbers
   pub written : text′ ≡ over (textsOf answers) text
 
--- whatever state the service sv and the index ix stand for, these are the answers of the account's run of the coded calls from it
-abbrev pub Answered : Standing → List ℕ → List ℕ → List ℕ → List ℕ → List ℕ → List ℕ → ℕ → List ℕ → List ℕ → List ℕ → Type 0
-Answered sv ix codes days results numbers text made results′ numbers′ text′ =
-    (m : State) → Represents sv ix m → Holds (run m (decode codes days results numbers text)) results numbers text made results′ numbers′ text′
+-- whatever state the service sv and the blocks bs stand for, these are the answers of the account's run of the coded calls from it
+abbrev pub Answered : Service → Blocks → List ℕ → List ℕ → List ℕ → List ℕ → List ℕ → ℕ → List ℕ → List ℕ → List ℕ → Type 0
+Answered sv bs codes days results numbers text made results′ numbers′ text′ =
+    (m : State) → Represents sv bs m → Holds (run m (decode codes days results numbers text)) results numbers text made results′ numbers′ text′
 
 -- ---- The beginning: a fresh service, or a register's bytes
 

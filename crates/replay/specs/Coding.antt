@@ -12,7 +12,7 @@ use Rattle.model.specs.declared.Call.the-variants.{Enter, Amend, Strike, TakeBa
 use Rattle.model.specs.declared.Question.{Question}
 use Rattle.model.specs.declared.Question.the-variants.{Day, Span, Cover, Days}
 use Rattle.model.specs.Model.{Request}
-use Rattle.replay.specs.Coded.{decode}
+use Rattle.replay.specs.Coded.{resultWidth, decode}
 
 -- ---- The fields that a call's code has: its spell, or its number and days in a spell's places, and 0 in the others
 
@@ -55,5 +55,5 @@ pub record Codable (q : Request) : Type 0 where
 pub record Coding (qs : List Request) : Type 0 where
   pub codes : List ℕ
   pub narrow : Every (λ (w : ℕ). w < 18446744073709551616) codes
-  pub decodes : (results : List ℕ) → 4 * length qs ≤ length results
+  pub decodes : (results : List ℕ) → resultWidth * length qs ≤ length results
       → decode codes (written (λ (q : Request). q .days) qs) results (written (λ (q : Request). q .numbers) qs) (written (λ (q : Request). q .text) qs) ≡ qs

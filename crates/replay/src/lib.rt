@@ -2,8 +2,8 @@
 ghost use mathlib.Core.Path.{_≡_};
 ghost use Prim.Native.Nat.{_+_, _*_, _≤_, _<_, _/_, min};
 ghost use lib.ListN.{length};
-ghost use Rattle.service.specs.Service.{Given};
-ghost use Rattle.replay.specs.Coded.{low16, urgencyOf, word, codeAt, spellOf, callOf, nextOf, tellAt, Answered, Replayed};
+ghost use Rattle.service.specs.Service.{blocks, Given};
+ghost use Rattle.replay.specs.Coded.{codeWidth, resultWidth, low16, urgencyOf, word, codeAt, spellOf, callOf, nextOf, tellAt, Answered, Replayed};
 use model::Call;
 use model::Question;
 use service::Outcome;
@@ -13,6 +13,11 @@ use spell::Urgency;
 use stabbing::INDEX;
 
 // ---- One call's code
+
+// How many words code a call, and how many results a call has.
+const CODE: usize = 10;
+
+const RESULT: usize = 4;
 
 // A call in ten words: its number (1 enter, 2 amend, 3 strike, 4 take back, 5 publish, 6 write, 7 day, 8 span, 9 cover,
 // 10 days), the fields of a spell, and how many places of the lists of days, numbers and text it is lent.
@@ -59,14 +64,14 @@ fn urgency_of(kind: u64, value: u64) -> Urgency
 }
 
 fn word_at(codes: &[u64], k: usize, j: usize) -> u64
-    requires { ⌜ 10 * k + j < length (now codes) ⌝ }
+    requires { ⌜ codeWidth * k + j < length (now codes) ⌝ }
     ensures { λ r. ⌜ r ≡ word (now (codes .entry)) k j ⌝ }
 {
-    codes[10 * k + j]
+    codes[CODE * k + j]
 }
 
 fn code_at(codes: &[u64], k: usize) -> Code
-    requires { ⌜ 10 * k + 10 ≤ length (now codes) ⌝ }
+    requires { ⌜ codeWidth * k + codeWidth ≤ length (now codes) ⌝ }
     ensures { λ r. ⌜ r ≡ codeAt (now (codes .entry)) k ⌝ }
 {
     Code {
@@ -134,22 +139,22 @@ fn next_of(c: Code, days: usize, numbers: usize, text: usize) -> Next
 // ---- The list of calls
 
 fn whole_of(codes: usize, results: usize) -> usize
-    ensures { λ r. ⌜ r ≡ min (codes / 10) (results / 4) ⌝ }
+    ensures { λ r. ⌜ r ≡ min (codes / codeWidth) (results / resultWidth) ⌝ }
 {
-    let a = codes / 10;
-    let b = results / 4;
+    let a = codes / CODE;
+    let b = results / RESULT;
     if a < b {
         return a;
     }
     b
 }
 
-// A call's four results in their places.
+// A call's results in their places.
 fn tell(results: &mut [u64], k: usize, o: Outcome)
-    requires { ⌜ 4 * k + 4 ≤ length (now results) ⌝ }
+    requires { ⌜ resultWidth * k + resultWidth ≤ length (now results) ⌝ }
     ensures { λ _. ⌜ now (results .exit) ≡ tellAt k o (now (results .entry)) ⌝ }
 {
-    let at = 4 * k;
+    let at = RESULT * k;
     results[at] = o.refusal as u64;
     results[at + 1] = o.count as u64;
     results[at + 2] = o.comparisons as u64;
@@ -166,8 +171,8 @@ fn calls(
     numbers: &mut [u16],
     text: &mut [u8],
 ) -> usize
-    requires { ⌜ Given service (now index) ⌝ }
-    ensures { λ r. ⌜ Answered service (now (index .entry)) (now (codes .entry)) (now (days .entry)) (now (results .entry)) (now (numbers .entry)) (now (text .entry)) r (now (results .exit)) (now (numbers .exit)) (now (text .exit)) ⌝ }
+    requires { ⌜ Given service (blocks (now index)) ⌝ }
+    ensures { λ r. ⌜ Answered service (blocks (now (index .entry))) (now (codes .entry)) (now (days .entry)) (now (results .entry)) (now (numbers .entry)) (now (text .entry)) r (now (results .exit)) (now (numbers .exit)) (now (text .exit)) ⌝ }
 {
     let whole = whole_of(codes.len(), results.len());
     let mut s = service;

@@ -1,12 +1,5 @@
 -- What a line asks, as the program holds it: its days stand in the lent list, and its room is one that can be lent. Assumes nothing.
-use mathlib.Core.Path.{_≡_, refl, ap}
-use mathlib.Core.Bool.{Bool, true, false, _&&_, cond}
-use mathlib.Core.List.{List, [], _∷_, _++_}
-use Prim.Native.Nat.{ℕ, zero, suc, _≤_}
-use native.Mathlib.Omega.{arith}
-use lib.Dec.{leb}
-use lib.ListN.{length, take, drop}
-use lib.Seq.{take-at}
+use Rattle.basis.proofs.Prelude.{_≡_, ap, refl, _≤_, suc, zero, ℕ, List, [], _++_, _∷_, Bool, _&&_, cond, false, true, leb, drop, length, take, take-at, arith}
 use Rattle.fields.specs.Fields.{Found, found, unreadable, readNumber, readLength}
 use Rattle.decimals.proofs.Decimals.{length-within}
 use Rattle.register.specs.Text.{readLine}

@@ -1,11 +1,7 @@
 -- Lines with what they ask, computed: one for each word, and lines at the edges of the forms. Assumes nothing.
-use Prim.Native.Nat.{ℕ}
+use Rattle.basis.proofs.Prelude.{_≡_, refl, ℕ, List, [], _++_, _∷_, map, cond, eqb}
 use Prim.Native.Char.{code}
 use Prim.Native.String.{String, [] as none, _∷_ as _then_}
-use mathlib.Core.Path.{_≡_, refl}
-use mathlib.Core.Bool.{cond}
-use mathlib.Core.List.{List, [], _∷_, _++_, map}
-use lib.Dec.{eqb}
 use lib.Ieee.{binary32, ofBits}
 use Rattle.spell.specs.declared.Urgency.{Urgency}
 use Rattle.spell.specs.declared.Urgency.the-variants.{Grade, Reading}

@@ -1,8 +1,5 @@
 -- What a line asks, in the words of the protocol. Assumes nothing.
-use mathlib.Core.Path.{_≡_, refl}
-use mathlib.Core.List.{List}
-use Prim.Native.Nat.{ℕ, _+_}
-use lib.ListN.{drop}
+use Rattle.basis.proofs.Prelude.{_≡_, refl, _+_, ℕ, List, drop}
 use Rattle.register.specs.Text.{readLine}
 use Rattle.model.specs.declared.Call.the-variants.{Enter}
 use Rattle.requests.specs.declared.Word.the-variants.{Enter as EnterWord}

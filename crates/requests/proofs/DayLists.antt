@@ -1,19 +1,13 @@
 -- The days of a line, read one after another into their places. Assumes nothing.
-use mathlib.Core.Path.{_≡_, refl, sym, ap, _∙_}
-use mathlib.Core.Bool.{false}
-use mathlib.Core.List.{List, [], _∷_, _++_, append-assoc, append-nil}
-use Prim.Native.Nat.{ℕ, suc, _+_, _-_, _≤_, _<_}
-use native.Mathlib.Numerals.{add-one}
-use native.Mathlib.Omega.{arith}
-use lib.ListN.{length, take, drop, set, length-set, length-append, take-append-drop, drop-of-length-le}
-use lib.Seq.{length-take-le, take-all, take-suc-set, drop-set-lt, set-split, drop-drop}
+use Rattle.basis.proofs.Prelude.{_∙_, _≡_, ap, refl, sym, _+_, _-_, _<_, _≤_, suc, ℕ, List, [], _++_, _∷_, append-assoc, append-nil, false, drop, drop-of-length-le, length, length-append, length-set, set, take, take-append-drop, drop-drop, drop-set-lt, length-take-le, set-split, take-all, take-suc-set, add-one, arith}
 use Rattle.fields.specs.Fields.{Found, found, unreadable, readNumber}
 use Rattle.model.specs.declared.Call.the-variants.{Ask}
 use Rattle.model.specs.declared.Question.the-variants.{Days}
 use Rattle.requests.specs.declared.Request.{Request}
 use Rattle.requests.specs.declared.Request.the-variants.{Call as RequestCall, Malformed as RequestMalformed}
 use Rattle.requests.specs.Requests.{DayList, lastDay, ended, readDays}
-use Rattle.requests.specs.Parsing.{over, after, ReadsDays}
+use Rattle.buffer.specs.Buffer.{over}
+use Rattle.requests.specs.Parsing.{after, ReadsDays}
 
 -- lists that agree from a place on agree from every later one
 agree : (a b : List ℕ) (k n : ℕ) → drop k a ≡ drop k b → k ≤ n → drop n a ≡ drop n b

@@ -1,12 +1,5 @@
 -- A line of at most 65,536 bytes has fewer than 32,768 days: more room for them changes nothing. Assumes nothing.
-use mathlib.Core.Path.{_≡_, refl, sym, ap}
-use mathlib.Core.Bool.{Bool, true, false, cond}
-use mathlib.Core.List.{List, [], _∷_}
-use Prim.Native.Nat.{ℕ, zero, suc, _+_, _*_, _≤_}
-use native.Mathlib.Omega.{arith}
-use borrow.Author.Tests.{leb-true}
-use lib.Dec.{leb}
-use lib.ListN.{length, drop, length-drop}
+use Rattle.basis.proofs.Prelude.{_≡_, ap, refl, sym, _*_, _+_, _≤_, suc, zero, ℕ, List, [], _∷_, Bool, cond, false, true, leb, drop, length, length-drop, arith, leb-true}
 use Rattle.fields.specs.Fields.{Found, found, unreadable, readNumber}
 use Rattle.fields.proofs.Widths.{decimal-wide}
 use Rattle.decimals.proofs.Decimals.{write-number}

@@ -1,8 +1,5 @@
 -- The last field of a line: what follows its LF. Assumes nothing.
-use mathlib.Core.Path.{_≡_}
-use mathlib.Core.List.{List}
-use Prim.Native.Nat.{ℕ, _≤_, _<_}
-use lib.ListN.{length, drop}
+use Rattle.basis.proofs.Prelude.{_≡_, _<_, _≤_, ℕ, List, drop, length}
 use Rattle.fields.specs.Fields.{found, unreadable}
 use Rattle.fields.proofs.Places.{here, past-end}
 use Rattle.model.specs.declared.Call.{Call}

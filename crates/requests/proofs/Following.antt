@@ -1,11 +1,5 @@
 -- How many bytes follow a line: only the word `read` has any. Assumes nothing.
-use mathlib.Core.Path.{_≡_, refl, sym, ap, _∙_}
-use mathlib.Core.Bool.{Bool, true, false, _&&_, cond, false≢true}
-use mathlib.Core.List.{List, [], _∷_, _++_}
-use Prim.Native.Nat.{ℕ, _≤_, _<_}
-use borrow.Author.Tests.{le-leb, lt-leb, eqb-true}
-use lib.Dec.{eqb}
-use lib.ListN.{length, drop}
+use Rattle.basis.proofs.Prelude.{_∙_, _≡_, ap, refl, sym, _<_, _≤_, ℕ, List, [], _++_, _∷_, Bool, _&&_, cond, false, false≢true, true, eqb, drop, length, eqb-true, le-leb, lt-leb}
 use Rattle.fields.specs.declared.Length.{Length}
 use Rattle.fields.specs.declared.Length.the-variants.{Value as LengthValue, Malformed as LengthMalformed}
 use Rattle.fields.specs.Fields.{Found, found, unreadable, readNumber, readLength}

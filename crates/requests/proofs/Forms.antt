@@ -1,10 +1,5 @@
 -- What a line asks, by its word and its last field. Assumes nothing.
-use mathlib.Core.Path.{_≡_, refl, sym, _∙_}
-use mathlib.Core.Bool.{false}
-use mathlib.Core.List.{List}
-use Prim.Native.Nat.{ℕ, _≤_, _<_}
-use borrow.Author.Tests.{le-leb, lt-leb}
-use lib.ListN.{length, drop}
+use Rattle.basis.proofs.Prelude.{_∙_, _≡_, refl, sym, _<_, _≤_, ℕ, List, false, drop, length, le-leb, lt-leb}
 use Rattle.spell.specs.declared.Spell.{Spell}
 use Rattle.fields.specs.declared.Field.{Field}
 use Rattle.fields.specs.declared.Field.the-variants.{Value as FieldValue, Malformed as FieldMalformed}

@@ -1,12 +1,5 @@
 -- The word that a line begins with: byte by byte. Assumes nothing.
-use mathlib.Core.Path.{_≡_}
-use mathlib.Core.Bool.{true, false}
-use mathlib.Core.List.{List}
-use Prim.Native.Nat.{ℕ, _+_, _≤_, _<_}
-use native.Mathlib.Omega.{arith}
-use native.Mathlib.Decide.{decLe}
-use borrow.Author.Tests.{lt-ltb}
-use lib.ListN.{length, drop, getD}
+use Rattle.basis.proofs.Prelude.{_≡_, _+_, _<_, _≤_, ℕ, List, false, true, drop, getD, length, decLe, arith, lt-ltb}
 use Rattle.fields.specs.Fields.{isAt}
 use Rattle.fields.proofs.Places.{here, past-end, at-inside}
 use Rattle.requests.specs.Requests.{begins}

@@ -11,7 +11,7 @@ use Rattle.fields.specs.declared.Length.the-variants.{Value as LengthValue, Mal
 use Rattle.register.specs.declared.Line.{Line}
 use Rattle.register.specs.declared.Line.the-variants.{Value as LineValue, Malformed as LineMalformed}
 use Rattle.model.specs.declared.Call.{Call}
-pub use Rattle.model.specs.Effects.{over}
+use Rattle.buffer.specs.Buffer.{over}
 use Rattle.requests.specs.declared.Request.{Request}
 use Rattle.requests.specs.declared.Request.the-variants.{Call as RequestCall, Room as RequestRoom, Read as RequestRead, Malformed as RequestMalformed}
 use Rattle.requests.specs.Requests.{Asked, asksCall, asksRoom, asksRead, malformed, askDays, DayList, askedOf, following, daysOf}

@@ -128,7 +128,7 @@ fn last_length(line: &[u8], at: usize, limit: u64) -> Length
 fn last_line(line: &[u8], at: usize) -> Line
     ensures { λ r. ⌜ lineOf (now (line .entry)) r ≡ ended (readLine (drop at (now (line .entry)))) ⌝ }
 {
-    let Line::Value(s, next) = register::read_line(line, at) else {
+    let Line::Value(s, next) = register_read::read_line(line, at) else {
         return Line::Malformed;
     };
     if next < line.len() {

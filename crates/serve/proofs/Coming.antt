@@ -1,9 +1,5 @@
 -- A request that is coming in pieces: what has come of it is what the bytes read so far make. Assumes nothing.
-use Prim.Native.Nat.{ℕ, _≤_}
-use mathlib.Core.Path.{_≡_, _∙_}
-use mathlib.Core.Bool.{true}
-use mathlib.Core.List.{List, [], _++_, append-assoc, append-nil}
-use lib.ListN.{take, drop}
+use Rattle.basis.proofs.Prelude.{_∙_, _≡_, _≤_, ℕ, List, [], _++_, append-assoc, append-nil, true, drop, take}
 use Rattle.framing.specs.declared.Frame.{Frame}
 use Rattle.framing.specs.declared.Framed.the-variants.{Whole, Part}
 use Rattle.framing.specs.Stream.{begun}

@@ -4,8 +4,8 @@ use mathlib.Core.Path.{_≡_}
 use mathlib.Core.Bool.{true}
 use mathlib.Core.List.{List, _++_}
 use lib.ListN.{take, drop}
-use Rattle.standing.specs.declared.Standing.{Standing}
-use Rattle.service.specs.Service.{Given}
+use Rattle.service.specs.declared.Service.{Service}
+use Rattle.service.specs.Service.{Blocks, Given}
 use Rattle.wire.specs.declared.Answered.{Answered}
 use Rattle.wire.specs.Answering.{Served}
 use Rattle.framing.specs.Stream.{begun}
@@ -34,8 +34,8 @@ abbrev pub answeredIn : Session → Answered
 answeredIn r = record { service = r .service; room = r .room; place = r .place }
 
 -- A turn takes a request, and answers it where it is whole
-pub record Turns (sv : Standing) (ix : List ℕ) (room : ℕ) (arrived : List ℕ) (start end : ℕ) (days numbers text out : List ℕ) (r : Session) (ix′ arrived′ line′ payload′ days′ numbers′ text′ out′ : List ℕ) : Type 0 where
-  pub given : Given (r .service) ix′
+pub record Turns (sv : Service) (bs : Blocks) (room : ℕ) (arrived : List ℕ) (start end : ℕ) (days numbers text out : List ℕ) (r : Session) (bs′ : Blocks) (arrived′ line′ payload′ days′ numbers′ text′ out′ : List ℕ) : Type 0 where
+  pub given : Given (r .service) bs′
   pub takes : Takes arrived start end (requestIn r) arrived′ line′ payload′
   pub serves : r .whole ≡ true
-      → Served sv ix room (take (r .line) line′) (take (r .payload) payload′) days numbers text out (answeredIn r) ix′ days′ numbers′ text′ out′
+      → Served sv bs room (take (r .line) line′) (take (r .payload) payload′) days numbers text out (answeredIn r) bs′ days′ numbers′ text′ out′

@@ -3,7 +3,7 @@
 ghost use Prim.Native.Nat.{_≤_};
 ghost use lib.ListN.{length, take};
 ghost use Rattle.framing.specs.Advancing.{Advances};
-ghost use Rattle.service.specs.Service.{Given};
+ghost use Rattle.service.specs.Service.{blocks, Given};
 ghost use Rattle.wire.specs.Answering.{Served};
 ghost use Rattle.serve.specs.Serving.{Takes, Turns};
 use framing::Frame;
@@ -148,9 +148,9 @@ fn reply(
     text: &mut [u8; ROOM],
     out: &mut [u8; OUT],
 ) -> Answered
-    requires { ⌜ Given service (now index) ⌝ }
+    requires { ⌜ Given service (blocks (now index)) ⌝ }
     requires { ⌜ (n ≤ length (now line)) × (m ≤ length (now payload)) ⌝ }
-    ensures { λ r. ⌜ Served service (now (index .entry)) room (take n (now (line .entry))) (take m (now (payload .entry))) (now (days .entry)) (now (numbers .entry)) (now (text .entry)) (now (out .entry)) r (now (index .exit)) (now (days .exit)) (now (numbers .exit)) (now (text .exit)) (now (out .exit)) ⌝ }
+    ensures { λ r. ⌜ Served service (blocks (now (index .entry))) room (take n (now (line .entry))) (take m (now (payload .entry))) (now (days .entry)) (now (numbers .entry)) (now (text .entry)) (now (out .entry)) r (blocks (now (index .exit))) (now (days .exit)) (now (numbers .exit)) (now (text .exit)) (now (out .exit)) ⌝ }
 {
     wire::answer(
         service,
@@ -194,9 +194,9 @@ fn turn(
     text: &mut [u8; ROOM],
     out: &mut [u8; OUT],
 ) -> Session
-    requires { ⌜ Given service (now index) ⌝ }
+    requires { ⌜ Given service (blocks (now index)) ⌝ }
     requires { ⌜ end ≤ 65536 ⌝ }
-    ensures { λ r. ⌜ Turns service (now (index .entry)) room (now (arrived .entry)) start end (now (days .entry)) (now (numbers .entry)) (now (text .entry)) (now (out .entry)) r (now (index .exit)) (now (arrived .exit)) (now (line .exit)) (now (payload .exit)) (now (days .exit)) (now (numbers .exit)) (now (text .exit)) (now (out .exit)) ⌝ }
+    ensures { λ r. ⌜ Turns service (blocks (now (index .entry))) room (now (arrived .entry)) start end (now (days .entry)) (now (numbers .entry)) (now (text .entry)) (now (out .entry)) r (blocks (now (index .exit))) (now (arrived .exit)) (now (line .exit)) (now (payload .exit)) (now (days .exit)) (now (numbers .exit)) (now (text .exit)) (now (out .exit)) ⌝ }
 {
     let q = next(arrived, start, end, line, payload);
     if !q.whole {
@@ -243,7 +243,7 @@ fn turn(
 // Serves requests until the input ends or the output is closed. A proved loop has to end, so its turns are counted down, from a
 // number that no service uses up.
 fn serve(service: Service, index: &mut [u16; INDEX])
-    requires { ⌜ Given service (now index) ⌝ }
+    requires { ⌜ Given service (blocks (now index)) ⌝ }
 {
     let mut arrived = [0u8; ARRIVED];
     let mut line = [0u8; LINE];

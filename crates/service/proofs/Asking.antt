@@ -1,17 +1,11 @@
 -- From a question over the index to the postcondition of the call. Assumes nothing.
-use Prim.Native.Nat.{ℕ, _≤_}
-use mathlib.Core.Path.{_≡_, refl, sym, ap, _∙_, subst}
-use mathlib.Core.Bool.{true}
-use mathlib.Core.List.{List}
-use native.Mathlib.Omega.{arith}
-use lib.ListN.{length, length-map}
+use Rattle.basis.proofs.Prelude.{_∙_, _≡_, ap, refl, subst, sym, _≤_, ℕ, List, length, length-map, arith}
 use Rattle.spell.specs.declared.Spell.{Spell}
 use Rattle.stabbing.specs.declared.Listed.{Listed}
 use Rattle.stabbing.specs.Index.{numbers, firsts, lasts, Built}
 use Rattle.stabbing.specs.Answer as rows
 use Rattle.stabbing.specs.Answer.{Gave, dayIn, spanIn, coverIn, daysIn}
 use Rattle.stabbing.proofs.Block as block
-use Rattle.standing.specs.declared.Standing.{Standing}
 use Rattle.model.specs.declared.Call.{Call}
 use Rattle.model.specs.declared.Call.the-variants.{Ask}
 use Rattle.model.specs.declared.Question.{Question}
@@ -19,17 +13,16 @@ use Rattle.model.specs.declared.Question.the-variants.{Day, Span, Cover, Days}
 use Rattle.model.specs.Questions.{firstsOf, lastsOf}
 use Rattle.model.specs.Model.{State, effectOf, step}
 use Rattle.model.proofs.Claims.{reads-keep}
+use Rattle.service.specs.declared.Service.{Service}
 use Rattle.service.specs.declared.Outcome.{Outcome}
 use Rattle.service.specs.declared.Stepped.{Stepped}
-use Rattle.service.specs.Service.{Shows, Represents, Published, asking, answerOf, Met, Asked}
+use Rattle.service.specs.Outcomes.{foundOf}
+use Rattle.service.specs.Service.{Blocks, blocks, Shows, Represents, Published, asking, Met, Asked}
 use Rattle.service.proofs.Questions.{told, numbersOf, own, day-told, span-told, cover-told, days-told}
 use Rattle.service.proofs.Publishing.{rows-ok}
 
 -- ---- The rows of an index are those of the list that it shows
-module _ (m : State) (ix : List ℕ) (s : Shows ix m) where
-  abbrev p : List Spell
-  p = m .published
-
+module _ {ix : List ℕ} {p : List Spell} (s : Shows ix p) where
   same : length (numbersOf p) ≡ length (firstsOf p)
   same = length-map p _ ∙ sym (length-map p _)
 
@@ -50,52 +43,48 @@ module _ (m : State) (ix : List ℕ) (s : Shows ix m) where
 
 -- an index that the calls gave is one that publish built
 pub published-built : (ix : List ℕ) → Published ix → Built ix
-published-built ix g = shows-built (g .state) ix (g .shows)
+published-built ix g = shows-built (g .shows)
 
 -- a call that is known to be another is answered as that one
-pub as-call : {sv : Standing} {ix days ns text : List ℕ} {c c′ : Call} {r : Stepped} {ix′ ns′ text′ : List ℕ} → c ≡ c′
-    → Met sv ix (asking c′ days ns text) r ix′ ns′ text′ → Met sv ix (asking c days ns text) r ix′ ns′ text′
-as-call {sv} {ix} {days} {ns} {text} {r = r} {ix′} {ns′} {text′} e m = subst (λ (c : Call). Met sv ix (asking c days ns text) r ix′ ns′ text′) (sym e) m
+pub as-call : {sv : Service} {bs : Blocks} {days ns text : List ℕ} {c c′ : Call} {r : Stepped} {bs′ : Blocks} {ns′ text′ : List ℕ} → c ≡ c′
+    → Met sv bs (asking c′ days ns text) r bs′ ns′ text′ → Met sv bs (asking c days ns text) r bs′ ns′ text′
+as-call {sv} {bs} {days} {ns} {text} {r = r} {bs′} {ns′} {text′} e m = subst (λ (c : Call). Met sv bs (asking c days ns text) r bs′ ns′ text′) (sym e) m
 
 -- a question that is known to be another is answered as that one
-pub as-question : {ix days ns : List ℕ} {w w′ : Question} {o : Outcome} {ns′ : List ℕ} → w ≡ w′ → Asked ix w′ days ns o ns′ → Asked ix w days ns o ns′
-as-question {ix} {days} {ns} {o = o} {ns′} e a = subst (λ (w : Question). Asked ix w days ns o ns′) (sym e) a
+pub as-question : {bs : Blocks} {days ns : List ℕ} {w w′ : Question} {o : Outcome} {ns′ : List ℕ} → w ≡ w′ → Asked bs w′ days ns o ns′ → Asked bs w days ns o ns′
+as-question {bs} {days} {ns} {o = o} {ns′} e a = subst (λ (w : Question). Asked bs w days ns o ns′) (sym e) a
 
 -- ---- The postcondition of a question
 
--- the outcome of a question over the rows
-abbrev pub outcomeOf : Listed → Outcome
-outcomeOf l = record { refusal = l .refusal; count = l .count; comparisons = l .comparisons; length = 0 }
-
-module _ (ix : List ℕ) (days ns : List ℕ) (l : Listed) (o : Outcome) (is : o ≡ outcomeOf l) (ns′ : List ℕ) where
+module _ (ix : List ℕ) (days ns : List ℕ) (l : Listed) (o : Outcome) (is : o ≡ foundOf l) (ns′ : List ℕ) where
   -- what the rows' outcome r tells is the account's answer
   gave-asked : (w : Question) (r : rows.Outcome) → Gave l ns′ r
-      → ((m : State) (text : List ℕ) → Shows ix m → told r text ≡ step m (asking (Ask w) days ns text) .answer)
-      → Asked ix w days ns o ns′
+      → ((m : State) (text : List ℕ) → Shows ix (m .published) → told r text ≡ step m (asking (Ask w) days ns text) .answer)
+      → Asked (blocks ix) w days ns o ns′
   gave-asked w r g answers = record {
     met = λ sv text here. record {
       given = here;
       answer = λ m h. rw (is, g .result, g .out) (answers m text (h .shows));
-      after = λ m h. subst (Represents sv ix) (sym (reads-keep m (asking (Ask w) days ns text) refl)) h;
+      after = λ m h. subst (Represents sv (blocks ix)) (sym (reads-keep m (asking (Ask w) days ns text) refl)) h;
     };
   }
 
-  pub day-asked : (d : ℕ) → Gave l ns′ (dayIn ix d ns) → Asked ix (Day d) days ns o ns′
+  pub day-asked : (d : ℕ) → Gave l ns′ (dayIn ix d ns) → Asked (blocks ix) (Day d) days ns o ns′
   unfolding effectOf
   day-asked d g = gave-asked (Day d) (dayIn ix d ns) g (λ m text s.
-      rw (shows-numbers m ix s, shows-firsts m ix s, shows-lasts m ix s) (day-told m (asking (Ask (Day d)) days ns text) d))
+      rw (shows-numbers s, shows-firsts s, shows-lasts s) (day-told m (asking (Ask (Day d)) days ns text) d))
 
-  pub span-asked : (a b : ℕ) → Gave l ns′ (spanIn ix a b ns) → Asked ix (Span a b) days ns o ns′
+  pub span-asked : (a b : ℕ) → Gave l ns′ (spanIn ix a b ns) → Asked (blocks ix) (Span a b) days ns o ns′
   unfolding effectOf
   span-asked a b g = gave-asked (Span a b) (spanIn ix a b ns) g (λ m text s.
-      rw (shows-numbers m ix s, shows-firsts m ix s, shows-lasts m ix s) (span-told m (asking (Ask (Span a b)) days ns text) a b))
+      rw (shows-numbers s, shows-firsts s, shows-lasts s) (span-told m (asking (Ask (Span a b)) days ns text) a b))
 
-  pub cover-asked : (k : ℕ) → Gave l ns′ (coverIn ix k ns) → Asked ix (Cover k) days ns o ns′
+  pub cover-asked : (k : ℕ) → Gave l ns′ (coverIn ix k ns) → Asked (blocks ix) (Cover k) days ns o ns′
   unfolding effectOf
   cover-asked k g = gave-asked (Cover k) (coverIn ix k ns) g (λ m text s.
-      rw (shows-numbers m ix s, shows-firsts m ix s, shows-lasts m ix s) (cover-told m (asking (Ask (Cover k)) days ns text) (s .good .unique) k))
+      rw (shows-numbers s, shows-firsts s, shows-lasts s) (cover-told m (asking (Ask (Cover k)) days ns text) (s .good .unique) k))
 
-  pub days-asked : Gave l ns′ (daysIn ix days ns) → Asked ix Days days ns o ns′
+  pub days-asked : Gave l ns′ (daysIn ix days ns) → Asked (blocks ix) Days days ns o ns′
   unfolding effectOf
   days-asked g = gave-asked Days (daysIn ix days ns) g (λ m text s.
-      rw (shows-numbers m ix s, shows-firsts m ix s, shows-lasts m ix s) (days-told m (asking (Ask Days) days ns text)))
+      rw (shows-numbers s, shows-firsts s, shows-lasts s) (days-told m (asking (Ask Days) days ns text)))

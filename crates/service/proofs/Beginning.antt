@@ -1,31 +1,27 @@
--- Service and index at the beginning, after publish, and beside a written text. Assumes nothing.
-use Prim.Native.Nat.{ℕ}
-use mathlib.Core.Path.{_≡_, refl, sym, ap, _∙_, subst}
-use mathlib.Core.Bool.{Bool, true}
-use mathlib.Core.List.{List, [], _++_, map}
-use native.Mathlib.Omega.{arith}
-use borrow.Author.Tests.{le-leb}
-use lib.Dec.{leb}
-use lib.ListN.{length, take, drop, length-map}
-use lib.Seq.{take-at}
+-- Service and blocks at the beginning, after publish, and beside a written text. Assumes nothing.
+use Rattle.basis.proofs.Prelude.{_∙_, _≡_, ap, refl, subst, sym, ℕ, List, [], map, Bool, true, leb, drop, length, length-map, take, take-at, arith, le-leb, by-test}
 use Rattle.spell.specs.declared.Spell.{Spell}
 use Rattle.register.specs.declared.Written.{Written}
-use Rattle.register.specs.Text.{Register, good, bad, writeAll}
-use Rattle.register.specs.Answers.{Writes}
+use Rattle.register.specs.declared.Reading.{Reading}
+use Rattle.register.specs.Text.{Register, good, bad, readText, writeAll}
+use Rattle.register.specs.Answers.{readingOf, Writes}
 use Rattle.stabbing.specs.Index.{rowsAfter}
-use Rattle.stabbing.proofs.Marks.{by-test}
 use Rattle.stabbing_index.specs.Build.{publishable, Builds}
 use Rattle.standing.specs.declared.Standing.{Standing}
-use Rattle.standing.specs.declared.Loaded.{Loaded}
-use Rattle.standing.specs.Standing.{Wf, listOf, Fresh, Loads, LaidOut}
+use Rattle.standing.specs.Places.{loadedOf}
+use Rattle.standing.specs.Standing.{columnOf, Wf, listOf, Fresh, LaidOut}
 use Rattle.standing.proofs.Calls.{good-none}
+use Rattle.standing.proofs.Loading.{Loads, loads}
 use Rattle.model.specs.declared.Call.the-variants.{Publish, Write}
 use Rattle.model.specs.Questions.{firstsOf, lastsOf}
 use Rattle.model.specs.Effects.{settle}
-use Rattle.model.specs.Model.{fresh, begun, effectOf}
+use Rattle.model.specs.Model.{fresh, begun, refusalIn, lineIn, effectOf}
 use Rattle.model.proofs.Claims.{reads-keep}
+use Rattle.service.specs.declared.Service.{Service}
 use Rattle.service.specs.declared.Stepped.{Stepped}
-use Rattle.service.specs.Service.{indexOf, Represents, Given, asking, Met, Publishes, Wrote, Begins}
+use Rattle.service.specs.Places.{serviceOf}
+use Rattle.service.specs.Outcomes.{wroteOf}
+use Rattle.service.specs.Service.{Blocks, blocks, indexOf, Valid, Represents, Given, asking, Met, Publishes, Wrote, Begins}
 use Rattle.service.proofs.Publishing.{rows-ok}
 
 -- ---- Nothing is published
@@ -35,8 +31,8 @@ pub no-rows : (x entry exit : List ℕ) (r : Bool) → Builds x x x 0 entry r ex
 unfolding rowsAfter
 no-rows x entry exit r b = b .block
 
-pub represents-fresh : (sv : Standing) (ix : List ℕ) → Fresh sv → ix ≡ indexOf [] → Represents sv ix fresh
-represents-fresh sv ix f e = record { wf = f .wf; standing = f .list; past = f .past; shows = record { good = good-none; index = e } }
+pub represents-fresh : (st : Standing) (ix : List ℕ) → Fresh st → ix ≡ indexOf [] → Represents (serviceOf st) (blocks ix) fresh
+represents-fresh st ix f e = record { valid = record { standing = f .wf }; standing = f .list; past = f .past; shows = record { good = good-none; index = e } }
 
 -- a beginning publishes nothing
 begun-none : (g : Register) → begun g .published ≡ []
@@ -44,30 +40,42 @@ unfolding begun
 begun-none (good l) = refl
 begun-none (bad n line) = refl
 
-pub begins : (g : Register) (l : Loaded) (ix : List ℕ) → Loads g l → ix ≡ indexOf []
-    → Begins g (record { service = l .standing; refusal = l .refusal; line = l .line }) ix
-begins g l ix d e = record {
-  whole = d .whole;
+begins : (g : Register) (st : Standing) (n line : ℕ) (ix : List ℕ) → Loads g st → n ≡ refusalIn g → line ≡ lineIn g → ix ≡ indexOf []
+    → Begins g (record { service = serviceOf st; refusal = n; line = line }) (blocks ix)
+begins g st n line ix d r l e = record {
+  whole = ap serviceOf (d .whole);
   represents = record {
-    wf = d .wf;
+    valid = record { standing = d .wf };
     standing = d .list;
     past = d .past;
     shows = record { good = rw (begun-none g) good-none; index = e ∙ rw (begun-none g) };
   };
-  refusal = d .refusal;
-  line = d .line;
+  refusal = r;
+  line = l;
 }
+
+-- a reading tells its register's refusal and line
+told-in : (g : Register) → (readingOf g .refusal ≡ refusalIn g) × (readingOf g .line ≡ lineIn g)
+unfolding readingOf
+told-in (good l) = (refl, refl)
+told-in (bad n line) = (refl, refl)
+
+pub begins-read : (text : List ℕ) (got : Reading) (st : Standing) (ix : List ℕ) → got ≡ readingOf (readText text) → st ≡ loadedOf got → ix ≡ indexOf []
+    → Begins (readText text) (record { service = serviceOf st; refusal = got .refusal; line = got .line }) (blocks ix)
+begins-read text got st ix r l e =
+    let t = told-in (readText text) in
+    rw (l, r) (begins (readText text) _ _ _ ix (loads text (readText text) refl) (t .0) (t .1) e)
 
 -- ---- Publish
 
 -- the first places of a column are a field of the spells
-laid-take : (f : Spell → ℕ) (l : List Spell) (before after : List ℕ) (n : ℕ) → n ≡ length l → after ≡ map f l ++ drop (length l) before → take n after ≡ map f l
-laid-take f l before after n e a = rw (a, e) (take-at (map f l) (drop (length l) before) (length l) (length-map l f))
+laid-take : (f : Spell → ℕ) (l : List Spell) (before after : List ℕ) (n : ℕ) → n ≡ length l → after ≡ columnOf f l before → take n after ≡ map f l
+laid-take f l before after n e a = rw (a, e) (take-at (map f l) (drop (length (map f l)) before) (length l) (length-map l f))
 
-module _ (sv : Standing) (w : Wf sv) (n : ℕ) (ns fs ls ns′ fs′ ls′ : List ℕ) (laid : LaidOut sv n ns fs ls ns′ fs′ ls′)
+module _ (st : Standing) (w : Wf st) (n : ℕ) (ns fs ls ns′ fs′ ls′ : List ℕ) (laid : LaidOut st n ns fs ls ns′ fs′ ls′)
     (ix ix′ : List ℕ) (r : Bool) (b : Builds ns′ fs′ ls′ n ix r ix′) where
   abbrev l : List Spell
-  l = listOf sv
+  l = listOf st
 
   first-is : take n fs′ ≡ firstsOf l
   first-is = laid-take (λ (s : Spell). s .first) l fs fs′ n (laid .count) (laid .first)
@@ -81,36 +89,32 @@ module _ (sv : Standing) (w : Wf sv) (n : ℕ) (ns fs ls ns′ fs′ ls′ : Lis
   pub indexed : ix′ ≡ indexOf l
   indexed = b .block ∙ rw (right, first-is, last-is, laid-take (λ (s : Spell). s .number) l ns ns′ n (laid .count) (laid .number))
 
-module _ {sv : Standing} {r : Stepped} {ix′ : List ℕ} (w : Wf sv) (p : Publishes sv r ix′) where
+module _ {sv : Service} {r : Stepped} {bs′ : Blocks} (v : Valid sv) (p : Publishes sv r bs′) where
   -- the index shows the standing list
-  pub publishes-given : Given (r .service) ix′
-  publishes-given = record {
-    wf = rw (p .kept) w;
-    published = record { state = record { standing = []; past = []; published = listOf sv }; shows = record { good = w .good; index = p .index } };
-  }
+  pub publishes-given : Given (r .service) bs′
+  publishes-given = record { valid = rw (p .kept) v; published = record { list = _; shows = record { good = v .standing .good; index = p .index } } }
 
-  -- PUBLISH is the account's, whatever the index held before
-  pub publishes-met : (ix days numbers text : List ℕ) → Met sv ix (asking Publish days numbers text) r ix′ numbers text
+  -- PUBLISH is the account's, whatever the blocks held before
+  pub publishes-met : (bs : Blocks) (days numbers text : List ℕ) → Met sv bs (asking Publish days numbers text) r bs′ numbers text
   unfolding effectOf settle
-  publishes-met ix days numbers text = record {
+  publishes-met bs days numbers text = record {
     given = publishes-given;
     answer = λ m h. rw (p .outcome);
     after = λ m h. record {
-      wf = rw (p .kept) w;
+      valid = rw (p .kept) v;
       standing = rw (p .kept) (h .standing);
       past = rw (p .kept) (h .past);
-      shows = record { good = rw (← h .standing) (w .good); index = p .index ∙ ap indexOf (h .standing) };
+      shows = record { good = rw (← h .standing) (v .standing .good); index = p .index ∙ ap indexOf (h .standing) };
     };
   }
 
 -- ---- Writing
-pub wrote : (sv : Standing) (t t′ : List ℕ) (wr : Written) → Writes (writeAll (listOf sv)) t wr t′
-    → Wrote sv t (record { refusal = wr .refusal; count = 0; comparisons = 0; length = wr .length }) t′
+pub wrote : (sv : Service) (t t′ : List ℕ) (wr : Written) → Writes (writeAll (listOf (sv .standing))) t wr t′ → Wrote sv t (wroteOf wr) t′
 unfolding effectOf settle
 wrote sv t t′ wr w = record {
-  met = λ ix days numbers g. record {
+  met = λ bs days numbers g. record {
     given = g;
-    answer = λ m h. rw (w .answer, w .places, ← h .standing) (by-test (leb (length (writeAll (listOf sv))) (length t)) (λ e. rw e) (λ e. rw e));
-    after = λ m h. subst (Represents sv ix) (sym (reads-keep m (asking Write days numbers t) refl)) h;
+    answer = λ m h. rw (w .answer, w .places, ← h .standing) (by-test (leb (length (writeAll (listOf (sv .standing)))) (length t)) (λ e. rw e) (λ e. rw e));
+    after = λ m h. subst (Represents sv bs) (sym (reads-keep m (asking Write days numbers t) refl)) h;
   };
 }

@@ -1,18 +1,16 @@
 -- Demand 3 with no driver: whoever makes the calls, the answers are the account's. Assumes nothing.
-use mathlib.Core.Path.{_≡_, refl}
-use Prim.Native.Nat.{ℕ}
-use mathlib.Core.List.{List}
-use Rattle.standing.specs.declared.Standing.{Standing}
+use Rattle.basis.proofs.Prelude.{_≡_, refl, ℕ, List}
 use Rattle.register.specs.Text.{readText}
 use Rattle.model.specs.Model.{State, fresh, begun, Request, Answer, step, run}
+use Rattle.service.specs.declared.Service.{Service}
 use Rattle.service.specs.declared.Started.{Started}
-use Rattle.service.specs.Service.{Represents, Given, Begins}
+use Rattle.service.specs.Service.{Blocks, Represents, Given, Begins}
 use Rattle.service.proofs.Represented.{represented}
 use Rattle.service.specs.History.{Made, none, then}
 
--- A WHOLE LIST OF CALLS on a service and an index that stand for m has the answers of the account's own run from m
-pub made-run : {sv sv′ : Standing} {ix ix′ : List ℕ} {qs : List Request} {answers : List Answer} (m : State)
-    → Represents sv ix m → Made sv ix qs answers sv′ ix′ → answers ≡ run m qs
+-- A WHOLE LIST OF CALLS on a service and blocks that stand for m has the answers of the account's own run from m
+pub made-run : {sv sv′ : Service} {bs bs′ : Blocks} {qs : List Request} {answers : List Answer} (m : State)
+    → Represents sv bs m → Made sv bs qs answers sv′ bs′ → answers ≡ run m qs
 unfolding run
 made-run m s none = refl
 made-run m s (then {q = q} r left numbers text met more) =
@@ -20,17 +18,17 @@ made-run m s (then {q = q} r left numbers text met more) =
     rw (made-run (step m q .state) (k .after m s) more, k .answer m s)
 
 -- and the `requires` of every call is met
-pub made-given : {sv sv′ : Standing} {ix ix′ : List ℕ} {qs : List Request} {answers : List Answer}
-    → Given sv ix → Made sv ix qs answers sv′ ix′ → Given sv′ ix′
+pub made-given : {sv sv′ : Service} {bs bs′ : Blocks} {qs : List Request} {answers : List Answer}
+    → Given sv bs → Made sv bs qs answers sv′ bs′ → Given sv′ bs′
 made-given g none = g
 made-given g (then r left numbers text met more) = made-given (met g .given) more
 
--- BEGUN FRESH: what `fresh` ensures of its service and index is enough
-pub made-fresh : {sv sv′ : Standing} {ix ix′ : List ℕ} {qs : List Request} {answers : List Answer}
-    → Represents sv ix fresh → Made sv ix qs answers sv′ ix′ → answers ≡ run fresh qs
+-- BEGUN FRESH: what `fresh` ensures of its service and blocks is enough
+pub made-fresh : {sv sv′ : Service} {bs bs′ : Blocks} {qs : List Request} {answers : List Answer}
+    → Represents sv bs fresh → Made sv bs qs answers sv′ bs′ → answers ≡ run fresh qs
 made-fresh s = made-run fresh s
 
 -- BEGUN ON A REGISTER'S BYTES, a refused reading included: what `read` ensures is enough
-pub made-read : {sv′ : Standing} {ix ix′ : List ℕ} {qs : List Request} {answers : List Answer} (register : List ℕ) (r : Started)
-    → Begins (readText register) r ix → Made (r .service) ix qs answers sv′ ix′ → answers ≡ run (begun (readText register)) qs
+pub made-read : {sv′ : Service} {bs bs′ : Blocks} {qs : List Request} {answers : List Answer} (register : List ℕ) (r : Started)
+    → Begins (readText register) r bs → Made (r .service) bs qs answers sv′ bs′ → answers ≡ run (begun (readText register)) qs
 made-read register r b = made-run (begun (readText register)) (b .represents)

@@ -1,15 +1,9 @@
 -- The columns of a list that stands can be published. Assumes nothing.
-use Prim.Native.Nat.{ℕ, _≤_, _<_}
-use mathlib.Core.Path.{_≡_, refl}
-use mathlib.Core.Bool.{Bool, true, false, _||_}
-use mathlib.Core.List.{List, [], _∷_}
-use mathlib.Core.Logic.{_⊎_, inl, inr}
-use borrow.Author.Tests.{le-leb, lt-ltb, eq-eqb}
-use lib.Dec.{ltb}
+use Rattle.basis.proofs.Prelude.{_≡_, refl, _<_, _≤_, ℕ, List, [], _∷_, Bool, _||_, false, true, _⊎_, inl, inr, ltb, eq-eqb, le-leb, lt-ltb, both}
 use Rattle.spell.specs.declared.Spell.{Spell}
-use Rattle.spell.specs.Order.{earlierOf, ordered}
+use Rattle.spell.specs.Order.{earlierOf, ordered, orderedBy}
 use Rattle.spell.specs.Listing.{Each, Sound, Good}
-use Rattle.spell.proofs.Entered.{both, entered}
+use Rattle.spell.proofs.Entered.{entered}
 use Rattle.spell.proofs.Order.{earlier-days}
 use Rattle.stabbing.specs.Index.{rowOk, mayFollow, rowsAfter, rowsOk}
 use Rattle.model.specs.Questions.{firstsOf, lastsOf}
@@ -30,7 +24,7 @@ may-follow f l g m (inr h) = rw (eq-eqb f g (h .0), le-leb l m (h .1)) (either (
 -- each spell after one with the days f and l
 rows-after : (f l : ℕ) (x : Spell) (p : List Spell) → mayFollow f l (x .first) (x .last) ≡ true → Each Sound (x ∷ p) → ordered (x ∷ p) ≡ true
     → rowsAfter f l (firstsOf (x ∷ p)) (lastsOf (x ∷ p)) ≡ true
-unfolding rowsAfter Each ordered
+unfolding rowsAfter Each orderedBy
 rows-after f l x [] h s o = rw (row-right x (s .0), h)
 rows-after f l x (y ∷ p) h s o =
     let b = both (earlierOf x y) (ordered (y ∷ p)) o in

@@ -1,45 +1,28 @@
 -- The questions over a block's rows answer as the account does of the published list. Assumes nothing.
-use Prim.Native.Nat.{ℕ, zero, suc, _≤_, _<_}
-use mathlib.Core.Path.{_≡_, refl, sym, ap, _∙_}
-use mathlib.Core.Bool.{Bool, true, false, not, _&&_, _||_}
-use mathlib.Core.List.{List, [], _∷_, map}
-use native.Mathlib.Omega.{arith}
-use borrow.Author.Tests.{eqb-true, eq-eqb, ne-eqb, lt-ltb, leb-true, not-true}
-use lib.Dec.{leb, eqb}
-use lib.ListN.{length, getD, length-map, List·getD-map}
+use Rattle.basis.proofs.Prelude.{_∙_, _≡_, ap, refl, sym, _<_, suc, zero, ℕ, List, [], _∷_, map, Bool, _&&_, _||_, false, not, true, eqb, leb, List·getD-map, getD, length, length-map, arith, eq-eqb, eqb-true, lt-ltb, ne-eqb, not-true, both, by-mark, by-test, clash}
 use Rattle.refusal.specs.Table.{unknownNumber}
 use Rattle.spell.specs.declared.Spell.{Spell}
-use Rattle.spell.specs.Entry.{dayOk}
+use Rattle.calendar.specs.Calendar.{isDay, daysOk}
+use Rattle.calendar.proofs.Calendar.{dated}
+use Rattle.spell.specs.Blank.{blank}
 use Rattle.spell.specs.Listing.{stands, distinct}
-use Rattle.spell.proofs.Entered.{both}
 use Rattle.stabbing.specs.Tree.{keep, fitsAt, start, formula, below}
 use Rattle.stabbing.specs.Index.{named}
-use Rattle.stabbing.specs.Answer.{Outcome, give, question, calendars, risingFrom, meets, containsAny, dayOf, spanOf, covering, coverOf, daysOf}
-use Rattle.stabbing.proofs.Marks.{by-test, by-mark, clash, Below, below-is, below-own}
-use Rattle.model.specs.Questions.{reaches, onAny, daysOk, rising, listed, firstsOf, lastsOf, comparisonsOf}
+use Rattle.stabbing.specs.Answer.{Outcome, give, question, risingFrom, meets, containsAny, dayOf, spanOf, covering, coverOf, daysOf}
+use Rattle.stabbing.proofs.Marks.{Below, below-is, below-own}
+use Rattle.model.specs.Questions.{reaches, onAny, rising, listed, firstsOf, lastsOf, comparisonsOf}
 use Rattle.model.specs.declared.Question.the-variants.{Day, Span, Cover, Days}
 use Rattle.model.specs.Effects.{State, Request, Answer, Effect, refused, gives, settle}
 use Rattle.model.specs.Model.{reaching, cover, ask}
 use Rattle.model.proofs.Bridge.{Agree, agree, rows-kept, fits-agree}
-use Rattle.spell.specs.declared.Urgency.the-variants.{Grade}
+use Rattle.service.specs.Outcomes.{foundOf, answerOf}
 
 -- a question's outcome beside a list lent for a text, as the account's answer
 abbrev pub told : Outcome → List ℕ → Answer
-told o text = record {
-  refusal = o .result .refusal;
-  count = o .result .count;
-  comparisons = o .result .comparisons;
-  length = 0;
-  numbers = o .out;
-  text = text;
-}
+told o text = answerOf (foundOf (o .result)) (o .out) text
 
 abbrev pub numbersOf : List Spell → List ℕ
 numbersOf p = map (λ (s : Spell). s .number) p
-
--- a place that holds no spell
-abbrev blank : Spell
-blank = record { number = 0; candidate = 0; first = 0; last = 0; urgency = Grade 0 }
 
 -- the test of several days by the columns is the test of the spells
 meets-any : (ds : List ℕ) (s : Spell) → meets ds (s .first) (s .last) ≡ onAny ds s
@@ -55,11 +38,6 @@ days-agree : (ds : List ℕ) (p : List Spell) → Agree (containsAny (firstsOf p
 days-agree ds p = agree _ _ blank p (λ k _. contains-any p ds k)
 
 -- ---- Lists of days
-calendar-days : (ds : List ℕ) → calendars ds ≡ daysOk ds
-unfolding calendars daysOk
-calendar-days [] = refl
-calendar-days (d ∷ ds) = rw (calendar-days ds)
-
 rising-from : (d : ℕ) (ds : List ℕ) → risingFrom d ds ≡ rising (d ∷ ds)
 unfolding risingFrom rising
 rising-from d [] = refl
@@ -69,8 +47,7 @@ rising-days : (ds : List ℕ) → daysOk ds ≡ true → risingFrom 0 ds ≡ ris
 unfolding risingFrom daysOk
 rising-days [] h = unfold rising in refl
 rising-days (d ∷ ds) h =
-    let ok = both (dayOk d) (daysOk ds) h .0 in
-    let up : 1 ≤ d = leb-true 1 d (both (leb 1 d) (leb d 4000) ok .0) in
+    let up = dated d (both (isDay d) (daysOk ds) h .0) .0 in
     rw (lt-ltb 0 d up, rising-from d ds)
 
 -- ---- The spell of a number
@@ -128,21 +105,21 @@ module _ (m : State) (q : Request) where
 
   pub day-told : (d : ℕ) → told (dayOf (numbersOf rows) (firstsOf rows) (lastsOf rows) d (q .numbers)) (q .text) ≡ settle (ask (Day d) (q .days) rows) m q .answer
   unfolding dayOf ask settle
-  day-told d = by-test (dayOk d) (λ e. rw (e, dayOf) (question-told d d)) (λ e. rw (e, dayOf))
+  day-told d = by-test (isDay d) (λ e. rw (e, dayOf) (question-told d d)) (λ e. rw (e, dayOf))
 
   pub span-told : (a b : ℕ) → told (spanOf (numbersOf rows) (firstsOf rows) (lastsOf rows) a b (q .numbers)) (q .text) ≡ settle (ask (Span a b) (q .days) rows) m q .answer
   unfolding spanOf ask settle
-  span-told a b = by-test (dayOk a && dayOk b)
+  span-told a b = by-test (isDay a && isDay b)
       (λ e. rw (e, spanOf) (by-test (leb a b) (λ f. rw (f, spanOf) (question-told b a)) (λ f. rw (f, spanOf))))
       (λ e. rw (e, spanOf))
 
   pub days-told : told (daysOf (numbersOf rows) (firstsOf rows) (lastsOf rows) (q .days) (q .numbers)) (q .text) ≡ settle (ask Days (q .days) rows) m q .answer
   unfolding daysOf ask settle
   days-told = by-test (daysOk (q .days))
-      (λ e. rw (calendar-days (q .days) ∙ e, daysOf, e) (by-test (rising (q .days))
+      (λ e. rw (e, daysOf) (by-test (rising (q .days))
       (λ f. rw (rising-days (q .days) e ∙ f, daysOf, f) (several-told (onAny (q .days)) (containsAny (firstsOf rows) (lastsOf rows) (q .days)) 0 (days-agree (q .days) rows)))
       (λ f. rw (rising-days (q .days) e ∙ f, daysOf, f))))
-      (λ e. rw (calendar-days (q .days) ∙ e, daysOf, e))
+      (λ e. rw (e, daysOf))
 
   -- the first spell of the number k
   cover-hit : (k : ℕ) (l : List Spell) (i : ℕ) → i < length l → getD l i blank .number ≡ k → ((j : ℕ) → j < i → getD l j blank .number ≡ k → ⊥)

@@ -1,23 +1,16 @@
--- A service and an index are what the calls gave exactly if they stand for a state. Assumes nothing.
-use Prim.Native.Nat.{ℕ}
-use mathlib.Core.Path.{refl}
-use mathlib.Core.List.{List}
-use Rattle.standing.specs.declared.Standing.{Standing}
+-- A service and its blocks are what the calls gave exactly if they stand for a state. Assumes nothing.
+use Rattle.basis.proofs.Prelude.{refl}
 use Rattle.standing.specs.Standing.{listOf, pasts}
-use Rattle.model.specs.Model.{State}
-use Rattle.service.specs.Service.{Represents, Given}
+use Rattle.model.specs.Model.{State, withStanding, withPublished, fresh}
+use Rattle.service.specs.declared.Service.{Service}
+use Rattle.service.specs.Service.{Blocks, Represents, Given}
 
-pub represented : {sv : Standing} {ix : List ℕ} {m : State} → Represents sv ix m → Given sv ix
-represented {m = m} r = record { wf = r .wf; published = record { state = m; shows = r .shows } }
+pub represented : {sv : Service} {bs : Blocks} {m : State} → Represents sv bs m → Given sv bs
+represented r = record { valid = r .valid; published = record { list = _; shows = r .shows } }
 
-module _ {sv : Standing} {ix : List ℕ} (g : Given sv ix) where
+module _ {sv : Service} {bs : Blocks} (g : Given sv bs) where
   abbrev pub stateOf : State
-  stateOf = record { standing = listOf sv; past = pasts sv; published = g .published .state .published }
+  stateOf = withPublished (g .published .list) (withStanding (listOf (sv .standing)) (pasts (sv .standing)) fresh)
 
-  pub stands : Represents sv ix stateOf
-  stands = record {
-    wf = g .wf;
-    standing = refl;
-    past = refl;
-    shows = record { good = g .published .shows .good; index = g .published .shows .index };
-  }
+  pub stands : Represents sv bs stateOf
+  stands = record { valid = g .valid; standing = refl; past = refl; shows = g .published .shows }

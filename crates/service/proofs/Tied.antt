@@ -1,23 +1,21 @@
 -- The contract of each public function, as the prover reads it, is a beginning or a step of `Made`; and what each asks. Assumes nothing.
-use mathlib.Core.Path.{_≡_, refl}
-use Prim.Native.Nat.{ℕ}
-use mathlib.Core.List.{List}
+use Rattle.basis.proofs.Prelude.{_≡_, refl, ℕ, List}
 use contract.Lifetimes.{Lfts}
 use denote.Ref.{RefT, now}
 use Rattle.spell.specs.declared.Spell.{Spell}
 use Rattle.register.specs.Text.{readText}
-use Rattle.standing.specs.declared.Standing.{Standing}
-use Rattle.standing.specs.Standing.{Wf}
-use Rattle.standing.specs.Places.{freshStanding}
 use Rattle.model.specs.declared.Call.{Call}
 use Rattle.model.specs.declared.Call.the-variants.{Enter, Amend, Strike, TakeBack, Publish, Write, Ask}
 use Rattle.model.specs.declared.Question.{Question}
 use Rattle.model.specs.declared.Question.the-variants.{Day, Span, Cover, Days}
 use Rattle.model.specs.Model.{fresh}
+use Rattle.service.specs.declared.Service.{Service}
 use Rattle.service.specs.declared.Outcome.{Outcome}
 use Rattle.service.specs.declared.Stepped.{Stepped}
 use Rattle.service.specs.declared.Started.{Started}
-use Rattle.service.specs.Service.{Represents, Published, Given, asking, Met, Begins}
+use Rattle.service.specs.Places.{freshService}
+use Rattle.service.specs.Service.{Blocks, blocks, Valid, Represents, Published, Given, asking, keeping, Met, Begins}
+use Rattle.service.specs.Packed.{unpacked, Packs}
 use Rattle.service.specs.History.{Steps}
 use Rattle.service.proofs.Beginning.{publishes-met}
 use Rattle.service.proofs.fresh.Reads as fresh-reads
@@ -34,86 +32,103 @@ use Rattle.service.proofs.cover.Reads as cover-reads
 use Rattle.service.proofs.days.Reads as days-reads
 use Rattle.service.proofs.ask.Reads as ask-reads
 use Rattle.service.proofs.step.Reads as step-reads
+use Rattle.service.proofs.pack.Reads as pack-reads
+use Rattle.service.proofs.unpack.Reads as unpack-reads
 
 -- ---- The beginning
 
-module _ (κs : Lfts 1) (sv : Standing) (index index′ : RefT (List ℕ)) where
-  pub fresh-is : fresh-reads.Post κs (index, tt) sv (index′, tt) ≡ (Represents sv (now index′) fresh × (sv ≡ freshStanding))
+module _ (κs : Lfts 1) (sv : Service) (index index′ : RefT (List ℕ)) where
+  pub fresh-is : fresh-reads.Post κs (index, tt) sv (index′, tt) ≡ (Represents sv (blocks (now index′)) fresh × (sv ≡ freshService))
   fresh-is = refl
 
 module _ (κs : Lfts 2) (r : Started) (text index index′ : RefT (List ℕ)) where
-  pub read-is : read-reads.Post κs (text, (index, tt)) r (text, (index′, tt)) ≡ Begins (readText (now text)) r (now index′)
+  pub read-is : read-reads.Post κs (text, (index, tt)) r (text, (index′, tt)) ≡ Begins (readText (now text)) r (blocks (now index′))
   read-is = refl
 
 -- ---- Edits
 
-module _ (κs : Lfts 0) (sv : Standing) (r : Stepped) {ix days numbers text : List ℕ} where
+module _ (κs : Lfts 0) (sv : Service) (r : Stepped) {bs : Blocks} {days numbers text : List ℕ} where
   pub enter-steps : (s : Spell) → (enter-reads.Pre κs (sv, (s, tt)) → enter-reads.Post κs (sv, (s, tt)) r (sv, (s, tt)))
-      → Steps sv ix (asking (Enter s) days numbers text) r ix numbers text
-  enter-steps s met g = met (g .wf) .met ix days numbers text g
+      → Steps sv bs (asking (Enter s) days numbers text) r bs numbers text
+  enter-steps s met g = met (g .valid) .met bs days numbers text g
 
   pub amend-steps : (s : Spell) → (amend-reads.Pre κs (sv, (s, tt)) → amend-reads.Post κs (sv, (s, tt)) r (sv, (s, tt)))
-      → Steps sv ix (asking (Amend s) days numbers text) r ix numbers text
-  amend-steps s met g = met (g .wf) .met ix days numbers text g
+      → Steps sv bs (asking (Amend s) days numbers text) r bs numbers text
+  amend-steps s met g = met (g .valid) .met bs days numbers text g
 
   pub strike-steps : (k : ℕ) → (strike-reads.Pre κs (sv, (k, tt)) → strike-reads.Post κs (sv, (k, tt)) r (sv, (k, tt)))
-      → Steps sv ix (asking (Strike k) days numbers text) r ix numbers text
-  strike-steps k met g = met (g .wf) .met ix days numbers text g
+      → Steps sv bs (asking (Strike k) days numbers text) r bs numbers text
+  strike-steps k met g = met (g .valid) .met bs days numbers text g
 
   pub take-back-steps : (take-back-reads.Pre κs (sv, tt) → take-back-reads.Post κs (sv, tt) r (sv, tt))
-      → Steps sv ix (asking TakeBack days numbers text) r ix numbers text
-  take-back-steps met g = met (g .wf) .met ix days numbers text g
+      → Steps sv bs (asking TakeBack days numbers text) r bs numbers text
+  take-back-steps met g = met (g .valid) .met bs days numbers text g
 
 -- ---- Publish and writing
 
 -- publish steps from any index, whatever the block held that it wrote
-module _ (κs : Lfts 1) (sv : Standing) (r : Stepped) (index index′ : RefT (List ℕ)) {ix days numbers text : List ℕ} where
+module _ (κs : Lfts 1) (sv : Service) (r : Stepped) (index index′ : RefT (List ℕ)) {bs : Blocks} {days numbers text : List ℕ} where
   pub publish-steps : (publish-reads.Pre κs (sv, (index, tt)) → publish-reads.Post κs (sv, (index, tt)) r (sv, (index′, tt)))
-      → Steps sv ix (asking Publish days numbers text) r (now index′) numbers text
-  publish-steps met g = publishes-met (g .wf) (met (g .wf)) ix days numbers text
+      → Steps sv bs (asking Publish days numbers text) r (blocks (now index′)) numbers text
+  publish-steps met g = publishes-met (g .valid) (met (g .valid)) bs days numbers text
 
-module _ (κs : Lfts 1) (sv : Standing) (o : Outcome) (text text′ : RefT (List ℕ)) {ix days numbers : List ℕ} where
+module _ (κs : Lfts 1) (sv : Service) (o : Outcome) (text text′ : RefT (List ℕ)) {bs : Blocks} {days numbers : List ℕ} where
   pub write-steps : (write-reads.Pre κs (sv, (text, tt)) → write-reads.Post κs (sv, (text, tt)) o (sv, (text′, tt)))
-      → Steps sv ix (asking Write days numbers (now text)) (record { service = sv; outcome = o }) ix numbers (now text′)
-  write-steps met g = met (g .wf) .met ix days numbers g
+      → Steps sv bs (asking Write days numbers (now text)) (keeping sv o) bs numbers (now text′)
+  write-steps met g = met (g .valid) .met bs days numbers g
 
 -- ---- Questions
 
-module _ (κs : Lfts 2) (index numbers numbers′ : RefT (List ℕ)) (o : Outcome) {sv : Standing} {days text : List ℕ} where
+module _ (κs : Lfts 2) (index numbers numbers′ : RefT (List ℕ)) (o : Outcome) {sv : Service} {days text : List ℕ} where
   pub day-steps : (d : ℕ) → (day-reads.Pre κs (index, (d, (numbers, tt))) → day-reads.Post κs (index, (d, (numbers, tt))) o (index, (d, (numbers′, tt))))
-      → Steps sv (now index) (asking (Ask (Day d)) days (now numbers) text) (record { service = sv; outcome = o }) (now index) (now numbers′) text
+      → Steps sv (blocks (now index)) (asking (Ask (Day d)) days (now numbers) text) (keeping sv o) (blocks (now index)) (now numbers′) text
   day-steps d met g = met (g .published) days .met sv text g
 
   pub span-steps : (a b : ℕ)
       → (span-reads.Pre κs (index, (a, (b, (numbers, tt)))) → span-reads.Post κs (index, (a, (b, (numbers, tt)))) o (index, (a, (b, (numbers′, tt)))))
-      → Steps sv (now index) (asking (Ask (Span a b)) days (now numbers) text) (record { service = sv; outcome = o }) (now index) (now numbers′) text
+      → Steps sv (blocks (now index)) (asking (Ask (Span a b)) days (now numbers) text) (keeping sv o) (blocks (now index)) (now numbers′) text
   span-steps a b met g = met (g .published) days .met sv text g
 
   pub cover-steps : (k : ℕ) → (cover-reads.Pre κs (index, (k, (numbers, tt))) → cover-reads.Post κs (index, (k, (numbers, tt))) o (index, (k, (numbers′, tt))))
-      → Steps sv (now index) (asking (Ask (Cover k)) days (now numbers) text) (record { service = sv; outcome = o }) (now index) (now numbers′) text
+      → Steps sv (blocks (now index)) (asking (Ask (Cover k)) days (now numbers) text) (keeping sv o) (blocks (now index)) (now numbers′) text
   cover-steps k met g = met (g .published) days .met sv text g
 
-module _ (κs : Lfts 3) (index days numbers numbers′ : RefT (List ℕ)) (o : Outcome) {sv : Standing} {text : List ℕ} where
+module _ (κs : Lfts 3) (index days numbers numbers′ : RefT (List ℕ)) (o : Outcome) {sv : Service} {text : List ℕ} where
   pub days-steps : (days-reads.Pre κs (index, (days, (numbers, tt))) → days-reads.Post κs (index, (days, (numbers, tt))) o (index, (days, (numbers′, tt))))
-      → Steps sv (now index) (asking (Ask Days) (now days) (now numbers) text) (record { service = sv; outcome = o }) (now index) (now numbers′) text
+      → Steps sv (blocks (now index)) (asking (Ask Days) (now days) (now numbers) text) (keeping sv o) (blocks (now index)) (now numbers′) text
   days-steps met g = met (g .published) .met sv text g
 
   pub ask-steps : (w : Question)
       → (ask-reads.Pre κs (index, (w, (days, (numbers, tt)))) → ask-reads.Post κs (index, (w, (days, (numbers, tt)))) o (index, (w, (days, (numbers′, tt)))))
-      → Steps sv (now index) (asking (Ask w) (now days) (now numbers) text) (record { service = sv; outcome = o }) (now index) (now numbers′) text
+      → Steps sv (blocks (now index)) (asking (Ask w) (now days) (now numbers) text) (keeping sv o) (blocks (now index)) (now numbers′) text
   ask-steps w met g = met (g .published) .met sv text g
 
 -- ---- Any call: the step itself, and nothing weaker
 
-module _ (κs : Lfts 4) (sv : Standing) (call : Call) (index index′ days numbers numbers′ text text′ : RefT (List ℕ)) (r : Stepped) where
+module _ (κs : Lfts 4) (sv : Service) (call : Call) (index index′ days numbers numbers′ text text′ : RefT (List ℕ)) (r : Stepped) where
   pub step-is : step-reads.Post κs (sv, (index, (call, (days, (numbers, (text, tt)))))) r (sv, (index′, (call, (days, (numbers′, (text′, tt))))))
-      ≡ Met sv (now index) (asking call (now days) (now numbers) (now text)) r (now index′) (now numbers′) (now text′)
+      ≡ Met sv (blocks (now index)) (asking call (now days) (now numbers) (now text)) r (blocks (now index′)) (now numbers′) (now text′)
   step-is = refl
 
   pub step-steps : (step-reads.Pre κs (sv, (index, (call, (days, (numbers, (text, tt))))))
       → step-reads.Post κs (sv, (index, (call, (days, (numbers, (text, tt)))))) r (sv, (index′, (call, (days, (numbers′, (text′, tt)))))))
-      → Steps sv (now index) (asking call (now days) (now numbers) (now text)) r (now index′) (now numbers′) (now text′)
+      → Steps sv (blocks (now index)) (asking call (now days) (now numbers) (now text)) r (blocks (now index′)) (now numbers′) (now text′)
   step-steps met = met
+
+-- ---- In words
+
+module _ (κs : Lfts 1) (words words′ : RefT (List ℕ)) (sv : Service) where
+  pub pack-is : (u : Unit {0}) → pack-reads.Post κs (sv, (words, tt)) u (sv, (words′, tt)) ≡ Packs sv (now words′)
+  pack-is u = refl
+
+  pub unpack-is : unpack-reads.Post κs (words, tt) sv (words, tt) ≡ (sv ≡ unpacked (now words))
+  unpack-is = refl
+
+  pub pack-asks : pack-reads.Pre κs (sv, (words, tt)) ≡ Valid sv
+  pack-asks = refl
+
+  pub unpack-asks : unpack-reads.Pre κs (words, tt) ≡ Unit {0}
+  unpack-asks = refl
 
 -- ---- What each asks: at the beginning nothing, and else that service or index, or both, are what the calls gave
 
@@ -121,26 +136,26 @@ module _ (κs : Lfts 1) (index : RefT (List ℕ)) where
   pub fresh-asks : fresh-reads.Pre κs (index, tt) ≡ Unit {0}
   fresh-asks = refl
 
-  pub publish-asks : (sv : Standing) → publish-reads.Pre κs (sv, (index, tt)) ≡ Wf sv
+  pub publish-asks : (sv : Service) → publish-reads.Pre κs (sv, (index, tt)) ≡ Valid sv
   publish-asks sv = refl
 
 pub read-asks : (κs : Lfts 2) (text index : RefT (List ℕ)) → read-reads.Pre κs (text, (index, tt)) ≡ Unit {0}
 read-asks κs text index = refl
 
-module _ (κs : Lfts 0) (sv : Standing) where
-  pub enter-asks : (s : Spell) → enter-reads.Pre κs (sv, (s, tt)) ≡ Wf sv
+module _ (κs : Lfts 0) (sv : Service) where
+  pub enter-asks : (s : Spell) → enter-reads.Pre κs (sv, (s, tt)) ≡ Valid sv
   enter-asks s = refl
 
-  pub amend-asks : (s : Spell) → amend-reads.Pre κs (sv, (s, tt)) ≡ Wf sv
+  pub amend-asks : (s : Spell) → amend-reads.Pre κs (sv, (s, tt)) ≡ Valid sv
   amend-asks s = refl
 
-  pub strike-asks : (k : ℕ) → strike-reads.Pre κs (sv, (k, tt)) ≡ Wf sv
+  pub strike-asks : (k : ℕ) → strike-reads.Pre κs (sv, (k, tt)) ≡ Valid sv
   strike-asks k = refl
 
-  pub take-back-asks : take-back-reads.Pre κs (sv, tt) ≡ Wf sv
+  pub take-back-asks : take-back-reads.Pre κs (sv, tt) ≡ Valid sv
   take-back-asks = refl
 
-pub write-asks : (κs : Lfts 1) (sv : Standing) (text : RefT (List ℕ)) → write-reads.Pre κs (sv, (text, tt)) ≡ Wf sv
+pub write-asks : (κs : Lfts 1) (sv : Service) (text : RefT (List ℕ)) → write-reads.Pre κs (sv, (text, tt)) ≡ Valid sv
 write-asks κs sv text = refl
 
 module _ (κs : Lfts 2) (index numbers : RefT (List ℕ)) where
@@ -160,6 +175,6 @@ module _ (κs : Lfts 3) (index days numbers : RefT (List ℕ)) where
   pub ask-asks : (w : Question) → ask-reads.Pre κs (index, (w, (days, (numbers, tt)))) ≡ Published (now index)
   ask-asks w = refl
 
-pub step-asks : (κs : Lfts 4) (sv : Standing) (call : Call) (index days numbers text : RefT (List ℕ))
-    → step-reads.Pre κs (sv, (index, (call, (days, (numbers, (text, tt)))))) ≡ Given sv (now index)
+pub step-asks : (κs : Lfts 4) (sv : Service) (call : Call) (index days numbers text : RefT (List ℕ))
+    → step-reads.Pre κs (sv, (index, (call, (days, (numbers, (text, tt)))))) ≡ Given sv (blocks (now index))
 step-asks κs sv call index days numbers text = refl

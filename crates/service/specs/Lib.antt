@@ -1,3 +1,5 @@
-pub mod Service
 pub mod Places
+pub mod Outcomes
+pub mod Service
 pub mod History
+pub mod Packed

@@ -8,45 +8,58 @@ use mathlib.Core.List.{List, map}
 use Rattle.spell.specs.declared.Spell.{Spell}
 use Rattle.spell.specs.Listing.{Good}
 use Rattle.stabbing.specs.Index.{blockOf}
-use Rattle.standing.specs.declared.Standing.{Standing}
-use Rattle.standing.specs.Standing.{Wf, listOf, pasts, afterReading}
+use Rattle.standing.specs.Standing.{Wf, listOf, pasts}
 use Rattle.model.specs.declared.Call.{Call}
 use Rattle.model.specs.declared.Question.{Question}
 use Rattle.model.specs.Questions.{firstsOf, lastsOf}
 use Rattle.register.specs.Text.{Register}
-use Rattle.model.specs.Model.{State, begun, refusalIn, lineIn, Request, Answer, step}
+use Rattle.model.specs.Model.{State, begun, refusalIn, lineIn, Request, step}
+use Rattle.service.specs.declared.Service.{Service}
 use Rattle.service.specs.declared.Outcome.{Outcome}
 use Rattle.service.specs.declared.Stepped.{Stepped}
 use Rattle.service.specs.declared.Started.{Started}
-use Rattle.service.specs.Places.{leaves}
+use Rattle.service.specs.Places.{readService, leaves}
+use Rattle.service.specs.Outcomes.{toldOf}
+pub use Rattle.service.specs.Outcomes.{answerOf}
 
 -- ---- What stands for the account's state
+
+-- the blocks of words that are lent beside a service: the published index
+pub record Blocks : Type 0 where
+  pub index : List ℕ
+
+abbrev pub blocks : List ℕ → Blocks
+blocks ix = record { index = ix }
 
 -- the index of a published list
 abbrev pub indexOf : List Spell → List ℕ
 indexOf p = blockOf (map (λ (s : Spell). s .number) p) (firstsOf p) (lastsOf p)
 
--- the index ix shows the published list of the state m
-pub record Shows (ix : List ℕ) (m : State) : Type 0 where
-  pub good : Good (m .published)
-  pub index : ix ≡ indexOf (m .published)
-
--- the service sv and the index ix stand for the state m
-pub record Represents (sv : Standing) (ix : List ℕ) (m : State) : Type 0 where
-  pub wf : Wf sv
-  pub standing : listOf sv ≡ m .standing
-  pub past : pasts sv ≡ m .past
-  pub shows : Shows ix m
+-- the index ix shows the published list p
+pub record Shows (ix : List ℕ) (p : List Spell) : Type 0 where
+  pub good : Good p
+  pub index : ix ≡ indexOf p
 
 -- an index that the calls gave shows some published list
 pub record Published (ix : List ℕ) : Type 0 where
-  pub state : State
-  pub shows : Shows ix state
+  pub list : List Spell
+  pub shows : Shows ix list
 
--- a service and an index that the calls gave: the one is a standing list that they gave, the other shows a published list
-pub record Given (sv : Standing) (ix : List ℕ) : Type 0 where
-  pub wf : Wf sv
-  pub published : Published ix
+-- a service that the calls gave: its standing list is one that they gave
+pub record Valid (sv : Service) : Type 0 where
+  pub standing : Wf (sv .standing)
+
+-- the service sv and the blocks bs stand for the state m
+pub record Represents (sv : Service) (bs : Blocks) (m : State) : Type 0 where
+  pub valid : Valid sv
+  pub standing : listOf (sv .standing) ≡ m .standing
+  pub past : pasts (sv .standing) ≡ m .past
+  pub shows : Shows (bs .index) (m .published)
+
+-- a service and blocks that the calls gave: the index shows a published list
+pub record Given (sv : Service) (bs : Blocks) : Type 0 where
+  pub valid : Valid sv
+  pub published : Published (bs .index)
 
 -- ---- The postcondition of a call
 
@@ -54,55 +67,45 @@ pub record Given (sv : Standing) (ix : List ℕ) : Type 0 where
 abbrev pub asking : Call → List ℕ → List ℕ → List ℕ → Request
 asking c days numbers text = record { call = c; days = days; numbers = numbers; text = text }
 
--- a call's outcome with what its lent lists hold afterwards, as the account's answer
-abbrev pub answerOf : Outcome → List ℕ → List ℕ → Answer
-answerOf o numbers text = record {
-  refusal = o .refusal;
-  count = o .count;
-  comparisons = o .comparisons;
-  length = o .length;
-  numbers = numbers;
-  text = text;
-}
+-- a call that leaves the service as it was
+abbrev pub keeping : Service → Outcome → Stepped
+keeping sv o = record { service = sv; outcome = o }
 
--- THE POSTCONDITION of a call: the service sv with the index ix was asked q, and gave r, with ix′ in the index and numbers and
+-- THE POSTCONDITION of a call: the service sv with the blocks bs was asked q, and gave r, with bs′ in the blocks and numbers and
 -- text in the lent lists. For whatever state they stood for, the answer is the account's, and they stand for the state after.
-pub record Met (sv : Standing) (ix : List ℕ) (q : Request) (r : Stepped) (ix′ numbers text : List ℕ) : Type 0 where
-  pub given : Given (r .service) ix′
-  pub answer : (m : State) → Represents sv ix m → answerOf (r .outcome) numbers text ≡ step m q .answer
-  pub after : (m : State) → Represents sv ix m → Represents (r .service) ix′ (step m q .state)
+pub record Met (sv : Service) (bs : Blocks) (q : Request) (r : Stepped) (bs′ : Blocks) (numbers text : List ℕ) : Type 0 where
+  pub given : Given (r .service) bs′
+  pub answer : (m : State) → Represents sv bs m → answerOf (r .outcome) numbers text ≡ step m q .answer
+  pub after : (m : State) → Represents sv bs m → Represents (r .service) bs′ (step m q .state)
 
--- the same of an edit or a take back, which is lent nothing: whatever index and lists stand beside it, they are as they were; and where
+-- the same of an edit or a take back, which is lent nothing: whatever blocks and lists stand beside it, they are as they were; and where
 -- it is refused, so is the service, of which every place is given
-pub record Changed (sv : Standing) (c : Call) (r : Stepped) : Type 0 where
-  pub wf : Wf (r .service)
+pub record Changed (sv : Service) (c : Call) (r : Stepped) : Type 0 where
+  pub valid : Valid (r .service)
   pub whole : r .service ≡ leaves sv c
   pub kept : eqb (r .outcome .refusal) accepted ≡ false → r .service ≡ sv
-  pub met : (ix days numbers text : List ℕ) → Given sv ix → Met sv ix (asking c days numbers text) r ix numbers text
+  pub met : (bs : Blocks) (days numbers text : List ℕ) → Given sv bs → Met sv bs (asking c days numbers text) r bs numbers text
 
--- the same of a question: whatever service stands beside the index, and whatever list for a text, they are as they were
-pub record Asked (ix : List ℕ) (w : Question) (days numbers : List ℕ) (o : Outcome) (numbers′ : List ℕ) : Type 0 where
-  pub met : (sv : Standing) (text : List ℕ) → Given sv ix → Met sv ix (asking (Call.Ask w) days numbers text) (record { service = sv; outcome = o }) ix numbers′ text
+-- the same of a question: whatever service stands beside the blocks, and whatever list for a text, they are as they were
+pub record Asked (bs : Blocks) (w : Question) (days numbers : List ℕ) (o : Outcome) (numbers′ : List ℕ) : Type 0 where
+  pub met : (sv : Service) (text : List ℕ) → Given sv bs → Met sv bs (asking (Call.Ask w) days numbers text) (keeping sv o) bs numbers′ text
 
 -- the same of writing
-pub record Wrote (sv : Standing) (text : List ℕ) (o : Outcome) (text′ : List ℕ) : Type 0 where
-  pub met : (ix days numbers : List ℕ) → Given sv ix → Met sv ix (asking Call.Write days numbers text) (record { service = sv; outcome = o }) ix numbers text′
+pub record Wrote (sv : Service) (text : List ℕ) (o : Outcome) (text′ : List ℕ) : Type 0 where
+  pub met : (bs : Blocks) (days numbers : List ℕ) → Given sv bs → Met sv bs (asking Call.Write days numbers text) (keeping sv o) bs numbers text′
 
--- accepted, and no more is told
-abbrev pub plain : Outcome
-plain = record { refusal = accepted; count = 0; comparisons = 0; length = 0 }
-
--- publish: the index becomes that of the standing list, every word of it, whatever it held before; the service is as it was
-pub record Publishes (sv : Standing) (r : Stepped) (ix′ : List ℕ) : Type 0 where
+-- publish: the index becomes that of the standing list, every word of it, whatever it held before; the service is as it was, and no
+-- more is told than that it is accepted
+pub record Publishes (sv : Service) (r : Stepped) (bs′ : Blocks) : Type 0 where
   pub kept : r .service ≡ sv
-  pub outcome : r .outcome ≡ plain
-  pub index : ix′ ≡ indexOf (listOf sv)
+  pub outcome : r .outcome ≡ toldOf accepted
+  pub index : bs′ .index ≡ indexOf (listOf (sv .standing))
 
 -- ---- The beginning
 
--- a reading: service and index stand for the state with which the account begins, and every place of the service is given
-pub record Begins (g : Register) (r : Started) (ix : List ℕ) : Type 0 where
-  pub whole : r .service ≡ afterReading g
-  pub represents : Represents (r .service) ix (begun g)
+-- a reading: service and blocks stand for the state with which the account begins, and every place of the service is given
+pub record Begins (g : Register) (r : Started) (bs : Blocks) : Type 0 where
+  pub whole : r .service ≡ readService g
+  pub represents : Represents (r .service) bs (begun g)
   pub refusal : r .refusal ≡ refusalIn g
   pub line : r .line ≡ lineIn g

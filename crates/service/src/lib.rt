@@ -3,21 +3,29 @@ ghost use mathlib.Core.Path.{_≡_};
 ghost use Prim.Native.Nat.{ℕ};
 ghost use mathlib.Core.List.{List};
 ghost use Rattle.standing.specs.Standing.{Wf, listOf};
-ghost use Rattle.standing.specs.Places.{freshStanding};
 ghost use mathlib.Core.List.{[]};
+ghost use Rattle.refusal.specs.Table.{accepted};
 ghost use Rattle.register.specs.Text.{readText};
 ghost use Rattle.model.specs.Model.{fresh};
-ghost use Rattle.service.specs.Service.{indexOf, Represents, Published, Given, asking, plain, Met, Changed, Publishes, Asked, Wrote, Begins};
+ghost use Rattle.service.specs.Places.{serviceOf, freshService};
+ghost use Rattle.service.specs.Outcomes.{toldOf, foundOf, wroteOf};
+ghost use Rattle.service.specs.Service.{indexOf, blocks, Valid, Represents, Published, Given, asking, keeping, Met, Changed, Publishes, Asked, Wrote, Begins};
+ghost use Rattle.service.specs.Packed.{unpacked, Packs};
 use model::Call;
 use model::Question;
 use refusal::ACCEPTED;
+use register::Written;
 use spell::Spell;
 use stabbing::INDEX;
 use stabbing::Listed;
 use standing::Edited;
+use standing::Standing;
+use standing::words::STANDING;
 
-// A service is a standing list with its journal. Its fields are private: other code has one only from the calls.
-pub type Service = standing::Standing;
+// What a service keeps: the standing list with its journal. The field is private: other code has a service only from the calls.
+pub struct Service {
+    standing: Standing,
+}
 
 // What a call returns beside its lent lists: the refusal's number or 0, how many spells are listed, the comparisons made
 // (document 01's looks), the length of a written text.
@@ -40,6 +48,44 @@ pub struct Started {
     pub line: u16,
 }
 
+// ---- Outcomes: every one is made here
+
+// A number and no more: the refusal's, or 0.
+fn told(number: u16) -> Outcome
+    ensures { λ r. ⌜ r ≡ toldOf number ⌝ }
+{
+    Outcome {
+        refusal: number,
+        count: 0,
+        comparisons: 0,
+        length: 0,
+    }
+}
+
+// What a question found in the index.
+fn found(l: Listed) -> Outcome
+    ensures { λ r. ⌜ r ≡ foundOf l ⌝ }
+{
+    Outcome {
+        refusal: l.refusal,
+        count: l.count,
+        comparisons: l.comparisons,
+        length: 0,
+    }
+}
+
+// What was written of a text.
+fn wrote(w: Written) -> Outcome
+    ensures { λ r. ⌜ r ≡ wroteOf w ⌝ }
+{
+    Outcome {
+        refusal: w.refusal,
+        count: 0,
+        comparisons: 0,
+        length: w.length,
+    }
+}
+
 // ---- The beginning
 
 // The index of nobody: nothing is published in it.
@@ -52,172 +98,150 @@ pub fn fresh_index(index: &mut [u16; INDEX])
 
 // A fresh service: nothing stands, nothing is published, and there is no past.
 pub fn fresh(index: &mut [u16; INDEX]) -> Service
-    ensures { λ r. ⌜ Represents r (now (index .exit)) fresh ⌝ }
-    ensures { λ r. ⌜ r ≡ freshStanding ⌝ }
+    ensures { λ r. ⌜ Represents r (blocks (now (index .exit))) fresh ⌝ }
+    ensures { λ r. ⌜ r ≡ freshService ⌝ }
 {
     fresh_index(index);
-    standing::fresh()
+    Service {
+        standing: standing::fresh(),
+    }
 }
 
 // The service that a register text makes; a refused text makes a fresh one.
 pub fn read(text: &[u8], index: &mut [u16; INDEX]) -> Started
-    ensures { λ r. ⌜ Begins (readText (now (text .entry))) r (now (index .exit)) ⌝ }
+    ensures { λ r. ⌜ Begins (readText (now (text .entry))) r (blocks (now (index .exit))) ⌝ }
 {
     fresh_index(index);
-    let loaded = standing::read(text);
-    let service = loaded.standing;
+    let got = register_read::read(text);
+    let service = Service {
+        standing: standing::loaded(got),
+    };
     Started {
         service,
-        refusal: loaded.refusal,
-        line: loaded.line,
+        refusal: got.refusal,
+        line: got.line,
     }
 }
 
 // ---- Edits: the index is not touched
 
 fn edited(e: Edited) -> Stepped
-    ensures { λ r. ⌜ r ≡ record { service = e .standing; outcome = record { refusal = e .refusal; count = 0; comparisons = 0; length = 0 } } ⌝ }
+    ensures { λ r. ⌜ r ≡ record { service = serviceOf (e .standing); outcome = toldOf (e .refusal) } ⌝ }
 {
-    let service = e.standing;
-    let outcome = Outcome {
-        refusal: e.refusal,
-        count: 0,
-        comparisons: 0,
-        length: 0,
-    };
+    let standing = e.standing;
+    let service = Service { standing };
+    let outcome = told(e.refusal);
     Stepped { service, outcome }
 }
 
 // Put a spell in.
 pub fn enter(service: Service, s: Spell) -> Stepped
-    requires { ⌜ Wf service ⌝ }
+    requires { ⌜ Valid service ⌝ }
     ensures { λ r. ⌜ Changed service (Call.Enter s) r ⌝ }
 {
-    edited(standing::enter(service, s))
+    edited(standing::enter(service.standing, s))
 }
 
 // Replace the spell of that number by the given one.
 pub fn amend(service: Service, s: Spell) -> Stepped
-    requires { ⌜ Wf service ⌝ }
+    requires { ⌜ Valid service ⌝ }
     ensures { λ r. ⌜ Changed service (Call.Amend s) r ⌝ }
 {
-    edited(standing::amend(service, s))
+    edited(standing::amend(service.standing, s))
 }
 
 // Remove the spell of that number.
 pub fn strike(service: Service, number: u16) -> Stepped
-    requires { ⌜ Wf service ⌝ }
+    requires { ⌜ Valid service ⌝ }
     ensures { λ r. ⌜ Changed service (Call.Strike number) r ⌝ }
 {
-    edited(standing::strike(service, number))
+    edited(standing::strike(service.standing, number))
 }
 
 // The standing list becomes the front of the past, which loses it.
 pub fn take_back(service: Service) -> Stepped
-    requires { ⌜ Wf service ⌝ }
+    requires { ⌜ Valid service ⌝ }
     ensures { λ r. ⌜ Changed service Call.TakeBack r ⌝ }
 {
-    edited(standing::take_back(service))
+    edited(standing::take_back(service.standing))
 }
 
 // ---- Publish and writing
 
 fn done(service: Service) -> Stepped
-    ensures { λ r. ⌜ (r .service ≡ service) × (r .outcome ≡ plain) ⌝ }
+    ensures { λ r. ⌜ (r .service ≡ service) × (r .outcome ≡ toldOf accepted) ⌝ }
 {
-    let outcome = Outcome {
-        refusal: ACCEPTED,
-        count: 0,
-        comparisons: 0,
-        length: 0,
-    };
+    let outcome = told(ACCEPTED);
     Stepped { service, outcome }
 }
 
 // The index of the standing list.
-fn lay(service: Service, index: &mut [u16; INDEX])
-    requires { ⌜ Wf service ⌝ }
-    ensures { λ _. ⌜ now (index .exit) ≡ indexOf (listOf service) ⌝ }
+fn lay(standing: Standing, index: &mut [u16; INDEX])
+    requires { ⌜ Wf standing ⌝ }
+    ensures { λ _. ⌜ now (index .exit) ≡ indexOf (listOf standing) ⌝ }
 {
     let mut number = [0u16; 1024];
     let mut first = [0u16; 1024];
     let mut last = [0u16; 1024];
-    let n = standing::columns(service, &mut number, &mut first, &mut last);
+    let n = standing::columns(standing, &mut number, &mut first, &mut last);
     stabbing_index::build(&number, &first, &last, n, index);
 }
 
 // The published list becomes the standing list. The index may hold anything beforehand.
 pub fn publish(service: Service, index: &mut [u16; INDEX]) -> Stepped
-    requires { ⌜ Wf service ⌝ }
-    ensures { λ r. ⌜ Publishes service r (now (index .exit)) ⌝ }
+    requires { ⌜ Valid service ⌝ }
+    ensures { λ r. ⌜ Publishes service r (blocks (now (index .exit))) ⌝ }
 {
-    lay(service, index);
+    lay(service.standing, index);
     done(service)
 }
 
 // The text of the standing list, into the first places of the lent list.
 pub fn write(service: Service, text: &mut [u8]) -> Outcome
-    requires { ⌜ Wf service ⌝ }
+    requires { ⌜ Valid service ⌝ }
     ensures { λ r. ⌜ Wrote service (now (text .entry)) r (now (text .exit)) ⌝ }
 {
-    let w = standing::write(service, text);
-    Outcome {
-        refusal: w.refusal,
-        count: 0,
-        comparisons: 0,
-        length: w.length,
-    }
+    wrote(standing::write(service.standing, text))
 }
 
 // ---- Questions: the published index is read where it lies
 
-fn listed(l: Listed) -> Outcome
-    ensures { λ r. ⌜ r ≡ record { refusal = l .refusal; count = l .count; comparisons = l .comparisons; length = 0 } ⌝ }
-{
-    Outcome {
-        refusal: l.refusal,
-        count: l.count,
-        comparisons: l.comparisons,
-        length: 0,
-    }
-}
-
 // Day d: the spells with first ≤ d ≤ last.
 pub fn day(index: &[u16; INDEX], d: u16, numbers: &mut [u16]) -> Outcome
     requires { ⌜ Published (now index) ⌝ }
-    ensures { λ r. ⌜ ((days : List ℕ) → Asked (now (index .entry)) (Question.Day d) days (now (numbers .entry)) r (now (numbers .exit))) ⌝ }
+    ensures { λ r. ⌜ ((days : List ℕ) → Asked (blocks (now (index .entry))) (Question.Day d) days (now (numbers .entry)) r (now (numbers .exit))) ⌝ }
 {
-    listed(stabbing_query::day(index, d, numbers))
+    found(stabbing_query::day(index, d, numbers))
 }
 
 // The span from a to b: the spells with first ≤ b and last ≥ a.
 pub fn span(index: &[u16; INDEX], a: u16, b: u16, numbers: &mut [u16]) -> Outcome
     requires { ⌜ Published (now index) ⌝ }
-    ensures { λ r. ⌜ ((days : List ℕ) → Asked (now (index .entry)) (Question.Span a b) days (now (numbers .entry)) r (now (numbers .exit))) ⌝ }
+    ensures { λ r. ⌜ ((days : List ℕ) → Asked (blocks (now (index .entry))) (Question.Span a b) days (now (numbers .entry)) r (now (numbers .exit))) ⌝ }
 {
-    listed(stabbing_query::span(index, a, b, numbers))
+    found(stabbing_query::span(index, a, b, numbers))
 }
 
 // The cover of a published spell: the spells with first ≤ its first and last ≥ its last.
 pub fn cover(index: &[u16; INDEX], number: u16, numbers: &mut [u16]) -> Outcome
     requires { ⌜ Published (now index) ⌝ }
-    ensures { λ r. ⌜ ((days : List ℕ) → Asked (now (index .entry)) (Question.Cover number) days (now (numbers .entry)) r (now (numbers .exit))) ⌝ }
+    ensures { λ r. ⌜ ((days : List ℕ) → Asked (blocks (now (index .entry))) (Question.Cover number) days (now (numbers .entry)) r (now (numbers .exit))) ⌝ }
 {
-    listed(stabbing_query::cover(index, number, numbers))
+    found(stabbing_query::cover(index, number, numbers))
 }
 
 // Several days: the spells that contain at least one of them.
 pub fn days(index: &[u16; INDEX], days: &[u16], numbers: &mut [u16]) -> Outcome
     requires { ⌜ Published (now index) ⌝ }
-    ensures { λ r. ⌜ Asked (now (index .entry)) Question.Days (now (days .entry)) (now (numbers .entry)) r (now (numbers .exit)) ⌝ }
+    ensures { λ r. ⌜ Asked (blocks (now (index .entry))) Question.Days (now (days .entry)) (now (numbers .entry)) r (now (numbers .exit)) ⌝ }
 {
-    listed(stabbing_days::days(index, days, numbers))
+    found(stabbing_days::days(index, days, numbers))
 }
 
 // Any of the questions; the days are those of a days question.
 pub fn ask(index: &[u16; INDEX], question: Question, dates: &[u16], numbers: &mut [u16]) -> Outcome
     requires { ⌜ Published (now index) ⌝ }
-    ensures { λ r. ⌜ Asked (now (index .entry)) question (now (dates .entry)) (now (numbers .entry)) r (now (numbers .exit)) ⌝ }
+    ensures { λ r. ⌜ Asked (blocks (now (index .entry))) question (now (dates .entry)) (now (numbers .entry)) r (now (numbers .exit)) ⌝ }
 {
     match question {
         Question::Day(d) => day(index, d, numbers),
@@ -229,8 +253,9 @@ pub fn ask(index: &[u16; INDEX], question: Question, dates: &[u16], numbers: &mu
 
 // ---- Any call
 
+// A call that leaves the service as it was.
 fn answered(service: Service, outcome: Outcome) -> Stepped
-    ensures { λ r. ⌜ r ≡ record { service = service; outcome = outcome } ⌝ }
+    ensures { λ r. ⌜ r ≡ keeping service outcome ⌝ }
 {
     Stepped { service, outcome }
 }
@@ -244,8 +269,8 @@ pub fn step(
     numbers: &mut [u16],
     text: &mut [u8],
 ) -> Stepped
-    requires { ⌜ Given service (now index) ⌝ }
-    ensures { λ r. ⌜ Met service (now (index .entry)) (asking call (now (dates .entry)) (now (numbers .entry)) (now (text .entry))) r (now (index .exit)) (now (numbers .exit)) (now (text .exit)) ⌝ }
+    requires { ⌜ Given service (blocks (now index)) ⌝ }
+    ensures { λ r. ⌜ Met service (blocks (now (index .entry))) (asking call (now (dates .entry)) (now (numbers .entry)) (now (text .entry))) r (blocks (now (index .exit))) (now (numbers .exit)) (now (text .exit)) ⌝ }
 {
     match call {
         Call::Enter(s) => enter(service, s),
@@ -255,5 +280,27 @@ pub fn step(
         Call::Publish => publish(service, index),
         Call::Write => answered(service, write(service, text)),
         Call::Ask(question) => answered(service, ask(index, question, dates, numbers)),
+    }
+}
+
+// ---- In words
+
+// How many words of 16 bits a service takes: those of its standing list.
+pub const SERVICE: usize = STANDING;
+
+// The words of a service, which read back as it.
+pub fn pack(service: Service, out: &mut [u16; SERVICE])
+    requires { ⌜ Valid service ⌝ }
+    ensures { λ _. ⌜ Packs service (now (out .exit)) ⌝ }
+{
+    standing::words::pack(service.standing, out);
+}
+
+// The service of any words.
+pub fn unpack(words: &[u16; SERVICE]) -> Service
+    ensures { λ r. ⌜ r ≡ unpacked (now (words .entry)) ⌝ }
+{
+    Service {
+        standing: standing::words::unpack(words),
     }
 }

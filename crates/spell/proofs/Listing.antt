@@ -1,13 +1,7 @@
 -- Numbers that stand in a list, and a list of unique numbers with one spell more at its end. Assumes nothing.
-use mathlib.Core.Path.{_≡_, refl, sym, ap, _∙_}
-use mathlib.Core.Bool.{Bool, true, false, not, _||_, true≢false}
-use mathlib.Core.List.{List, [], _∷_, _++_}
-use Prim.Native.Nat.{ℕ}
-use borrow.Author.Tests.{ne-eqb, eqb-false, not-true}
-use lib.Dec.{eqb}
+use Rattle.basis.proofs.Prelude.{_∙_, _≡_, ap, refl, sym, ℕ, List, [], _++_, _∷_, Bool, _||_, false, not, true, true≢false, eqb, eqb-false, ne-eqb, not-true, both}
 use Rattle.spell.specs.declared.Spell.{Spell}
 use Rattle.spell.specs.Listing.{stands, distinct}
-use Rattle.spell.proofs.Entered.{both}
 
 pub neither : (a b : Bool) → a || b ≡ false → (a ≡ false) × (b ≡ false)
 neither true b e = absurd (true≢false e)

@@ -1,165 +1,142 @@
--- The order is a strict total order on spells of different numbers, and a list has one sorted form. Assumes nothing.
-use mathlib.Core.Path.{_≡_, refl, sym, ap, _∙_}
-use mathlib.Core.Bool.{Bool, true, false, cond, false≢true}
-use mathlib.Core.Logic.{_⊎_, inl, inr}
-use mathlib.Core.List.{List, [], _∷_, List·Memᴰ, List·Memᴰ·head, List·Memᴰ·tail, List·Memᴰ·not-nil, List·Memᴰ·cases-cons}
-use Prim.Native.Nat.{ℕ, _≤_, _<_}
-use native.Mathlib.Omega.{arith}
-use borrow.Author.Tests.{eq-eqb, ne-eqb, eqb-true, eqb-false, lt-ltb, le-ltb, ltb-true, ltb-false}
-use lib.Dec.{ltb, eqb}
+-- An order by keys that end in the spell number is a strict total order on spells of different numbers, and spells have one list that is
+-- kept in it. Assumes nothing.
+use Rattle.basis.proofs.Prelude.{_∙_, _≡_, ap, refl, sym, _<_, _≤_, ℕ, List, List·Memᴰ, List·Memᴰ·cases-cons, List·Memᴰ·head, List·Memᴰ·not-nil, List·Memᴰ·tail, [], _++_, _∷_, Bool, cond, false, true, _⊎_, inl, inr, eqb, ltb, arith, eq-eqb, eqb-false, eqb-true, le-ltb, lt-ltb, ltb-false, ltb-true, both, by-eq, by-test, clash, untrue}
 use Rattle.spell.specs.declared.Spell.{Spell}
-use Rattle.spell.specs.Order.{earlierOf, ordered}
+use Rattle.spell.specs.Order.{lexical, earlierOf, listedBefore, orderedBy}
 use Rattle.spell.specs.Listing.{Each}
-use Rattle.spell.proofs.Entered.{both}
 
--- ---- One key of an order by several keys: x is below y, or they are equal and the later keys decide
+-- ---- One key: x is below y, or they are equal and the later keys decide
 
-abbrev lex : ℕ → ℕ → Bool → Bool
-lex x y b = cond (eqb x y) b (ltb x y)
+module _ (x y : ℕ) (b : Bool) where
+  key-is : x ≤ y → (x ≡ y → b ≡ true) → cond (eqb x y) b (ltb x y) ≡ true
+  key-is h f = by-test (eqb x y) (λ e. rw e (f (eqb-true x y e))) (λ e. rw e (lt-ltb x y (let n : x ≡ y → ⊥ = eqb-false x y e in omega arith)))
 
-lex-says : (x y : ℕ) (b : Bool) → lex x y b ≡ true → (x < y) ⊎ ((x ≡ y) × (b ≡ true))
-lex-says x y b h = go (eqb x y) refl h
-  where
-    go : (t : Bool) → eqb x y ≡ t → cond t b (ltb x y) ≡ true → (x < y) ⊎ ((x ≡ y) × (b ≡ true))
-    go true e k = inr (eqb-true x y e, k)
-    go false e k = inl (ltb-true x y k)
+  key-says : cond (eqb x y) b (ltb x y) ≡ true → (x ≤ y) × (x ≡ y → b ≡ true)
+  key-says h = by-test (eqb x y) (λ e. (omega (arith, eqb-true x y e), λ _. rw e at h)) (λ e. (omega (arith, ltb-true x y (rw e at h)), λ z. absurd (eqb-false x y e z)))
 
-lex-less : (x y : ℕ) (b : Bool) → x < y → lex x y b ≡ true
-lex-less x y b h = rw (ne-eqb x y (λ e. omega arith), lt-ltb x y h)
+  key-denies : cond (eqb x y) b (ltb x y) ≡ false → (y ≤ x) × (x ≡ y → b ≡ false)
+  key-denies h = by-test (eqb x y) (λ e. (omega (arith, eqb-true x y e), λ _. rw e at h)) (λ e. (ltb-false x y (rw e at h), λ z. absurd (eqb-false x y e z)))
 
-lex-same : (x y : ℕ) (b : Bool) → x ≡ y → b ≡ true → lex x y b ≡ true
-lex-same x y b e h = rw (eq-eqb x y e) h
+-- the last key
+pub key-last : (x y : ℕ) → ltb x y ≡ cond (eqb x y) false (ltb x y)
+key-last x y = by-test (eqb x y) (λ e. rw (e, eqb-true x y e) (le-ltb y y (omega arith))) (λ e. rw e)
 
-lex-irrefl : (x : ℕ) (b : Bool) → b ≡ false → lex x x b ≡ false
-lex-irrefl x b h = rw (eq-eqb x x refl) h
+-- ---- Orders by keys
 
-lex-trans : (x y z : ℕ) (a b c : Bool) → (a ≡ true → b ≡ true → c ≡ true) → lex x y a ≡ true → lex y z b ≡ true → lex x z c ≡ true
-lex-trans x y z a b c on p q = go (lex-says x y a p) (lex-says y z b q)
-  where
-    go : (x < y) ⊎ ((x ≡ y) × (a ≡ true)) → (y < z) ⊎ ((y ≡ z) × (b ≡ true)) → lex x z c ≡ true
-    go (inl h) (inl k) = lex-less x z c (omega arith)
-    go (inl h) (inr k) = lex-less x z c (omega arith)
-    go (inr h) (inl k) = lex-less x z c (omega arith)
-    go (inr h) (inr k) = lex-same x z c (h .0 ∙ k .0) (on (h .1) (k .1))
+lexical-irrefl : (ks : List (Spell → ℕ)) (a : Spell) → lexical ks a a ≡ false
+unfolding lexical
+lexical-irrefl [] a = refl
+lexical-irrefl (k ∷ ks) a = rw (eq-eqb (k a) (k a) refl) (lexical-irrefl ks a)
 
-lex-total : (x y : ℕ) (a b : Bool) → (a ≡ false → b ≡ true) → lex x y a ≡ false → lex y x b ≡ true
-lex-total x y a b on h = go (eqb x y) refl h
-  where
-    go : (t : Bool) → eqb x y ≡ t → cond t a (ltb x y) ≡ false → lex y x b ≡ true
-    go true e k = lex-same y x b (sym (eqb-true x y e)) (on k)
-    go false e k =
-        let differ : x ≡ y → ⊥ = eqb-false x y e in
-        let low : y ≤ x = ltb-false x y k in
-        lex-less y x b (omega arith)
+lexical-trans : (ks : List (Spell → ℕ)) (a b c : Spell) → lexical ks a b ≡ true → lexical ks b c ≡ true → lexical ks a c ≡ true
+unfolding lexical
+lexical-trans [] a b c p q = p
+lexical-trans (k ∷ ks) a b c p q =
+    let h = key-says (k a) (k b) (lexical ks a b) p in
+    let i = key-says (k b) (k c) (lexical ks b c) q in
+    key-is (k a) (k c) (lexical ks a c) (omega arith) (λ e. lexical-trans ks a b c (h .1 (omega arith)) (i .1 (omega arith)))
 
--- ---- The order
+lexical-total : (ks : List (Spell → ℕ)) (a b : Spell) → (a .number ≡ b .number → ⊥)
+    → lexical (ks ++ (λ s. s .number) ∷ []) a b ≡ false → lexical (ks ++ (λ s. s .number) ∷ []) b a ≡ true
+unfolding lexical
+lexical-total [] a b differ h = key-is (b .number) (a .number) false (key-denies (a .number) (b .number) false h .0) (λ e. absurd (differ (sym e)))
+lexical-total (k ∷ ks) a b differ h =
+    let d = key-denies (k a) (k b) _ h in
+    key-is (k b) (k a) _ (d .0) (λ e. lexical-total ks a b differ (d .1 (sym e)))
 
-pub earlier-irrefl : (a : Spell) → earlierOf a a ≡ false
+pub record StrictOrder (t : Spell → Spell → Bool) : Type 0 where
+  pub irrefl : (a : Spell) → t a a ≡ false
+  pub trans : (a b c : Spell) → t a b ≡ true → t b c ≡ true → t a c ≡ true
+  pub total : (a b : Spell) → (a .number ≡ b .number → ⊥) → t a b ≡ false → t b a ≡ true
+
+-- the laws for any keys that end in the spell number
+by-keys : (ks : List (Spell → ℕ)) → StrictOrder (lexical (ks ++ (λ s. s .number) ∷ []))
+by-keys ks = record { irrefl = lexical-irrefl (ks ++ (λ s. s .number) ∷ []); trans = lexical-trans (ks ++ (λ s. s .number) ∷ []); total = lexical-total ks }
+
+pub text-order : StrictOrder earlierOf
 unfolding earlierOf
-earlier-irrefl a = lex-irrefl (a .first) _ (lex-irrefl (a .last) _ (le-ltb (a .number) (a .number) (omega arith)))
+text-order = by-keys ((λ s. s .first) ∷ (λ s. s .last) ∷ [])
 
-pub earlier-trans : (a b c : Spell) → earlierOf a b ≡ true → earlierOf b c ≡ true → earlierOf a c ≡ true
-unfolding earlierOf
-earlier-trans a b c p q =
-    let numbers : ltb (a .number) (b .number) ≡ true → ltb (b .number) (c .number) ≡ true → ltb (a .number) (c .number) ≡ true
-    = λ h k. lt-ltb (a .number) (c .number) (omega (arith, ltb-true (a .number) (b .number) h, ltb-true (b .number) (c .number) k)) in
-    lex-trans (a .first) (b .first) (c .first) _ _ _ (lex-trans (a .last) (b .last) (c .last) _ _ _ numbers) p q
+pub answer-order : StrictOrder listedBefore
+unfolding listedBefore
+answer-order = by-keys ((λ s. s .first) ∷ (λ s. s .last) ∷ [])
 
-pub earlier-total : (a b : Spell) → (a .number ≡ b .number → ⊥) → earlierOf a b ≡ false → earlierOf b a ≡ true
-unfolding earlierOf
-earlier-total a b differ h =
-    let numbers : ltb (a .number) (b .number) ≡ false → ltb (b .number) (a .number) ≡ true
-    = λ k. lt-ltb (b .number) (a .number) (omega (arith, ltb-false (a .number) (b .number) k, differ)) in
-    lex-total (a .first) (b .first) _ _ (lex-total (a .last) (b .last) _ _ numbers) h
+-- of two spells one after the other by keys that begin with the days, the earlier begins earlier, or on the same day and lasts no longer
+days-rise : (ks : List (Spell → ℕ)) (a b : Spell) → lexical ((λ s. s .first) ∷ (λ s. s .last) ∷ ks) a b ≡ true
+    → (a .first < b .first) ⊎ ((a .first ≡ b .first) × (a .last ≤ b .last))
+unfolding lexical
+days-rise ks a b h =
+    let f = key-says (a .first) (b .first) _ h in
+    by-eq (a .first) (b .first) (f .0) (λ e. inr (e, key-says (a .last) (b .last) (lexical ks a b) (f .1 e) .0)) inl
 
-pub earlier-asym : (a b : Spell) → earlierOf a b ≡ true → earlierOf b a ≡ false
-earlier-asym a b h = go (earlierOf b a) refl
-  where
-    go : (t : Bool) → earlierOf b a ≡ t → t ≡ false
-    go true e = absurd (false≢true (sym (earlier-irrefl a) ∙ earlier-trans a b a h e))
-    go false e = refl
-
--- an earlier spell begins earlier, or on the same day and lasts no longer
 pub earlier-days : (a b : Spell) → earlierOf a b ≡ true → (a .first < b .first) ⊎ ((a .first ≡ b .first) × (a .last ≤ b .last))
 unfolding earlierOf
-earlier-days a b h = go (lex-says (a .first) (b .first) (lex (a .last) (b .last) (ltb (a .number) (b .number))) h)
-  where
-    lasts : (a .last < b .last) ⊎ ((a .last ≡ b .last) × (ltb (a .number) (b .number) ≡ true)) → a .last ≤ b .last
-    lasts (inl k) = omega arith
-    lasts (inr k) = omega arith
+earlier-days = days-rise ((λ s. s .number) ∷ [])
 
-    go : (a .first < b .first) ⊎ ((a .first ≡ b .first) × (lex (a .last) (b .last) (ltb (a .number) (b .number)) ≡ true))
-        → (a .first < b .first) ⊎ ((a .first ≡ b .first) × (a .last ≤ b .last))
-    go (inl k) = inl k
-    go (inr k) = inr (k .0, lasts (lex-says (a .last) (b .last) (ltb (a .number) (b .number)) (k .1)))
+-- ---- Each spell of a list
 
--- ---- A list kept in the order: its first spell is earlier than each other, and so on
-
-pub ordered-tail : (x : Spell) (l : List Spell) → ordered (x ∷ l) ≡ true → ordered l ≡ true
-unfolding ordered
-ordered-tail x [] h = refl
-ordered-tail x (y ∷ l) h = both (earlierOf x y) (ordered (y ∷ l)) h .1
-
-each-later : (x y : Spell) (l : List Spell) → earlierOf x y ≡ true → Each (λ z. earlierOf y z ≡ true) l → Each (λ z. earlierOf x z ≡ true) l
+pub each-map : (P Q : Spell → Type 0) → ((x : Spell) → P x → Q x) → (l : List Spell) → Each P l → Each Q l
 unfolding Each
-each-later x y [] h e = tt
-each-later x y (z ∷ l) h e = (earlier-trans x y z h (e .0), each-later x y l h (e .1))
-
-pub ordered-first : (x : Spell) (l : List Spell) → ordered (x ∷ l) ≡ true → Each (λ z. earlierOf x z ≡ true) l
-unfolding ordered Each
-ordered-first x [] h = tt
-ordered-first x (y ∷ l) h =
-    let p = both (earlierOf x y) (ordered (y ∷ l)) h in
-    (p .0, each-later x y l (p .0) (ordered-first y l (p .1)))
-
-pub ordered-cons : (x : Spell) (l : List Spell) → Each (λ z. earlierOf x z ≡ true) l → ordered l ≡ true → ordered (x ∷ l) ≡ true
-unfolding ordered Each
-ordered-cons x [] e h = refl
-ordered-cons x (y ∷ l) e h = rw (e .0) h
+each-map P Q f [] e = tt
+each-map P Q f (x ∷ l) e = (f x (e .0), each-map P Q f l (e .1))
 
 -- P holds of a spell of the list
 pub each-member : (P : Spell → Type 0) (l : List Spell) (x : Spell) → Each P l → List·Memᴰ x l → P x
 unfolding Each
 each-member P [] x e m = absurd (List·Memᴰ·not-nil m)
-each-member P (y ∷ l) x e m = go (λ below. each-member P l x (e .1) below) (List·Memᴰ·cases-cons m)
-  where
-    go : (List·Memᴰ x l → P x) → (x ≡ y) ⊎ List·Memᴰ x l → P x
-    go on (inl same) = rw same (e .0)
-    go on (inr below) = on below
+each-member P (y ∷ l) x e m = elim (List·Memᴰ·cases-cons m) [ inl same ↦ rw same (e .0) | inr below ↦ each-member P l x (e .1) below ]
 
--- ---- One sorted form
+-- ---- A list kept in an order: its first spell is earlier than each other, and so on
 
--- the first spell of a list in the order is none of the others
-first-once : (x : Spell) (l : List Spell) → ordered (x ∷ l) ≡ true → List·Memᴰ x l → ⊥
-first-once x l h m = false≢true (sym (earlier-irrefl x) ∙ each-member (λ z. earlierOf x z ≡ true) l x (ordered-first x l h) m)
+module _ {t : Spell → Spell → Bool} (o : StrictOrder t) where
+  pub asym : (a b : Spell) → t a b ≡ true → t b a ≡ false
+  asym a b h = untrue (t b a) (λ k. clash (o .trans a b a h k) (o .irrefl a))
 
--- two lists in the order, each first spell a spell of the other list, begin with the same
-same-first : (x y : Spell) (l m : List Spell) → ordered (x ∷ l) ≡ true → ordered (y ∷ m) ≡ true
-    → List·Memᴰ x (y ∷ m) → List·Memᴰ y (x ∷ l) → x ≡ y
-same-first x y l m hl hm p q = go (List·Memᴰ·cases-cons p) (List·Memᴰ·cases-cons q)
-  where
-    go : (x ≡ y) ⊎ List·Memᴰ x m → (y ≡ x) ⊎ List·Memᴰ y l → x ≡ y
-    go (inl e) q = e
-    go (inr p) (inl e) = sym e
-    go (inr p) (inr q) =
-        absurd (false≢true (sym (earlier-asym y x (each-member (λ z. earlierOf y z ≡ true) m x (ordered-first y m hm) p)) ∙ each-member (λ z. earlierOf x z ≡ true) l y (ordered-first x l hl) q))
+  pub ordered-tail : (x : Spell) (l : List Spell) → orderedBy t (x ∷ l) ≡ true → orderedBy t l ≡ true
+  unfolding orderedBy
+  ordered-tail x [] h = refl
+  ordered-tail x (y ∷ l) h = both (t x y) (orderedBy t (y ∷ l)) h .1
 
--- what is in one list and past its first spell is past the first of the other
-same-rest : (x y z : Spell) (l m : List Spell) → ordered (x ∷ l) ≡ true → x ≡ y → List·Memᴰ z l → List·Memᴰ z (y ∷ m) → List·Memᴰ z m
-same-rest x y z l m h e p q = go (List·Memᴰ·cases-cons q)
-  where
-    go : (z ≡ y) ⊎ List·Memᴰ z m → List·Memᴰ z m
-    go (inl s) = absurd (first-once x l h (rw (s ∙ sym e) at p))
-    go (inr k) = k
+  pub ordered-first : (x : Spell) (l : List Spell) → orderedBy t (x ∷ l) ≡ true → Each (λ z. t x z ≡ true) l
+  unfolding orderedBy Each
+  ordered-first x [] h = tt
+  ordered-first x (y ∷ l) h =
+      let p = both (t x y) (orderedBy t (y ∷ l)) h in
+      (p .0, each-map (λ z. t y z ≡ true) (λ z. t x z ≡ true) (λ z. o .trans x y z (p .0)) l (ordered-first y l (p .1)))
 
-pub sorted-unique : (l m : List Spell) → ordered l ≡ true → ordered m ≡ true
-    → ((z : Spell) → List·Memᴰ z l → List·Memᴰ z m) → ((z : Spell) → List·Memᴰ z m → List·Memᴰ z l) → l ≡ m
-sorted-unique [] [] hl hm to from = refl
-sorted-unique [] (y ∷ m) hl hm to from = absurd (List·Memᴰ·not-nil (from y (List·Memᴰ·head refl)))
-sorted-unique (x ∷ l) [] hl hm to from = absurd (List·Memᴰ·not-nil (to x (List·Memᴰ·head refl)))
-sorted-unique (x ∷ l) (y ∷ m) hl hm to from =
-    let e = same-first x y l m hl hm (to x (List·Memᴰ·head refl)) (from y (List·Memᴰ·head refl)) in
-    let rest = sorted-unique l m (ordered-tail x l hl) (ordered-tail y m hm)
-    (λ z p. same-rest x y z l m hl e p (to z (List·Memᴰ·tail p)))
-    (λ z p. same-rest y x z m l hm (sym e) p (from z (List·Memᴰ·tail p))) in
-    ap (λ (a : Spell). a ∷ l) e ∙ ap (λ (r : List Spell). y ∷ r) rest
+  pub ordered-cons : (x : Spell) (l : List Spell) → Each (λ z. t x z ≡ true) l → orderedBy t l ≡ true → orderedBy t (x ∷ l) ≡ true
+  unfolding orderedBy Each
+  ordered-cons x [] e h = refl
+  ordered-cons x (y ∷ l) e h = rw (e .0) h
+
+  -- ---- One sorted form
+
+  later : (x z : Spell) (l : List Spell) → orderedBy t (x ∷ l) ≡ true → List·Memᴰ z l → t x z ≡ true
+  later x z l h = each-member (λ z. t x z ≡ true) l z (ordered-first x l h)
+
+  -- two lists, each first spell a spell of the other list, begin with the same
+  same-first : (x y : Spell) (l m : List Spell) → orderedBy t (x ∷ l) ≡ true → orderedBy t (y ∷ m) ≡ true
+      → List·Memᴰ x (y ∷ m) → List·Memᴰ y (x ∷ l) → x ≡ y
+  same-first x y l m hl hm p q = elim (List·Memᴰ·cases-cons p) [
+    | inl e ↦ e
+    | inr i ↦ elim (List·Memᴰ·cases-cons q) [ inl e ↦ sym e | inr j ↦ absurd (clash (later x y l hl j) (asym y x (later y x m hm i))) ]
+  ]
+
+  -- what is in one list past its first spell is past the first of the other
+  same-rest : (x y z : Spell) (l m : List Spell) → orderedBy t (x ∷ l) ≡ true → x ≡ y → List·Memᴰ z l → List·Memᴰ z (y ∷ m) → List·Memᴰ z m
+  same-rest x y z l m h e p q = elim (List·Memᴰ·cases-cons q) [
+    | inl s ↦ absurd (clash (later x x l h (rw (s ∙ sym e) at p)) (o .irrefl x))
+    | inr k ↦ k
+  ]
+
+  pub sorted-unique : (l m : List Spell) → orderedBy t l ≡ true → orderedBy t m ≡ true
+      → ((z : Spell) → List·Memᴰ z l → List·Memᴰ z m) → ((z : Spell) → List·Memᴰ z m → List·Memᴰ z l) → l ≡ m
+  sorted-unique [] [] hl hm to from = refl
+  sorted-unique [] (y ∷ m) hl hm to from = absurd (List·Memᴰ·not-nil (from y (List·Memᴰ·head refl)))
+  sorted-unique (x ∷ l) [] hl hm to from = absurd (List·Memᴰ·not-nil (to x (List·Memᴰ·head refl)))
+  sorted-unique (x ∷ l) (y ∷ m) hl hm to from =
+      let e = same-first x y l m hl hm (to x (List·Memᴰ·head refl)) (from y (List·Memᴰ·head refl)) in
+      let rest = sorted-unique l m (ordered-tail x l hl) (ordered-tail y m hm)
+      (λ z p. same-rest x y z l m hl e p (to z (List·Memᴰ·tail p)))
+      (λ z p. same-rest y x z m l hm (sym e) p (from z (List·Memᴰ·tail p))) in
+      cc

@@ -3,6 +3,7 @@ use Prim.Native.Nat.{ℕ}
 use mathlib.Core.Bool.{Bool, not, _&&_, cond}
 use lib.Dec.{leb, ltb, eqb}
 use lib.Ieee.{Float, binary32, isNan, toBits}
+use Rattle.calendar.specs.Calendar.{isDay}
 use Rattle.refusal.specs.Table.{accepted, noNumber, noCandidate, offCalendar, reversed, badUrgency}
 use Rattle.spell.specs.declared.Urgency.{Urgency}
 use Rattle.spell.specs.declared.Urgency.the-variants.{Grade, Reading}
@@ -17,15 +18,11 @@ abbrev pub urgencyOk : Urgency → Bool
 urgencyOk (Grade g) = leb 1 g && leb g 4
 urgencyOk (Reading x) = readingOk x
 
--- a day of the calendar, 1 to 4,000
-abbrev pub dayOk : ℕ → Bool
-dayOk d = leb 1 d && leb d 4000
-
 -- the first check that refuses the spell
 abbrev pub refusalOf : Spell → ℕ
 refusalOf s =
     cond (eqb (s .number) 0) noNumber
     (cond (eqb (s .candidate) 0) noCandidate
-    (cond (not (dayOk (s .first) && dayOk (s .last))) offCalendar
+    (cond (not (isDay (s .first) && isDay (s .last))) offCalendar
     (cond (ltb (s .last) (s .first)) reversed
     (cond (not (urgencyOk (s .urgency))) badUrgency accepted))))

@@ -1,3 +1,4 @@
+pub mod Blank
 pub mod Entry
 pub mod Order
 pub mod Same

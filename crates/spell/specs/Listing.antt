@@ -11,7 +11,7 @@ use Rattle.spell.specs.declared.Urgency.{Urgency}
 use Rattle.spell.specs.declared.Urgency.the-variants.{Grade, Reading}
 use Rattle.spell.specs.declared.Spell.{Spell}
 use Rattle.spell.specs.Entry.{refusalOf}
-use Rattle.spell.specs.Order.{ordered}
+use Rattle.spell.specs.Order.{earlierOf, orderedBy}
 
 -- the spell number k stands in the list
 unfoldable pub stands : List Spell → ℕ → Bool
@@ -40,9 +40,16 @@ pub record Sound (s : Spell) : Type 0 where
   pub held : HeldUrgency (s .urgency)
   pub entered : refusalOf s ≡ accepted
 
--- a list that can stand: sound spells, in the order, their numbers unique, at most 1,024
-pub record Good (l : List Spell) : Type 0 where
-  pub each : Each Sound l
-  pub in-order : ordered l ≡ true
+-- a list kept in an order, its numbers unique, at most 1,024, and P true of each spell
+pub record OrderlyBy (t : Spell → Spell → Bool) (P : Spell → Type 0) (l : List Spell) : Type 0 where
+  pub each : Each P l
+  pub in-order : orderedBy t l ≡ true
   pub unique : distinct l ≡ true
   pub few : length l ≤ 1024
+
+abbrev pub Orderly : (Spell → Type 0) → List Spell → Type 0
+Orderly P l = OrderlyBy earlierOf P l
+
+-- a list that can stand: sound spells, in the order
+abbrev pub Good : List Spell → Type 0
+Good l = Orderly Sound l

@@ -1,9 +1,11 @@
 // A spell of a candidate on the waiting list: its fields, the checks of an entry, the order of spells, equality.
 ghost use mathlib.Core.Path.{_≡_};
 ghost use lib.Ieee.{binary32, toBits, ofBits};
-ghost use Rattle.spell.specs.Entry.{readingOk, urgencyOk, dayOk, refusalOf};
+ghost use Rattle.spell.specs.Blank.{blank};
+ghost use Rattle.spell.specs.Entry.{readingOk, urgencyOk, refusalOf};
 ghost use Rattle.spell.specs.Order.{earlierOf};
 ghost use Rattle.spell.specs.Same.{sameReading, sameUrgency, sameOf};
+use calendar::is_day;
 use refusal::ACCEPTED;
 use refusal::BAD_URGENCY;
 use refusal::NO_CANDIDATE;
@@ -24,6 +26,19 @@ pub struct Spell {
     pub first: u16,
     pub last: u16,
     pub urgency: Urgency,
+}
+
+// What stands in a place that holds no spell.
+pub fn blank() -> Spell
+    ensures { λ r. ⌜ r ≡ blank ⌝ }
+{
+    Spell {
+        number: 0,
+        candidate: 0,
+        first: 0,
+        last: 0,
+        urgency: Urgency::Grade(0),
+    }
 }
 
 // ---- The checks of an entry
@@ -52,15 +67,6 @@ fn urgency_ok(u: Urgency) -> bool
     }
 }
 
-fn day_ok(d: u16) -> bool
-    ensures { λ r. ⌜ r ≡ dayOk d ⌝ }
-{
-    if d < 1 {
-        return false;
-    }
-    d <= 4000
-}
-
 // The first of the checks 1 to 5 that refuses s, or 0.
 pub fn refusal_of(s: Spell) -> u16
     ensures { λ r. ⌜ r ≡ refusalOf s ⌝ }
@@ -71,10 +77,10 @@ pub fn refusal_of(s: Spell) -> u16
     if s.candidate == 0 {
         return NO_CANDIDATE;
     }
-    if !day_ok(s.first) {
+    if !is_day(s.first) {
         return OFF_CALENDAR;
     }
-    if !day_ok(s.last) {
+    if !is_day(s.last) {
         return OFF_CALENDAR;
     }
     if s.last < s.first {

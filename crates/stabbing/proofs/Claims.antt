@@ -1,9 +1,6 @@
 -- What the crate is for: the listing and the comparisons, shown once for any two days h and l, and cited for day, span and cover.
 -- Assumes nothing.
-use Prim.Native.Nat.{ℕ, _*_, _≤_, _<_}
-use mathlib.Core.List.{List, []}
-use mathlib.Core.Path.{_≡_}
-use lib.ListN.{length}
+use Rattle.basis.proofs.Prelude.{_≡_, _*_, _<_, _≤_, ℕ, List, [], length}
 use Rattle.stabbing.specs.Tree.{keep, dayAt, fitsAt, start, formula}
 use Rattle.stabbing.specs.Walk.{walk}
 use Rattle.stabbing.specs.Stored.{Sorted, latest, spanStart}

@@ -1,16 +1,8 @@
 -- The walk's recursions with no fuel to follow: what code that goes by the links is proved against. Assumes nothing.
-use Prim.Native.Nat.{ℕ, zero, suc, _+_, _-_, _≤_, _<_}
-use native.Mathlib.Nat.{le-refl}
-use native.Mathlib.Omega.{arith}
-use mathlib.Core.Bool.{Bool, true, false, not, _&&_}
-use mathlib.Core.List.{List, [], _∷_}
-use mathlib.Core.Path.{_≡_, refl, sym, ap, _∙_}
-use lib.ListN.{length, length-append}
-use lib.Dec.{leb}
-use borrow.Author.Tests.{le-leb, lt-leb}
+use Rattle.basis.proofs.Prelude.{_∙_, _≡_, ap, refl, sym, _+_, _-_, _<_, _≤_, suc, zero, ℕ, List, [], _∷_, Bool, _&&_, false, not, true, leb, length, length-append, le-refl, arith, le-leb, lt-leb, by-eq, by-mark, by-test}
 use Rattle.stabbing.specs.Tree.{keep, dayAt, head, parent, child, leftSibling, lastChild}
 use Rattle.stabbing.specs.Walk.{Found, tick, compare, chain, rise, climb}
-use Rattle.stabbing.proofs.Marks.{by-test, by-mark, by-eq, keep-hit, keep-miss}
+use Rattle.stabbing.proofs.Marks.{keep-hit, keep-miss}
 use Rattle.stabbing.proofs.Links.{parent-is, Stretch, upper, lower, c-head, c-under, c-over, c-longest, c-child, c-left}
 use Rattle.stabbing.proofs.Walk.{reach, compare-none, compare-yes, compare-no}
 

@@ -1,17 +1,9 @@
 -- The walk lists what lasts to l, falling, and its comparisons are the formula's. Assumes nothing.
-use Prim.Native.Nat.{ℕ, zero, suc, _+_, _*_, _≤_, _<_, zero-le}
-use native.Mathlib.Nat.{le-refl}
-use native.Mathlib.Omega.{arith}
-use mathlib.Core.Bool.{Bool, true, false, _&&_}
-use mathlib.Core.List.{List, [], _∷_, _++_, append-assoc, append-nil}
-use mathlib.Core.Path.{_≡_, refl, sym, ap, _∙_}
-use lib.ListN.{length}
-use lib.Dec.{leb}
-use borrow.Author.Tests.{eq-eqb, ne-eqb, leb-true, leb-false, le-leb}
+use Rattle.basis.proofs.Prelude.{_∙_, _≡_, ap, refl, sym, _*_, _+_, _<_, _≤_, suc, zero, zero-le, ℕ, List, [], _++_, _∷_, append-assoc, append-nil, Bool, _&&_, false, true, leb, length, le-refl, arith, eq-eqb, le-leb, leb-false, leb-true, ne-eqb, both, by-eq, by-mark, by-test, untrue}
 use Rattle.stabbing.specs.Tree.{below, keep, count, one, some, dayAt, head, next, parent, child, leftSibling, lastChild, fitsAt, start, onPath, hasNext, hasLeft, hasChild, formula}
 use Rattle.stabbing.specs.Walk.{Found, nothing, push, tick, compare, chain, rise, climb, walk}
 use Rattle.stabbing.specs.Stored.{Sorted}
-use Rattle.stabbing.proofs.Marks.{by-test, by-mark, by-eq, both, untrue, Below, below-is, keep-hit, keep-miss, keep-skip, keep-ext, count-last, count-le}
+use Rattle.stabbing.proofs.Marks.{Below, below-is, keep-hit, keep-miss, keep-skip, keep-ext, count-last, count-le}
 use Rattle.stabbing.proofs.Links.{Head, bottom, bottom-is, parent-is, Stretch, own, upper, lower, c-head, c-under, c-over, c-child, c-left, next-some, next-bottom, chain-up, Top, top, barren, left-is}
 
 module _ (fs ls : List ℕ) (l : ℕ) where

@@ -1,10 +1,5 @@
 -- The steps of `close`, apart from the code: the finds from the place f on are moved to the front, one after the other. Assumes nothing.
-use Prim.Native.Nat.{ℕ, _+_, _-_, _≤_, _<_}
-use native.Mathlib.Omega.{arith}
-use mathlib.Core.List.{List, _++_, append-assoc, append-nil}
-use mathlib.Core.Path.{_≡_, refl, sym, ap, _∙_}
-use lib.ListN.{length, getD, take, drop, set, length-set, length-drop, take-append-drop}
-use lib.Seq.{getD-drop, getD-append-add, drop-append-le, length-take-le, take-all, take-length, drop-length}
+use Rattle.basis.proofs.Prelude.{_∙_, _≡_, ap, refl, sym, _+_, _-_, _<_, _≤_, ℕ, List, _++_, append-assoc, append-nil, drop, getD, length, length-drop, length-set, set, take, take-append-drop, drop-append-le, drop-length, getD-append-add, getD-drop, length-take-le, take-all, take-length, arith}
 use Rattle.buffer.specs.Buffer.{overlaid}
 use Rattle.buffer.proofs.Overlaid.{filled, overlaid-all}
 

@@ -1,23 +1,14 @@
 -- The steps of the days question, apart from the code. Assumes nothing.
-use Prim.Native.Nat.{ℕ, _+_, _-_, _≤_, _<_, zero-le}
-use native.Mathlib.Omega.{arith}
-use native.Mathlib.Numerals.{add-one}
-use mathlib.Core.Bool.{true, false}
-use mathlib.Core.List.{List, [], _∷_, _++_, map, map-append, append-assoc, append-nil}
-use mathlib.Core.Path.{_≡_, refl, sym, ap, _∙_}
-use lib.Dec.{ltb}
-use lib.ListN.{take-append-drop, length, getD, take, drop, length-append, length-drop, length-map, drop-of-length-le}
-use lib.Seq.{getD-drop, drop-cons, drop-drop, drop-append-le, take-at, drop-at, take-all, length-take-le}
+use Rattle.basis.proofs.Prelude.{_∙_, _≡_, ap, refl, sym, _+_, _-_, _<_, _≤_, zero-le, ℕ, List, [], _++_, _∷_, append-assoc, append-nil, map, map-append, false, true, ltb, drop, drop-of-length-le, getD, length, length-append, length-drop, length-map, take, take-append-drop, drop-append-le, drop-at, drop-cons, drop-drop, getD-drop, length-take-le, take-all, take-at, add-one, arith, le-ltb, lt-ltb, ltb-true, both}
 use borrow.Rule.Slice.PartMut.{putMid, postOf}
-use borrow.Author.Tests.{lt-ltb, le-ltb, ltb-true}
 use Rattle.stabbing.specs.Tree.{keep, fitsAt, start, formula}
 use Rattle.stabbing.specs.Stored.{latest}
 use Rattle.stabbing.specs.Index.{Built, numbers, firsts, lasts}
 use Rattle.buffer.specs.Buffer.{overlaid}
 use Rattle.buffer.proofs.Overlaid.{overlaid-all}
 use Rattle.stabbing.specs.declared.Listed.{Listed}
-use Rattle.stabbing.specs.Answer.{Outcome, Gave, refused, give, question, calendar, calendars, risingFrom, containsAny, dayIn, daysOf, daysIn}
-use Rattle.stabbing.proofs.Marks.{both}
+use Rattle.calendar.specs.Calendar.{isDay, daysOk}
+use Rattle.stabbing.specs.Answer.{Outcome, Gave, refused, give, question, risingFrom, containsAny, dayIn, daysOf, daysIn}
 use Rattle.stabbing.proofs.Starts.{latest-is}
 use Rattle.stabbing.proofs.Steps.{keep-room}
 use Rattle.stabbing.proofs.Block.{Holds, built-holds}
@@ -39,13 +30,13 @@ module _ (ds : List ℕ) (i : ℕ) (h : i < length ds) where
   cons : drop i ds ≡ d ∷ drop (i + 1) ds
   cons = drop-cons ds i 0 h ∙ rw (add-one i)
 
-  pub off : calendar d ≡ false → calendars (drop i ds) ≡ false
-  unfolding calendars
+  pub off : isDay d ≡ false → daysOk (drop i ds) ≡ false
+  unfolding daysOk
   off e = rw cons (rw e)
 
-  pub dated : calendar d ≡ true → calendars (drop i ds) ≡ calendars (drop (i + 1) ds)
-  unfolding calendars
-  dated e = ap calendars cons ∙ rw e
+  pub dated : isDay d ≡ true → daysOk (drop i ds) ≡ daysOk (drop (i + 1) ds)
+  unfolding daysOk
+  dated e = ap daysOk cons ∙ rw e
 
   pub back : (b : ℕ) → d ≤ b → risingFrom b (drop i ds) ≡ false
   unfolding risingFrom
@@ -57,8 +48,8 @@ module _ (ds : List ℕ) (i : ℕ) (h : i < length ds) where
 
 -- and past the last
 module _ (ds : List ℕ) (i : ℕ) (h : length ds ≤ i) where
-  pub all-dated : calendars (drop i ds) ≡ true
-  unfolding calendars
+  pub all-dated : daysOk (drop i ds) ≡ true
+  unfolding daysOk
   all-dated = rw (drop-of-length-le ds {i = i} h)
 
   pub all-rise : (b : ℕ) → risingFrom b (drop i ds) ≡ true
@@ -176,9 +167,9 @@ module _ {ix ds : List ℕ} {m : ℕ} {part : List ℕ} (q : GatherAsks ix ds m 
     cons-is : ds ≡ x ∷ drop 1 ds
     cons-is = drop-cons ds 0 0 some
 
-    dates : (calendar x ≡ true) × (calendars (drop 1 ds) ≡ true)
-    unfolding calendars
-    dates = both (calendar x) (calendars (drop 1 ds)) (ap calendars (sym cons-is) ∙ q .dated)
+    dates : (isDay x ≡ true) × (daysOk (drop 1 ds) ≡ true)
+    unfolding daysOk
+    dates = both (isDay x) (daysOk (drop 1 ds)) (ap daysOk (sym cons-is) ∙ q .dated)
 
     rises : (ltb (q .b) x ≡ true) × (risingFrom x (drop 1 ds) ≡ true)
     unfolding risingFrom
@@ -335,18 +326,18 @@ abbrev refusal-of : ℕ → Listed
 refusal-of n = record { refusal = n; count = 0; comparisons = 0 }
 
 module _ (ix ds out : List ℕ) {r : Listed} where
-  pub days-off : calendars ds ≡ false → r ≡ refusal-of 3 → Gave r out (daysIn ix ds out)
+  pub days-off : daysOk ds ≡ false → r ≡ refusal-of 3 → Gave r out (daysIn ix ds out)
   unfolding daysOf
   days-off e = refusal 3 out (daysIn ix ds out) (rw (e, daysOf)) r
 
-  pub days-back : calendars ds ≡ true → risingFrom 0 ds ≡ false → r ≡ refusal-of 10 → Gave r out (daysIn ix ds out)
+  pub days-back : daysOk ds ≡ true → risingFrom 0 ds ≡ false → r ≡ refusal-of 10 → Gave r out (daysIn ix ds out)
   unfolding daysOf
   days-back d e = refusal 10 out (daysIn ix ds out) (rw (d, daysOf) (rw (e, daysOf))) r
 
 -- the days pass the checks
 pub record Accepted (ix ds : List ℕ) : Type 0 where
   pub built : Built ix
-  pub dated : calendars ds ≡ true
+  pub dated : daysOk ds ≡ true
   pub rising : risingFrom 0 ds ≡ true
 
 module _ {ix ds : List ℕ} (q : Accepted ix ds) where

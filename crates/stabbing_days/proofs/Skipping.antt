@@ -1,17 +1,8 @@
 -- The rows of a list that lie past the first m, counted from its end, and the steps of `skip`, apart from the code. Assumes nothing.
-use Prim.Native.Nat.{ℕ, zero, suc, _+_, _-_, _≤_, _<_, zero-le}
-use native.Mathlib.Nat.{le-refl}
-use native.Mathlib.Omega.{arith}
-use mathlib.Core.Bool.{Bool, _&&_}
-use mathlib.Core.List.{List, [], _∷_, _++_, map}
-use mathlib.Core.Path.{_≡_, refl, sym, ap, _∙_}
-use lib.Dec.{leb, ltb}
-use lib.ListN.{length, getD, drop, length-append, length-drop, length-map, drop-of-length-le, List·getD-append}
-use lib.Seq.{getD-append-seam, drop-cons, drop-append-le, drop-length}
-use borrow.Author.Tests.{le-leb, lt-leb, leb-true, leb-false, ltb-true, ltb-false}
+use Rattle.basis.proofs.Prelude.{_∙_, _≡_, ap, refl, sym, _+_, _-_, _<_, _≤_, suc, zero, zero-le, ℕ, List, [], _++_, _∷_, map, Bool, _&&_, leb, ltb, List·getD-append, drop, drop-of-length-le, getD, length, length-append, length-drop, length-map, drop-append-le, drop-cons, drop-length, getD-append-seam, le-refl, arith, le-leb, leb-false, leb-true, lt-leb, ltb-false, ltb-true, both, by-test}
 use Rattle.stabbing.specs.Tree.{keep}
 use Rattle.stabbing.specs.Index.{Built, numbers, firsts, lasts}
-use Rattle.stabbing.proofs.Marks.{by-test, both, keep-hit, keep-miss, keep-skip}
+use Rattle.stabbing.proofs.Marks.{keep-hit, keep-miss, keep-skip}
 use Rattle.stabbing.proofs.Block.{Holds, built-holds}
 use Rattle.stabbing.proofs.Days.{from}
 use Rattle.stabbing_query.specs.Code.{numbered}

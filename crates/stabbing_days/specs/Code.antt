@@ -8,7 +8,8 @@ use lib.ListN.{length, getD, take, drop}
 use Rattle.stabbing.specs.Tree.{keep, fitsAt}
 use Rattle.stabbing.specs.Stored.{latest}
 use Rattle.stabbing.specs.Index.{Built, firsts, lasts}
-use Rattle.stabbing.specs.Answer.{calendar, calendars, risingFrom, containsAny, dayIn}
+use Rattle.calendar.specs.Calendar.{isDay, daysOk}
+use Rattle.stabbing.specs.Answer.{risingFrom, containsAny, dayIn}
 use Rattle.stabbing.proofs.Days.{from}
 use Rattle.stabbing_query.specs.Code.{numbered}
 
@@ -45,14 +46,14 @@ askedAll ix m (d ∷ ds) part = dayFrom ix m d ++ askedAll ix (latest (firsts ix
 -- what is asked of one day: it is on the calendar, and there is room for all rows
 pub record AddAsks (ix : List ℕ) (d : ℕ) (part : List ℕ) : Type 0 where
   pub built : Built ix
-  pub dated : calendar d ≡ true
+  pub dated : isDay d ≡ true
   pub room : length (firsts ix) ≤ length part
 
 -- and of several: they are on the calendar and rise from a day b, by which m rows begin, and there is room for the other rows and once
 -- more for all
 pub record GatherAsks (ix ds : List ℕ) (m : ℕ) (answer : List ℕ) : Type 0 where
   pub built : Built ix
-  pub dated : calendars ds ≡ true
+  pub dated : daysOk ds ≡ true
   pub b : ℕ
   pub rising : risingFrom b ds ≡ true
   pub begun : m ≡ latest (firsts ix) (lasts ix) b

@@ -5,8 +5,10 @@ ghost use Prim.Native.Nat.{_<_, _≤_};
 ghost use lib.ListN.{length, getD, drop};
 ghost use Rattle.buffer.specs.Buffer.{overlaid};
 ghost use Rattle.stabbing.specs.Index.{Built};
-ghost use Rattle.stabbing.specs.Answer.{Gave, daysIn, calendars, risingFrom};
+ghost use Rattle.calendar.specs.Calendar.{daysOk};
+ghost use Rattle.stabbing.specs.Answer.{Gave, daysIn, risingFrom};
 ghost use Rattle.stabbing_days.specs.Code.{Skips, dayFrom, asked, AddAsks, GatherAsks, Added, Gathered};
+use calendar::is_day;
 use refusal::OFF_CALENDAR;
 use refusal::SHORT_BUFFER;
 use refusal::UNSORTED_DAYS;
@@ -14,7 +16,6 @@ use stabbing::BEGUN;
 use stabbing::BY_NUMBER;
 use stabbing::INDEX;
 use stabbing::Listed;
-use stabbing::is_day;
 use stabbing::refuse;
 use stabbing::wide;
 
@@ -22,7 +23,7 @@ use stabbing::wide;
 
 // Whether every day is on the calendar.
 fn on_calendar(days: &[u16]) -> bool
-    ensures { λ r. ⌜ r ≡ calendars (now (days .entry)) ⌝ }
+    ensures { λ r. ⌜ r ≡ daysOk (now (days .entry)) ⌝ }
 {
     let mut i = 0;
     while i < days.len() {

@@ -1,17 +1,9 @@
 -- What the builder lays is the block of the definition: column by column, and then the whole. Assumes nothing.
-use Prim.Native.Nat.{ℕ, zero, suc, _+_, _-_, _≤_, _<_, zero-le}
-use native.Mathlib.Omega.{arith}
-use mathlib.Core.Bool.{Bool, true, false}
-use mathlib.Core.List.{List, [], _∷_, _++_, append-assoc}
-use mathlib.Core.Path.{_≡_, refl, sym, ap, _∙_}
-use lib.Dec.{ltb, eqb}
-use lib.ListN.{length, getD, take, set, length-set, length-append}
-use lib.Seq.{getD-take, getD-append-add, take-all, take-suc-set, length-take-le}
-use borrow.Author.Tests.{ltb-true, le-ltb, le-leb, lt-leb}
+use Rattle.basis.proofs.Prelude.{_∙_, _≡_, ap, refl, sym, _+_, _-_, _<_, _≤_, suc, zero, zero-le, ℕ, List, [], _++_, _∷_, append-assoc, Bool, false, true, eqb, ltb, getD, length, length-append, length-set, set, take, getD-append-add, getD-take, length-take-le, take-all, take-suc-set, arith, le-leb, le-ltb, lt-leb, ltb-true, by-test}
 use Rattle.stabbing.specs.Tree.{dayAt, head, parent, child, leftSibling, lastChild, next, start}
 use Rattle.stabbing.specs.Stored.{latest}
 use Rattle.stabbing.specs.Index.{rowsOk, column, lastOf, headLink, rowLink, named, blockOf}
-use Rattle.stabbing.proofs.Marks.{by-test, below-ext}
+use Rattle.stabbing.proofs.Marks.{below-ext}
 use Rattle.stabbing.proofs.Links.{child-is, left-is}
 use Rattle.stabbing.proofs.Columns.{column-at, column-length, column-only}
 use Rattle.stabbing_index.specs.Build.{Builds}

@@ -1,13 +1,6 @@
 -- The steps of the passes over the chains and the neighbours' last days, apart from the code. Assumes nothing.
-use Prim.Native.Nat.{ℕ, zero, suc, _-_, _≤_, zero-le}
-use native.Mathlib.Nat.{le-refl}
-use native.Mathlib.Omega.{arith}
-use mathlib.Core.List.{List}
-use mathlib.Core.Path.{_≡_, refl, ap}
-use lib.ListN.{getD}
+use Rattle.basis.proofs.Prelude.{_≡_, ap, refl, _-_, _≤_, suc, zero, zero-le, ℕ, List, eqb, getD, le-refl, arith, by-test}
 use Rattle.stabbing.specs.Tree.{dayAt, next}
-use lib.Dec.{eqb}
-use Rattle.stabbing.proofs.Marks.{by-test}
 use Rattle.stabbing.specs.Index.{lastOf}
 use Rattle.stabbing_index.specs.Passes.{Columns}
 

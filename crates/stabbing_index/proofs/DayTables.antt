@@ -1,19 +1,9 @@
 -- The steps of the tables by day, apart from the code. Assumes nothing.
-use Prim.Native.Nat.{ℕ, suc, _+_, _≤_, _<_, zero-le}
-use native.Mathlib.Omega.{arith}
-use native.Mathlib.Numerals.{add-one}
-use mathlib.Core.Bool.{Bool}
-use mathlib.Core.List.{List}
-use mathlib.Core.Logic.{_≢_}
-use mathlib.Core.Path.{_≡_, sym, ap, _∙_}
-use lib.Dec.{leb}
-use lib.ListN.{length, getD, set, length-set}
-use lib.Seq.{getD-set-same, getD-set-other}
-use borrow.Author.Tests.{leb-true, leb-false, le-leb}
+use Rattle.basis.proofs.Prelude.{_∙_, _≡_, ap, sym, _+_, _<_, _≤_, suc, zero-le, ℕ, List, Bool, _≢_, leb, getD, length, length-set, set, getD-set-other, getD-set-same, add-one, arith, le-leb, leb-false, leb-true, both, by-eq, by-mark, by-test}
 use Rattle.stabbing_index.specs.declared.Way.{Way}
 use Rattle.stabbing.specs.Tree.{below, dayAt, head, parent, start}
 use Rattle.stabbing.specs.Stored.{Sorted, nearest, latest}
-use Rattle.stabbing.proofs.Marks.{by-test, by-mark, by-eq, both, below-is, below-skip, below-hit}
+use Rattle.stabbing.proofs.Marks.{below-is, below-skip, below-hit}
 use Rattle.stabbing.proofs.Links.{Head, Top, top}
 use Rattle.stabbing.proofs.Walk.{start-is}
 use Rattle.stabbing.proofs.Starts.{latest-is, latest-before, lasting, nearest-is, start-nearest}

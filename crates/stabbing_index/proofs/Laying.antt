@@ -1,14 +1,8 @@
 -- Words laid into a block from a place on. Assumes nothing.
-use Prim.Native.Nat.{ℕ, _+_, _-_, _≤_, _<_}
-use native.Mathlib.Omega.{arith}
-use mathlib.Core.List.{List, _++_, append-assoc, append-nil}
-use mathlib.Core.Path.{_≡_, refl, sym, ap, _∙_}
-use lib.ListN.{length, getD, take, drop, set, length-set, length-drop, length-append, drop-of-length-le}
-use lib.Seq.{getD-set-same, getD-set-other, getD-take, getD-drop, take-add, take-take, take-at, take-all, take-append-add, take-append-seam, length-take-le, ext-getD}
+use Rattle.basis.proofs.Prelude.{_∙_, _≡_, ap, refl, sym, _+_, _-_, _<_, _≤_, ℕ, List, _++_, append-assoc, append-nil, drop, drop-of-length-le, getD, length, length-append, length-drop, length-set, set, take, ext-getD, getD-drop, getD-set-other, getD-set-same, getD-take, length-take-le, take-add, take-all, take-append-add, take-append-seam, take-at, take-take, arith, by-eq}
 use Rattle.buffer.specs.Buffer.{overlaid}
 use Rattle.buffer.proofs.Overlaid.{overlaid-all}
 use Rattle.stabbing.specs.Index.{column}
-use Rattle.stabbing.proofs.Marks.{by-eq}
 use Rattle.stabbing.proofs.Columns.{column-only, column-at, column-length}
 use Rattle.stabbing_index.specs.Words.{Laid}
 

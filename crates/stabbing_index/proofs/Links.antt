@@ -1,21 +1,10 @@
 -- The steps of the builder over what it reads and has written, apart from the code. Assumes nothing.
-use Prim.Native.Nat.{ℕ, zero, suc, _+_, _-_, _≤_, _<_}
-use native.Mathlib.Nat.{le-refl}
-use native.Mathlib.Omega.{arith}
-use native.Mathlib.Numerals.{add-one}
-use mathlib.Core.Bool.{Bool, true, false}
-use mathlib.Core.List.{List, []}
-use mathlib.Core.Logic.{_≢_}
-use mathlib.Core.Path.{_≡_, refl, sym, ap, _∙_}
-use lib.Dec.{eqb, leb, ltb}
-use lib.ListN.{length, getD, set, replicate, length-set, length-replicate, getD-replicate, List·getD-eq-default}
-use lib.Seq.{getD-set-same, getD-set-other}
-use borrow.Author.Tests.{eqb-true, eqb-false, eq-eqb, ne-eqb, le-leb, lt-leb, ltb-true, ltb-false, lt-ltb}
+use Rattle.basis.proofs.Prelude.{_∙_, _≡_, ap, refl, sym, _+_, _-_, _<_, _≤_, suc, zero, ℕ, List, [], Bool, false, true, _≢_, eqb, leb, ltb, List·getD-eq-default, getD, getD-replicate, length, length-replicate, length-set, replicate, set, getD-set-other, getD-set-same, le-refl, add-one, arith, eq-eqb, eqb-false, eqb-true, le-leb, lt-leb, lt-ltb, ltb-false, ltb-true, ne-eqb, by-eq, by-mark, by-test, clash}
 use Rattle.stabbing_index.specs.declared.Way.{Way}
 use Rattle.stabbing.specs.Tree.{below, dayAt, head, next, parent, child, leftSibling}
 use Rattle.stabbing.specs.Stored.{nearest}
 use Rattle.stabbing.specs.Index.{headLink, rowLink}
-use Rattle.stabbing.proofs.Marks.{by-test, by-mark, by-eq, below-hit, below-miss, clash}
+use Rattle.stabbing.proofs.Marks.{below-hit, below-miss}
 use Rattle.stabbing.proofs.Links.{Head, bottom, bottom-is, parent-is, child-is, left-is}
 use Rattle.stabbing_index.proofs.Parents.{parent-nearest, left-passed, child-next, child-same}
 use Rattle.stabbing_index.specs.Passes.{passed, Columns, Held, Linked, Chained, headAt, ClimbAt, Climbed, HeadAt}

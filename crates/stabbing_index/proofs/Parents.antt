@@ -1,16 +1,8 @@
 -- How the links are found when a list is published: each head climbs from the head before it. Assumes nothing.
-use Prim.Native.Nat.{ℕ, zero, suc, _≤_, _<_, zero-le}
-use native.Mathlib.Omega.{arith}
-use mathlib.Core.Bool.{Bool, _&&_}
-use mathlib.Core.List.{List}
-use mathlib.Core.Logic.{_≢_}
-use mathlib.Core.Path.{_≡_, refl, sym, _∙_}
-use lib.ListN.{length}
-use lib.Dec.{leb, eqb}
-use borrow.Author.Tests.{leb-true, leb-false, eqb-true, eq-eqb}
+use Rattle.basis.proofs.Prelude.{_∙_, _≡_, refl, sym, _<_, _≤_, suc, zero, zero-le, ℕ, List, Bool, _&&_, _≢_, eqb, leb, length, arith, eq-eqb, eqb-true, leb-false, leb-true, both, by-eq, by-mark, by-test, untrue}
 use Rattle.stabbing.specs.Tree.{below, dayAt, head, parent, child, leftSibling}
 use Rattle.stabbing.specs.Stored.{Sorted, nearest}
-use Rattle.stabbing.proofs.Marks.{by-test, by-mark, by-eq, both, untrue, below-is, below-hit, below-miss, below-skip, below-only}
+use Rattle.stabbing.proofs.Marks.{below-is, below-hit, below-miss, below-skip, below-only}
 use Rattle.stabbing.proofs.Links.{Head, bottom, bottom-is, parent-is, parent-ge, left-is}
 use Rattle.stabbing.proofs.Starts.{lasting, nearest-is}
 use Rattle.stabbing_index.specs.Passes.{passed}

@@ -1,14 +1,5 @@
 -- Rows that can be published, row by row. Assumes nothing.
-use Prim.Native.Nat.{ℕ, _+_, _≤_, _<_}
-use native.Mathlib.Omega.{arith}
-use native.Mathlib.Numerals.{add-one}
-use mathlib.Core.Bool.{Bool, true, false, _&&_}
-use mathlib.Core.List.{List}
-use mathlib.Core.Path.{_≡_, sym, _∙_}
-use lib.Dec.{leb}
-use lib.ListN.{length, getD, take, drop, drop-of-length-le}
-use lib.Seq.{drop-cons, getD-take, length-take-le}
-use borrow.Author.Tests.{le-leb, lt-leb, lt-ltb, le-ltb, eq-eqb, ne-eqb}
+use Rattle.basis.proofs.Prelude.{_∙_, _≡_, sym, _+_, _<_, _≤_, ℕ, List, Bool, _&&_, false, true, leb, drop, drop-of-length-le, getD, length, take, drop-cons, getD-take, length-take-le, add-one, arith, eq-eqb, le-leb, le-ltb, lt-leb, lt-ltb, ne-eqb}
 use Rattle.stabbing.specs.Index.{rowOk, mayFollow, rowsAfter, rowsOk}
 
 -- ---- the check of one row

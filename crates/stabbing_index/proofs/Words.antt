@@ -1,16 +1,7 @@
 -- The table by number. Assumes nothing.
-use Prim.Native.Nat.{ℕ, suc, _+_, _≤_, _<_}
-use native.Mathlib.Omega.{arith}
-use native.Mathlib.Numerals.{add-one}
-use mathlib.Core.Bool.{Bool}
-use mathlib.Core.List.{List}
-use mathlib.Core.Path.{_≡_, refl, sym, ap, _∙_}
-use lib.Dec.{eqb}
-use lib.ListN.{length, getD, set, length-set}
-use lib.Seq.{getD-set-same, getD-set-other}
-use borrow.Author.Tests.{eqb-true, eqb-false}
+use Rattle.basis.proofs.Prelude.{_∙_, _≡_, ap, refl, sym, _+_, _<_, _≤_, suc, ℕ, List, Bool, eqb, getD, length, length-set, set, getD-set-other, getD-set-same, add-one, arith, eqb-false, eqb-true, by-test}
 use Rattle.stabbing.specs.Tree.{below}
-use Rattle.stabbing.proofs.Marks.{by-test, below-hit, below-miss}
+use Rattle.stabbing.proofs.Marks.{below-hit, below-miss}
 use Rattle.stabbing_index.specs.Words.{nameWord}
 use Rattle.stabbing_index.proofs.Laying.{Laying}
 

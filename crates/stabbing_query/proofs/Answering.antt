@@ -1,26 +1,19 @@
 -- From the walk to the answers of day, span and cover: what is written, the theorems on listing and comparisons, the starts. Assumes nothing.
-use Prim.Native.Nat.{ℕ, zero, suc, _+_, _-_, _/_, _%_, _≤_, _<_, zero-le}
-use native.Mathlib.Nat.{le-refl}
-use native.Mathlib.Omega.{arith}
-use mathlib.Core.Bool.{Bool, true, false, _&&_}
-use mathlib.Core.List.{List, [], _∷_, _++_, map, map-append}
-use mathlib.Core.Path.{_≡_, refl, sym, ap, _∙_}
-use lib.Dec.{leb}
-use lib.ListN.{length, getD, take, drop, length-map, drop-of-length-le}
-use lib.Seq.{take-all}
-use borrow.Author.Tests.{le-leb, lt-leb, leb-true}
+use Rattle.basis.proofs.Prelude.{_∙_, _≡_, ap, refl, sym, _%_, _+_, _-_, _/_, _<_, _≤_, suc, zero, zero-le, ℕ, List, [], _++_, _∷_, map, map-append, Bool, _&&_, false, true, leb, drop, drop-of-length-le, getD, length, length-map, take, take-all, le-refl, arith, le-leb, leb-true, lt-leb, both, by-test}
 use Rattle.buffer.specs.Buffer.{overlaid}
 use Rattle.buffer.proofs.Overlaid.{overlaid-all}
 use Rattle.stabbing.specs.declared.Listed.{Listed}
 use Rattle.stabbing.specs.Tree.{keep, dayAt, fitsAt, start}
 use Rattle.stabbing.specs.Walk.{Found, nothing, walk, climb}
 use Rattle.stabbing.specs.Stored.{latest, spanStart}
-use Rattle.stabbing.proofs.Marks.{by-test, both, below-is, keep-hit, keep-miss}
+use Rattle.stabbing.proofs.Marks.{below-is, keep-hit, keep-miss}
 use Rattle.stabbing.proofs.Starts.{latest-is, start-span, cover-latest}
 use Rattle.stabbing.proofs.Walk.{start-is, listing, comparisons-formula}
 use Rattle.stabbing.specs.Index.{Built, named, numbers, firsts, lasts}
 use Rattle.stabbing.proofs.Block.{Holds, built-holds}
-use Rattle.stabbing.specs.Answer.{Outcome, refused, give, question, calendar, dayOf, dayIn, Gave, spanOf, spanIn, covering, coverOf, coverIn}
+use Rattle.calendar.specs.Calendar.{isDay}
+pub use Rattle.calendar.proofs.Calendar.{dated}
+use Rattle.stabbing.specs.Answer.{Outcome, refused, give, question, dayOf, dayIn, Gave, spanOf, spanIn, covering, coverOf, coverIn}
 use Rattle.stabbing_query.specs.Code.{Now, Does, ClimbAt, StartAt, WalkAsks, SpanAsks, numbered, toldOf, listedOf}
 use Rattle.stabbing_query.proofs.Keeping.{now-place, comparisons-is}
 
@@ -120,15 +113,12 @@ module _ (ix ns fs ls : List ℕ) (b : Holds ix ns fs ls) (h l m : ℕ) (e : m �
   answers out = rw (e, listing fs ls (b .sorted) h l, comparisons-formula fs ls (b .sorted) h l) (rw (keep-map (λ p. getD ix p 0) (λ p. getD ns p 0) (fitsAt fs ls h l) (length fs) (b .numbers)))
 
 -- day
-pub dated : (d : ℕ) → calendar d ≡ true → (1 ≤ d) × (d ≤ 4000)
-dated d e = let q = both (leb 1 d) (leb d 4000) e in (leb-true 1 d (q .0), leb-true d 4000 (q .1))
-
 module _ (ix : List ℕ) (d : ℕ) (out : List ℕ) where
-  pub day-in : calendar d ≡ true → dayIn ix d out ≡ question (numbers ix) (firsts ix) (lasts ix) d d out
+  pub day-in : isDay d ≡ true → dayIn ix d out ≡ question (numbers ix) (firsts ix) (lasts ix) d d out
   unfolding dayOf
   day-in e = rw (e, dayOf)
 
-  pub day-off : calendar d ≡ false → dayIn ix d out ≡ refused 3 out
+  pub day-off : isDay d ≡ false → dayIn ix d out ≡ refused 3 out
   unfolding dayOf
   day-off e = rw (e, dayOf)
 
@@ -192,11 +182,11 @@ module _ (ix : List ℕ) (a b : ℕ) (q : SpanAsks ix a b) (x m : ℕ) (e : x �
 
 -- span
 module _ (ix : List ℕ) (a b : ℕ) (out : List ℕ) where
-  pub span-off : calendar a && calendar b ≡ false → spanIn ix a b out ≡ refused 3 out
+  pub span-off : isDay a && isDay b ≡ false → spanIn ix a b out ≡ refused 3 out
   unfolding spanOf
   span-off e = rw (e, spanOf)
 
-  module _ (x : calendar a ≡ true) (y : calendar b ≡ true) where
+  module _ (x : isDay a ≡ true) (y : isDay b ≡ true) where
     pub span-in : a ≤ b → spanIn ix a b out ≡ question (numbers ix) (firsts ix) (lasts ix) b a out
     unfolding spanOf
     span-in h = rw (x, y, spanOf) (rw (le-leb a b h, spanOf))

@@ -1,10 +1,5 @@
 -- The steps of `chain` over what it asks and gives, apart from the code. Assumes nothing.
-use Prim.Native.Nat.{ℕ, zero, suc, _+_, _-_, _/_, _%_, _≤_, _<_}
-use native.Mathlib.Nat.{mod-eq-of-lt}
-use native.Mathlib.Omega.{arith}
-use mathlib.Core.List.{List}
-use mathlib.Core.Path.{_≡_, refl, sym, ap, _∙_}
-use lib.ListN.{length, getD, set}
+use Rattle.basis.proofs.Prelude.{_∙_, _≡_, ap, refl, sym, _%_, _+_, _-_, _/_, _<_, _≤_, suc, zero, ℕ, List, getD, length, set, mod-eq-of-lt, arith}
 use Rattle.stabbing.specs.Tree.{one, some, next}
 use Rattle.stabbing.specs.Walk.{Found, push, compare, chain}
 use Rattle.stabbing.proofs.Walk.{compare-none}

@@ -4,15 +4,15 @@
 ghost use Prim.Native.Nat.{_≤_};
 ghost use lib.ListN.{length};
 ghost use Rattle.service.specs.Service.{Published};
-ghost use Rattle.report.specs.Report.{PrintedOn, PrintedOf};
+ghost use Rattle.stand_text.specs.Report.{PrintedOn, PrintedOf};
 use input::Input;
 use libc::STDERR_FILENO;
 use libc::STDIN_FILENO;
 use libc::STDOUT_FILENO;
-use report::LAST_DAY;
-use report::LINE;
-use report::PART;
 use stabbing::INDEX;
+use stand_text::LAST_DAY;
+use stand_text::LINE;
+use stand_text::PART;
 
 // One byte more than a register may have: a longer text is refused whatever follows.
 const TEXT: usize = 65537;
@@ -51,7 +51,7 @@ fn tell_refusal(number: u16, line: u16) {
 
 fn print_refusal(number: u16, line: u16) {
     let mut buf = [0u8; LINE];
-    let at = report::refused_line(number, line, &mut buf);
+    let at = stand_text::refused_line(number, line, &mut buf);
     print_line(&buf, at);
     tell_refusal(number, line);
 }
@@ -70,7 +70,7 @@ fn print_days(index: &[u16; INDEX]) -> Days
     let mut out = [0u8; PART];
     let mut d = 1;
     while d <= LAST_DAY {
-        let part = report::days_part(index, d, &mut out);
+        let part = stand_text::days_part(index, d, &mut out);
         if !print_part(&out, part.bytes) {
             return Days {
                 next: d,

@@ -1,24 +1,22 @@
 -- What each call's result is, in terms of the account: pure facts, no code. Assumes nothing.
-use mathlib.Core.Path.{_≡_, refl, sym, ap, _∙_}
-use mathlib.Core.Bool.{true, false}
-use mathlib.Core.List.{List, [], _∷_, _++_, reverse-reverse}
-use Prim.Native.Nat.{ℕ, suc, _-_, _≤_, _<_}
-use native.Mathlib.Omega.{arith}
-use lib.ListN.{length, getD, take, drop, length-append, length-take, length-drop, length-reverse, length-replicate}
-use lib.Seq.{length-take-le, getD-take}
+use Rattle.basis.proofs.Prelude.{_∙_, _≡_, ap, refl, sym, _-_, _<_, _≤_, suc, ℕ, List, [], _++_, _∷_, reverse-reverse, false, true, drop, getD, length, length-append, length-drop, length-replicate, length-reverse, length-take, take, getD-take, length-take-le, arith}
+use Rattle.buffer.specs.Buffer.{over}
+use Rattle.buffer.proofs.Over.{own-over, over-twice}
 use Rattle.refusal.specs.Table.{accepted, unknownNumber, noHistory}
 use Rattle.spell.specs.declared.Spell.{Spell}
+use Rattle.spell.specs.Order.{earlierOf}
 use Rattle.spell.specs.Listing.{stands, Sound, Good}
-use Rattle.register.specs.Answers.{blank}
+use Rattle.spell.proofs.Order.{text-order}
+use Rattle.spell.specs.Blank.{blank}
 use Rattle.model.specs.Edits.{insert, remove, replace, enterRefusal, amendRefusal, strikeRefusal, takeBackRefusal, frontOr, restOf}
 use Rattle.standing.specs.declared.Undo.{Undo}
 use Rattle.standing.specs.declared.Standing.{Standing}
 use Rattle.standing.specs.Standing.{listOf, entries, undo, pastOf, pasts, Goods, Wf, Fresh, Edits, afterTakeBack, TakesBack}
 use Rattle.standing.specs.Search.{indexOf}
-use Rattle.standing.specs.Places.{onto, relisted, holding, blankEntry, freshStanding, entering, replacing, noted}
+use Rattle.standing.specs.Places.{relisted, holding, blankEntry, freshStanding, entering, replacing, noted}
 use Rattle.standing.proofs.Search.{remove-at}
-use Rattle.standing.proofs.Places.{onto-same, onto-twice, same, over-same, list-over, past-over, wf-over, over-relisted}
-use Rattle.model.proofs.Edits.{length-insert, removed-gone, orderly-none, orderly-insert, orderly-remove, orderly-replace, good-orderly, orderly-good, remove-none, remove-insert}
+use Rattle.standing.proofs.Places.{same, over-same, list-over, past-over, wf-over, over-relisted}
+use Rattle.model.proofs.Edits.{length-insert, removed-gone, orderly-none, orderly-insert, orderly-remove, orderly-replace, remove-none, remove-insert}
 use Rattle.model.proofs.Checks.{enters, amends}
 use Rattle.standing.proofs.Edits.{insert-remove}
 use Rattle.standing.proofs.Checks.{found, missed, strike-refusal}
@@ -35,7 +33,7 @@ removed-is k p l e = ap (λ (i : ℕ). take i l ++ drop (suc i) l) e ∙ sym (re
 pub removed-none : (st : Standing) (k p : ℕ) → st .count ≤ length (st .spells) → p ≡ indexOf k (listOf st) → st .count ≤ p → st ≡ relisted st (remove k (listOf st))
 removed-none st k p fits e h =
     let long : length (listOf st) ≡ st .count = length-take-le (st .count) (st .spells) fits in
-    rw (remove-none k (listOf st) (missed (listOf st) (st .count) k p long e h)) (same (sym (onto-same (st .count) (st .spells) fits)) (sym long) refl refl)
+    rw (remove-none k (listOf st) (missed (listOf st) (st .count) k p long e h)) (same (sym (own-over (st .count) (st .spells) fits)) (sym long) refl refl)
 
 -- ---- Enter
 
@@ -44,8 +42,8 @@ pub enter-made : (st : Standing) (s : Spell) → Wf st → Sound s → enterRefu
 enter-made st s w sound done =
     let e = enters (listOf st) s done in
     edited st (enterRefusal (listOf st) s) (insert s (listOf st)) (entering s) w
-    (orderly-good (orderly-insert Sound s (listOf st) (good-orderly (w .good)) sound (e .free) (e .room)))
-    (unfold undo in remove-insert s (listOf st) (e .free))
+    (orderly-insert text-order Sound s (listOf st) (w .good) sound (e .free) (e .room))
+    (unfold undo in remove-insert earlierOf s (listOf st) (e .free))
     done
 
 -- ---- Strike and amend: the spell that stands at p goes
@@ -69,7 +67,7 @@ module _ (st : Standing) (w : Wf st) (k p : ℕ) (e : p ≡ indexOf k (listOf st
   strike-made =
       rw (removed-is k p (listOf st) e, entry-is)
       (edited st (strikeRefusal (listOf st) k) (remove k (listOf st)) (replacing k (listOf st)) w
-      (orderly-good (orderly-remove Sound k (listOf st) (good-orderly (w .good)) there))
+      (orderly-remove text-order Sound k (listOf st) (w .good) there)
       (unfold undo in rw (remove-none k (remove k (listOf st)) (removed-gone k (listOf st) (w .good .unique))) put-back)
       (unfold strikeRefusal in rw there))
 
@@ -96,10 +94,10 @@ amend-made st s w p e h sound done =
     let there = amends (listOf st) s done .there in
     let free = removed-gone k (listOf st) (w .good .unique) in
     let es = noted (replacing k (listOf st)) (entries st) in
-    rw (removed-is k p (listOf st) e, entry-is st w k p e h, list-over st less es, over-relisted st less (insert s less) es (omega (arith, length-insert s less)))
+    rw (removed-is k p (listOf st) e, entry-is st w k p e h, list-over st less es, over-relisted st less (insert s less) es (omega (arith, length-insert earlierOf s less)))
     (edited st (amendRefusal (listOf st) s) (insert s less) (replacing k (listOf st)) w
-    (orderly-good (orderly-replace Sound s (listOf st) (good-orderly (w .good)) sound there))
-    (unfold undo in rw (remove-insert s less free) (put-back st w k p e h))
+    (orderly-replace text-order Sound s (listOf st) (w .good) sound there)
+    (unfold undo in rw (remove-insert earlierOf s less free) (put-back st w k p e h))
     done)
 
 -- ---- Take back
@@ -182,7 +180,7 @@ module _ (st : Standing) (w : Wf st) (some : st .depth ≡ 0 → ⊥) where
       let d = st .depth - 1 in
       let fits : d ≤ length (st .journal) = omega (arith, w .rooms, w .depth-in) in
       same refl refl
-      (sym (ap (λ (j : List Undo). onto j (st .journal)) (reverse-reverse (take d (st .journal))) ∙ onto-same d (st .journal) fits))
+      (sym (ap (λ (j : List Undo). over j (st .journal)) (reverse-reverse (take d (st .journal))) ∙ own-over d (st .journal) fits))
       (sym (length-reverse (take d (st .journal)) ∙ length-take-le d (st .journal) fits))
 
   takes-back : TakesBack st (record { standing = relisted (lowered st) front; refusal = accepted })
@@ -216,19 +214,19 @@ module _ (st : Standing) (w : Wf st) (some : st .depth ≡ 0 → ⊥) where
 
   -- there is room for the spell that stood before
   pub undo-room : newest .stood ≡ true → length less < 1024
-  undo-room e = omega (arith, length-insert (newest .spell) less, rw (undo-is e) at (front-good .0 .few))
+  undo-room e = omega (arith, length-insert earlierOf (newest .spell) less, rw (undo-is e) at (front-good .0 .few))
 
   pub undo-stood : newest .stood ≡ true
       → let a = relisted (lowered st) less in TakesBack st (record { standing = relisted a (insert (newest .spell) (listOf a)); refusal = accepted })
   undo-stood e =
       let l = insert (newest .spell) less in
-      let twice : relisted (relisted (lowered st) less) l ≡ relisted (lowered st) front = same (onto-twice less l (st .spells) (omega (arith, length-insert (newest .spell) less)) ∙ rw (undo-is e)) (rw (undo-is e)) refl refl in
+      let twice : relisted (relisted (lowered st) less) l ≡ relisted (lowered st) front = same (over-twice less l (st .spells) (omega (arith, length-insert earlierOf (newest .spell) less)) ∙ rw (undo-is e)) (rw (undo-is e)) refl refl in
       rw (list-over (lowered st) less rest, twice) takes-back
 
 -- ---- A standing list with no past
 
 pub good-none : Good []
-good-none = orderly-good (orderly-none Sound)
+good-none = orderly-none text-order Sound
 
 no-goods : (l : List Spell) → Goods (pastOf l [])
 unfolding pastOf Goods

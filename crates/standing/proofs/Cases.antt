@@ -1,14 +1,11 @@
 -- Worked examples: an entry's words, and the places of small arrays after an edit and after a take back. Assumes nothing.
-use mathlib.Core.Path.{_≡_, refl}
-use mathlib.Core.Bool.{true}
-use mathlib.Core.List.{List, [], _∷_}
-use Prim.Native.Nat.{ℕ}
+use Rattle.basis.proofs.Prelude.{_≡_, refl, ℕ, List, [], _∷_, true}
 use lib.Ieee.{binary32, ofBits, toBits}
 use Rattle.spell.specs.declared.Urgency.the-variants.{Grade, Reading}
 use Rattle.spell.specs.declared.Spell.{Spell}
 use Rattle.spell.specs.Order.{earlierOf}
 use Rattle.spell.specs.Listing.{stands}
-use Rattle.model.specs.Edits.{insert, remove, enterRefusal, strikeRefusal, frontOr}
+use Rattle.model.specs.Edits.{insert, insertBy, remove, enterRefusal, strikeRefusal, frontOr}
 use Rattle.packing.specs.Words.{spellWords, spellOf, urgencyOf}
 use Rattle.standing.specs.declared.Undo.{Undo}
 use Rattle.standing.specs.declared.Standing.{Standing}
@@ -57,7 +54,7 @@ st = standing (a ∷ b ∷ spell 3 30 ∷ spell 4 40 ∷ []) 2 (entering b ∷ e
 -- a third spell goes between, over what the third place held; the next entry goes over what the second place held
 entered : afterEdit st (enterRefusal (listOf st) (spell 6 15)) (insert (spell 6 15) (listOf st)) (entering (spell 6 15))
     ≡ standing (a ∷ spell 6 15 ∷ b ∷ spell 4 40 ∷ []) 3 (entering b ∷ entering (spell 6 15) ∷ blankEntry ∷ []) 2
-unfolding enterRefusal insert earlierOf stands
+unfolding enterRefusal insertBy earlierOf stands
 entered = refl
 
 -- the first spell goes: the second moves down, and its former place keeps it

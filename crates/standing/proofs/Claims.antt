@@ -1,10 +1,5 @@
 -- What the calls are for, as their contracts give it. Assumes nothing.
-use mathlib.Core.Path.{_≡_, sym, _∙_}
-use mathlib.Core.List.{List, _∷_}
-use Prim.Native.Nat.{ℕ, _≤_}
-use native.Mathlib.Omega.{arith}
-use borrow.Author.Tests.{eq-eqb, ne-eqb}
-use lib.ListN.{length, take, length-reverse, length-take}
+use Rattle.basis.proofs.Prelude.{_∙_, _≡_, sym, _≤_, ℕ, List, _∷_, length, length-reverse, length-take, take, arith, eq-eqb, ne-eqb}
 use Rattle.refusal.specs.Table.{accepted}
 use Rattle.spell.specs.declared.Spell.{Spell}
 use Rattle.model.specs.Edits.{remember}

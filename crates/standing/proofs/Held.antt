@@ -1,7 +1,5 @@
 -- What the checker knows of every spell that a program holds: its numbers are 16 bits wide, and its reading is a 32-bit float. Assumes nothing.
-use mathlib.Core.Path.{_≡_}
-use mathlib.Core.List.{List}
-use native.Mathlib.Omega.{arith}
+use Rattle.basis.proofs.Prelude.{_≡_, List, arith}
 use mir.Val.{Val}
 use denote.Laws.{Is}
 use Rattle.refusal.specs.Table.{accepted}

@@ -1,32 +1,28 @@
 -- The standing list of a register text. Assumes nothing.
-use Prim.Native.Nat.{ℕ}
-use mathlib.Core.Path.{_≡_, refl}
-use mathlib.Core.List.{List, []}
+use Rattle.basis.proofs.Prelude.{_≡_, refl, ℕ, List, []}
+use Rattle.buffer.proofs.Over.{over-blank}
 use Rattle.spell.specs.Listing.{Good}
-use Rattle.register.specs.declared.Reading.{Reading}
 use Rattle.register.specs.Text.{Register, good, bad, readText}
-use Rattle.register.specs.Answers.{blank, readingOf}
+use Rattle.spell.specs.Blank.{blank}
+use Rattle.register.specs.Answers.{readingOf}
 use Rattle.register.proofs.Texts.{written-read}
 use Rattle.model.specs.Model.{begun}
-use Rattle.standing.specs.declared.Loaded.{Loaded}
-use Rattle.standing.specs.Places.{freshStanding}
-use Rattle.standing.specs.Standing.{Loads}
-use Rattle.standing.proofs.Places.{onto-blank, list-over}
+use Rattle.standing.specs.declared.Standing.{Standing}
+use Rattle.standing.specs.Places.{freshStanding, loadedOf}
+use Rattle.standing.specs.Standing.{Wf, listOf, pasts, afterReading}
+use Rattle.standing.proofs.Places.{list-over}
 use Rattle.standing.proofs.Calls.{begun-wf, begun-past, good-none}
 
--- what is made of a reading
-abbrev pub loadedOf : Reading → Loaded
-loadedOf g = record {
-  standing = record { spells = g .spells; count = g .count; journal = freshStanding .journal; depth = 0 };
-  refusal = g .refusal;
-  line = g .line;
-}
+-- the standing list and the past with which the account begins
+pub record Loads (g : Register) (st : Standing) : Type 0 where
+  pub wf : Wf st
+  pub list : listOf st ≡ begun g .standing
+  pub past : pasts st ≡ begun g .past
+  pub whole : st ≡ afterReading g
 
 pub loads : (text : List ℕ) (g : Register) → readText text ≡ g → Loads g (loadedOf (readingOf g))
 unfolding readingOf begun
 loads text (good l) e =
     let good : Good l = written-read text l e .1 in
-    rw (← onto-blank l 1024 blank (good .few))
-    (record { wf = begun-wf l good; list = list-over freshStanding l []; past = begun-past l; refusal = refl; line = refl; whole = refl })
-loads text (bad n line) e =
-    record { wf = begun-wf [] good-none; list = refl; past = begun-past []; refusal = refl; line = refl; whole = refl }
+    rw (← over-blank l 1024 blank (good .few)) (record { wf = begun-wf l good; list = list-over freshStanding l []; past = begun-past l; whole = refl })
+loads text (bad n line) e = record { wf = begun-wf [] good-none; list = refl; past = begun-past []; whole = refl }

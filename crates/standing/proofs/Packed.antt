@@ -1,14 +1,5 @@
 -- The words of a standing list read back as it. Assumes nothing.
-use mathlib.Core.Path.{_≡_, refl, sym, ap, _∙_}
-use mathlib.Core.Bool.{Bool, true, false, not, cond}
-use mathlib.Core.List.{List, [], _∷_, _++_, append-assoc, append-nil}
-use Prim.Native.Nat.{ℕ, suc, _+_, _-_, _≤_}
-use native.Mathlib.Nat.{add-zero}
-use native.Mathlib.Numerals.{add-one, add-two}
-use native.Mathlib.Omega.{arith}
-use lib.Dec.{eqb}
-use lib.ListN.{length, getD, take, drop, set, length-append, length-drop, length-set, drop-of-length-le}
-use lib.Seq.{getD-drop, drop-drop, getD-at, getD-append-add, take-all, take-at, drop-at, sets-eq}
+use Rattle.basis.proofs.Prelude.{_∙_, _≡_, ap, refl, sym, _+_, _-_, _≤_, suc, ℕ, List, [], _++_, _∷_, append-assoc, append-nil, Bool, cond, false, not, true, eqb, drop, drop-of-length-le, getD, length, length-append, length-drop, length-set, set, take, drop-at, drop-drop, getD-append-add, getD-at, getD-drop, sets-eq, take-all, take-at, add-zero, add-one, add-two, arith}
 use mir.Val.{boolByte}
 use Rattle.packing.specs.Blocks.{put, written, parts, Every, PutAll}
 use Rattle.packing.specs.Words.{spellWords, spellOf}

@@ -1,14 +1,7 @@
 -- The past as the journal gives it, and an edit that is pushed on it. Assumes nothing.
-use mathlib.Core.Path.{_≡_, refl, sym, ap, _∙_}
-use mathlib.Core.Bool.{false}
-use mathlib.Core.List.{List, [], _∷_, _++_, reverse, reverse-cons, reverse-append, reverse-reverse}
-use Prim.Native.Nat.{ℕ, zero, suc, _+_, _-_, _≤_, _<_}
-use native.Mathlib.Numerals.{add-one}
-use native.Mathlib.Omega.{arith}
-use borrow.Author.Tests.{ne-eqb, eqb-false}
-use lib.Dec.{eqb}
-use lib.ListN.{length, getD, take, drop, set, length-reverse, length-take, length-set, drop-of-length-le}
-use lib.Seq.{take-suc, take-all, take-at, take-suc-set, drop-set-lt, length-take-le}
+use Rattle.basis.proofs.Prelude.{_∙_, _≡_, ap, refl, sym, _+_, _-_, _<_, _≤_, suc, zero, ℕ, List, [], _++_, _∷_, reverse, reverse-append, reverse-cons, reverse-reverse, false, eqb, drop, drop-of-length-le, getD, length, length-reverse, length-set, length-take, set, take, drop-set-lt, length-take-le, take-all, take-at, take-suc, take-suc-set, add-one, arith, eqb-false, ne-eqb}
+use Rattle.buffer.specs.Buffer.{over}
+use Rattle.buffer.proofs.Over.{over-is}
 use Rattle.refusal.specs.Table.{accepted}
 use Rattle.spell.specs.declared.Spell.{Spell}
 use Rattle.spell.specs.Listing.{Good}
@@ -16,9 +9,9 @@ use Rattle.model.specs.Edits.{remember}
 use Rattle.standing.specs.declared.Undo.{Undo}
 use Rattle.standing.specs.declared.Standing.{Standing}
 use Rattle.standing.specs.Standing.{listOf, entries, undo, pastOf, pasts, Goods, Wf, Edits}
-use Rattle.standing.specs.Places.{onto, rejournaled, holding, blankEntry, noted}
+use Rattle.standing.specs.Places.{rejournaled, holding, blankEntry, noted}
 use Rattle.standing.proofs.Lists.{front, closed, front-length, closed-length}
-use Rattle.standing.proofs.Places.{onto-is, same, list-over, past-over, wf-over}
+use Rattle.standing.proofs.Places.{same, list-over, past-over, wf-over}
 
 -- ---- The past
 
@@ -51,8 +44,8 @@ reverse-more j e = reverse-append j (e ∷ [])
 
 -- the journal b has the entries es in its first m places, and later places as j has them
 module _ (j b : List Undo) (m : ℕ) (es : List Undo) (h : m ≤ length b) (first : reverse (take m b) ≡ es) where
-  journal-is : drop m b ≡ drop m j → b ≡ onto (reverse es) j
-  journal-is rest = onto-is (reverse es) j b m h (sym (reverse-reverse (take m b)) ∙ ap reverse first) rest
+  journal-is : drop m b ≡ drop m j → b ≡ over (reverse es) j
+  journal-is rest = over-is (reverse es) j b m h (sym (reverse-reverse (take m b)) ∙ ap reverse first) rest
 
   depth-is : m ≡ length es
   depth-is = sym (length-take-le m b h) ∙ sym (length-reverse (take m b)) ∙ ap length first

@@ -1,13 +1,7 @@
 -- The columns of a list of spells: how a loop lays one out. Assumes nothing.
-use mathlib.Core.Path.{_≡_, refl, sym, _∙_}
-use mathlib.Core.List.{List, [], _∷_, _++_, map, map-append}
-use Prim.Native.Nat.{ℕ, suc, _+_, _<_}
-use native.Mathlib.Numerals.{add-one}
-use native.Mathlib.Omega.{arith}
-use lib.ListN.{length, getD, take, drop, set, length-set, length-map}
-use lib.Seq.{take-suc, drop-cons, set-at, append-snoc, length-take-le}
+use Rattle.basis.proofs.Prelude.{_∙_, _≡_, refl, sym, _+_, _<_, suc, ℕ, List, [], _++_, _∷_, map, map-append, drop, getD, length, length-map, length-set, set, take, append-snoc, drop-cons, length-take-le, set-at, take-suc, add-one, arith}
 use Rattle.spell.specs.declared.Spell.{Spell}
-use Rattle.register.specs.Answers.{blank}
+use Rattle.spell.specs.Blank.{blank}
 use Rattle.standing.specs.Standing.{columnOf}
 
 -- ---- A column is laid out place by place
@@ -39,4 +33,4 @@ module _ (f : Spell → ℕ) (a : List Spell) (before : List ℕ) where
 
   -- the column of the first n is that of their list
   pub filled-all : (c : List ℕ) (i n : ℕ) → length (take n a) ≡ n → i ≡ n → Filled f a before c i → c ≡ columnOf f (take n a) before
-  filled-all c i n here done e = rw (here, ← done) (e .so-far)
+  filled-all c i n here done e = rw (length-map (take n a) f ∙ here, ← done) (e .so-far)

@@ -3,25 +3,23 @@ use Prim.Native.Nat.{ℕ}
 use mathlib.Core.Bool.{true, false}
 use mathlib.Core.List.{List, _∷_, _++_, reverse}
 use lib.ListN.{length, getD, take, drop, replicate}
+use Rattle.buffer.specs.Buffer.{over}
 use Rattle.spell.specs.declared.Spell.{Spell}
-use Rattle.register.specs.Answers.{blank}
+use Rattle.spell.specs.Blank.{blank}
+use Rattle.register.specs.declared.Reading.{Reading}
 use Rattle.standing.specs.declared.Undo.{Undo}
 use Rattle.standing.specs.declared.Standing.{Standing}
 use Rattle.standing.specs.Search.{indexOf}
 
 -- ---- Values in the first places
 
--- the values l in the first places of an array; later places keep what they held
-abbrev pub onto : {A : Type 0} → List A → List A → List A
-onto l a = l ++ drop (length l) a
-
 -- the standing list becomes l
 abbrev pub relisted : Standing → List Spell → Standing
-relisted st l = record { spells = onto l (st .spells); count = length l; journal = st .journal; depth = st .depth }
+relisted st l = record { spells = over l (st .spells); count = length l; journal = st .journal; depth = st .depth }
 
 -- the entries of the journal become es, newest first
 abbrev pub rejournaled : Standing → List Undo → Standing
-rejournaled st es = record { spells = st .spells; count = st .count; journal = onto (reverse es) (st .journal); depth = length es }
+rejournaled st es = record { spells = st .spells; count = st .count; journal = over (reverse es) (st .journal); depth = length es }
 
 -- the list l and the entries es
 abbrev pub holding : Standing → List Spell → List Undo → Standing
@@ -36,6 +34,10 @@ blankEntry = record { number = 0; stood = false; spell = blank }
 -- a fresh start
 abbrev pub freshStanding : Standing
 freshStanding = record { spells = replicate 1024 blank; count = 0; journal = replicate 64 blankEntry; depth = 0 }
+
+-- the spells of a reading, over a fresh start
+abbrev pub loadedOf : Reading → Standing
+loadedOf g = record { spells = g .spells; count = g .count; journal = freshStanding .journal; depth = 0 }
 
 -- ---- The entry of an edit
 

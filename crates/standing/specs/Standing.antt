@@ -5,6 +5,7 @@ use mathlib.Core.Bool.{false, cond}
 use mathlib.Core.List.{List, [], _∷_, _++_, map, reverse}
 use lib.Dec.{eqb}
 use lib.ListN.{length, take, drop}
+use Rattle.buffer.specs.Buffer.{over}
 use Rattle.refusal.specs.Table.{accepted}
 use Rattle.spell.specs.declared.Spell.{Spell}
 use Rattle.spell.specs.Listing.{Good}
@@ -12,10 +13,9 @@ use Rattle.model.specs.Edits.{insert, remove, takeBackRefusal, remember, frontO
 use Rattle.standing.specs.declared.Undo.{Undo}
 use Rattle.standing.specs.declared.Standing.{Standing}
 use Rattle.standing.specs.declared.Edited.{Edited}
-use Rattle.standing.specs.declared.Loaded.{Loaded}
 use Rattle.standing.specs.Places.{holding, freshStanding, noted}
 use Rattle.register.specs.Text.{Register}
-use Rattle.model.specs.Model.{begun, refusalIn, lineIn}
+use Rattle.model.specs.Model.{begun}
 
 -- ---- What a value stands for
 
@@ -95,20 +95,11 @@ pub record TakesBack (st : Standing) (r : Edited) : Type 0 where
 abbrev pub afterReading : Register → Standing
 afterReading g = holding freshStanding (begun g .standing) []
 
--- a reading: the standing list and the past with which the account begins, the refusal's number and its line
-pub record Loads (g : Register) (r : Loaded) : Type 0 where
-  pub wf : Wf (r .standing)
-  pub list : listOf (r .standing) ≡ begun g .standing
-  pub past : pasts (r .standing) ≡ begun g .past
-  pub refusal : r .refusal ≡ refusalIn g
-  pub line : r .line ≡ lineIn g
-  pub whole : r .standing ≡ afterReading g
-
 -- ---- The columns that publish reads
 
 -- one field of each spell of l, in the first places; later places keep what they held
 abbrev pub columnOf : (Spell → ℕ) → List Spell → List ℕ → List ℕ
-columnOf field l before = map field l ++ drop (length l) before
+columnOf field l before = over (map field l) before
 
 -- the numbers, first days and last days of the standing list are laid out
 pub record LaidOut (st : Standing) (r : ℕ) (numbers firsts lasts numbers′ firsts′ lasts′ : List ℕ) : Type 0 where

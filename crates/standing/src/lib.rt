@@ -7,18 +7,18 @@ ghost use lib.ListN.{length, take, drop};
 ghost use Rattle.model.specs.Edits.{insert, remove, replace, orElse, enterRefusal, amendRefusal, strikeRefusal};
 ghost use Rattle.refusal.specs.Table.{accepted};
 ghost use Rattle.standing.specs.Search.{placeOf, indexOf};
-ghost use Rattle.standing.specs.Places.{relisted, rejournaled, entering, replacing, noted};
-ghost use Rattle.register.specs.Text.{readText, writeAll};
+ghost use Rattle.standing.specs.Places.{relisted, rejournaled, loadedOf, entering, replacing, noted};
+ghost use Rattle.register.specs.Text.{writeAll};
 ghost use Rattle.register.specs.Answers.{Writes};
-ghost use Rattle.standing.specs.Standing.{Loads, listOf, entries, Wf, Fresh, Edits, TakesBack, LaidOut};
+ghost use Rattle.standing.specs.Standing.{listOf, entries, Wf, Fresh, Edits, TakesBack, LaidOut};
 use refusal::ACCEPTED;
 use refusal::DUPLICATE_NUMBER;
 use refusal::FULL;
 use refusal::NO_HISTORY;
 use refusal::UNKNOWN_NUMBER;
+use register::Reading;
 use register::Written;
 use spell::Spell;
-use spell::Urgency;
 
 // words.rt: the standing list in words of 16 bits, and back.
 pub mod words;
@@ -49,13 +49,7 @@ pub struct Edited {
 pub fn fresh() -> Standing
     ensures { λ r. ⌜ Fresh r ⌝ }
 {
-    let none = Spell {
-        number: 0,
-        candidate: 0,
-        first: 0,
-        last: 0,
-        urgency: Urgency::Grade(0),
-    };
+    let none = spell::blank();
     let entry = Undo {
         number: 0,
         stood: false,
@@ -321,31 +315,18 @@ pub fn take_back(st: Standing) -> Edited
 
 // ---- The register text
 
-// What reading a register gives: the standing list, and the refusal's number with its line, or 0 and 0.
-pub struct Loaded {
-    pub standing: Standing,
-    pub refusal: u16,
-    pub line: u16,
-}
-
-// The standing list of a register text, with no past; a refused text leaves nothing standing.
-pub fn read(text: &[u8]) -> Loaded
-    ensures { λ r. ⌜ Loads (readText (now (text .entry))) r ⌝ }
+// The spells of a reading stand, and there is no past; of a refused text nothing stands.
+pub fn loaded(got: Reading) -> Standing
+    ensures { λ r. ⌜ r ≡ loadedOf got ⌝ }
 {
-    let got = register::read(text);
     let spells = got.spells;
     let empty = fresh();
     let journal = empty.journal;
-    let standing = Standing {
+    Standing {
         spells,
         count: got.count,
         journal,
         depth: 0,
-    };
-    Loaded {
-        standing,
-        refusal: got.refusal,
-        line: got.line,
     }
 }
 
@@ -356,7 +337,7 @@ pub fn write(st: Standing, out: &mut [u8]) -> Written
 {
     let spells = st.spells;
     let n = st.count;
-    register::write(spells, n, out)
+    register_write::write(spells, n, out)
 }
 
 // ---- What publish reads

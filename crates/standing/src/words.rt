@@ -10,7 +10,7 @@ use crate::Standing;
 use crate::Undo;
 
 // How many words a standing list takes.
-pub const SERVICE: usize = 7746;
+pub const STANDING: usize = 7746;
 
 // ---- The journal
 
@@ -96,7 +96,7 @@ fn standing_at(words: &[u16]) -> Standing
 }
 
 // The words of a standing list, which read back as it.
-pub fn pack(st: Standing, out: &mut [u16; SERVICE])
+pub fn pack(st: Standing, out: &mut [u16; STANDING])
     requires { ⌜ Wf st ⌝ }
     ensures { λ _. ⌜ Packs st (now (out .exit)) ⌝ }
 {
@@ -104,7 +104,7 @@ pub fn pack(st: Standing, out: &mut [u16; SERVICE])
 }
 
 // The standing list of any words.
-pub fn unpack(words: &[u16; SERVICE]) -> Standing
+pub fn unpack(words: &[u16; STANDING]) -> Standing
     ensures { λ r. ⌜ r ≡ unpacked (now (words .entry)) ⌝ }
 {
     standing_at(words)

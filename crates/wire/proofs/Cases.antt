@@ -1,15 +1,15 @@
 -- The protocol's example, and answers at the edges of its rules, computed. Assumes nothing.
 use Prim.Native.String.{String}
-use mathlib.Core.Path.{_≡_, refl}
-use mathlib.Core.List.{List, [], _∷_, map}
+use Rattle.basis.proofs.Prelude.{_≡_, refl, List, [], _∷_, map}
 use lib.Ieee.{isNan, toBits, ofBits}
 use Rattle.spell.specs.Order.{earlierOf}
 use Rattle.spell.specs.Listing.{stands}
 use Rattle.stabbing.specs.Tree.{below, keep, count, head, next, parent, child, leftSibling, lastChild, fitsAt, start, onPath, formula}
 use Rattle.fields.specs.Fields.{digitsOf, decimalOf, hexDigit, hexOf, numbersText, passed, readDigits, readDecimal, hexValue, readHex}
 use Rattle.register.specs.Text.{lineText, textOnto, readLetter, readValue, readUrgency, readLine, follows, lineRefusal, lineAnswer, nextLine, readLines, readText}
-use Rattle.model.specs.Edits.{insert, enterRefusal, strikeRefusal, remember}
-use Rattle.model.specs.Questions.{onAny, daysOk, rising, filter, comparisonsOf}
+use Rattle.model.specs.Edits.{insertBy, enterRefusal, strikeRefusal, remember}
+use Rattle.calendar.specs.Calendar.{daysOk}
+use Rattle.model.specs.Questions.{onAny, rising, filter, comparisonsOf}
 use Rattle.model.specs.Effects.{settle}
 use Rattle.model.specs.Model.{takeBack, cover, ask, effectOf}
 use Rattle.requests.specs.Requests.{begins, readDays, askedBy, askedOf}
@@ -60,6 +60,6 @@ pub example : map (λ c. converse opening (map sent c)) (session ∷ edges ∷ [
 unfolding spelled converse turnOf registerOf callText readingText acceptedText foundText refusedText stoppedText listedText severalText writtenText
     begins askedBy askedOf readDays digitsOf decimalOf hexDigit hexOf numbersText passed readDigits readDecimal hexValue readHex
     lineText textOnto readLetter readValue readUrgency readLine follows lineRefusal lineAnswer nextLine readLines readText
-    settle effectOf takeBack ask cover enterRefusal strikeRefusal insert remember earlierOf stands isNan toBits ofBits
+    settle effectOf takeBack ask cover enterRefusal strikeRefusal insertBy remember earlierOf stands isNan toBits ofBits
     onAny daysOk rising filter comparisonsOf below keep count head next parent child leftSibling lastChild fitsAt start onPath formula
 example = refl

@@ -1,13 +1,6 @@
 -- An answer put into a list from its end to its front, field by field. Assumes nothing.
-use mathlib.Core.Path.{_≡_, refl, sym, ap, _∙_}
-use mathlib.Core.List.{List, [], _∷_, _++_, append-nil}
-use Prim.Native.Nat.{ℕ, _+_, _-_, _*_, _≤_}
-use native.Mathlib.Omega.{arith}
-use borrow.Author.Tests.{le-leb}
+use Rattle.basis.proofs.Prelude.{_∙_, _≡_, ap, refl, sym, _*_, _+_, _-_, _≤_, ℕ, List, [], _++_, _∷_, append-nil, drop, drop-of-length-le, length, length-append, length-drop, length-take, take, take-append-drop, drop-at, length-take-le, take-all, min-le-left, arith, le-leb}
 use borrow.Rule.Slice.PartMut.{putMid, midOf, post-is}
-use lib.ListN.{length, take, drop, length-append, length-take, length-drop, take-append-drop, drop-of-length-le}
-use lib.Seq.{take-all, drop-at, length-take-le}
-use native.Mathlib.Nat.{min-le-left}
 use Rattle.fields.specs.Fields.{byteText, numberText, endBefore, numbersText}
 use Rattle.fields.specs.Answers.{Puts}
 use Rattle.fields.proofs.Puts.{Put, put-on, put-place, byte-put, number-put, room-puts}

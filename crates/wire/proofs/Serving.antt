@@ -1,15 +1,11 @@
 -- What is answered of a parsed line is answered of its bytes, and a room that can be lent. Assumes nothing.
-use mathlib.Core.Path.{_≡_, ap, subst, _∙_}
-use mathlib.Core.List.{List}
-use Prim.Native.Nat.{ℕ, _≤_, _<_}
-use native.Mathlib.Omega.{arith}
-use native.Mathlib.Decide.{decLe}
-use borrow.Author.Tests.{le-leb, lt-leb}
-use lib.ListN.{length}
-use Rattle.standing.specs.declared.Standing.{Standing}
+use Rattle.basis.proofs.Prelude.{_∙_, _≡_, ap, subst, _<_, _≤_, ℕ, List, length, decLe, arith, le-leb, lt-leb}
+use Rattle.service.specs.declared.Service.{Service}
+use Rattle.service.specs.Service.{Blocks}
 use Rattle.requests.specs.declared.Request.{Request}
 use Rattle.requests.specs.Requests.{Asked, askedOf, daysOf}
-use Rattle.requests.specs.Parsing.{over, askedFrom, Parses}
+use Rattle.buffer.specs.Buffer.{over}
+use Rattle.requests.specs.Parsing.{askedFrom, Parses}
 use Rattle.requests.proofs.Asking.{parsed-asked}
 use Rattle.wire.specs.declared.Answered.{Answered}
 use Rattle.wire.specs.Answering.{Answers, roomOf, Served}
@@ -31,13 +27,13 @@ module _ (n : ℕ) where
   ]
 
 -- ---- a request's bytes
-pub served : (sv : Standing) (ix : List ℕ) (room : ℕ) (line payload days numbers text out : List ℕ) (q : Request) (r : Answered) (ix′ days′ numbers′ text′ out′ : List ℕ)
+pub served : (sv : Service) (bs : Blocks) (room : ℕ) (line payload days numbers text out : List ℕ) (q : Request) (r : Answered) (bs′ : Blocks) (days′ numbers′ text′ out′ : List ℕ)
     → length days ≡ 32768 → Parses line days q days′
-    → Answers sv ix (roomOf room) (askedFrom q days′) payload numbers text out r ix′ numbers′ text′ out′
-    → Served sv ix room line payload days numbers text out r ix′ days′ numbers′ text′ out′
-served sv ix room line payload days numbers text out q r ix′ days′ numbers′ text′ out′ e p a =
+    → Answers sv bs (roomOf room) (askedFrom q days′) payload numbers text out r bs′ numbers′ text′ out′
+    → Served sv bs room line payload days numbers text out r bs′ days′ numbers′ text′ out′
+served sv bs room line payload days numbers text out q r bs′ days′ numbers′ text′ out′ e p a =
     let same : askedFrom q days′ ≡ askedOf 32768 line = parsed-asked line days q days′ p ∙ ap (λ (n : ℕ). askedOf n line) e in
     record {
-      answers = subst (λ (x : Asked). Answers sv ix (roomOf room) x payload numbers text out r ix′ numbers′ text′ out′) same a;
+      answers = subst (λ (x : Asked). Answers sv bs (roomOf room) x payload numbers text out r bs′ numbers′ text′ out′) same a;
       kept = p .places ∙ ap (λ (n : ℕ). over (daysOf n line) days) e;
     }

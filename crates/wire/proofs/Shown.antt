@@ -1,27 +1,27 @@
 -- What the lists of a call hold beforehand shows in no answer: only their lengths do. Assumes nothing.
-use mathlib.Core.Path.{_≡_, refl, sym, _∙_}
-use mathlib.Core.Bool.{Bool, true, false, cond}
-use mathlib.Core.List.{List, _++_}
-use Prim.Native.Nat.{ℕ}
-use lib.Dec.{leb}
-use lib.ListN.{length, take, drop}
-use lib.Seq.{take-at}
+use Rattle.basis.proofs.Prelude.{_∙_, _≡_, ap, refl, sym, ℕ, List, _++_, Bool, cond, false, true, leb, drop, length, take, take-at}
 use Rattle.refusal.specs.Table.{accepted, shortBuffer}
 use Rattle.model.specs.declared.Call.{Call}
 use Rattle.model.specs.declared.Call.the-variants.{Enter, Amend, Strike, TakeBack, Publish, Write, Ask}
-use Rattle.model.specs.Effects.{State, Request, After, Effect, refused, done, gives, writes, refuse, settle}
+use Rattle.model.specs.Effects.{State, Request, Answer, After, Effect, refused, done, gives, writes, refuse, settle}
 use Rattle.model.specs.Model.{effectOf, stepOf}
-use Rattle.wire.specs.Replies.{acceptedText, callText}
+use Rattle.wire.specs.Replies.{writtenText, foundText, acceptedText, callText}
+
+-- what is shown of an answer: of its lists as many places as it counts
+abbrev shown : Answer → Answer
+shown a = record {
+  refusal = a .refusal;
+  count = a .count;
+  comparisons = a .comparisons;
+  length = a .length;
+  numbers = take (a .count) (a .numbers);
+  text = take (a .length) (a .text);
+}
 
 -- two outcomes that no answer tells apart
 pub record Same (x y : After) : Type 0 where
   pub state : x .state ≡ y .state
-  pub refusal : x .answer .refusal ≡ y .answer .refusal
-  pub count : x .answer .count ≡ y .answer .count
-  pub comparisons : x .answer .comparisons ≡ y .answer .comparisons
-  pub length : x .answer .length ≡ y .answer .length
-  pub numbers : take (x .answer .count) (x .answer .numbers) ≡ take (y .answer .count) (y .answer .numbers)
-  pub text : take (x .answer .length) (x .answer .text) ≡ take (y .answer .length) (y .answer .text)
+  pub answer : shown (x .answer) ≡ shown (y .answer)
 
 same-cond : (b : Bool) {x y x′ y′ : After} → Same x x′ → Same y y′ → Same (cond b x y) (cond b x′ y′)
 same-cond true s t = s
@@ -38,17 +38,17 @@ module _ (m : State) (c : Call) (ds ns ns′ ts ts′ : List ℕ) (en : length n
   q′ = record { call = c; days = ds; numbers = ns′; text = ts′ }
 
   same-refuse : (n : ℕ) (m′ : State) → Same (refuse n m′ q) (refuse n m′ q′)
-  same-refuse n m′ = record { state = refl; refusal = refl; count = refl; comparisons = refl; length = refl; numbers = refl; text = refl }
+  same-refuse n m′ = record { state = refl; answer = refl }
 
   same-settle : (e : Effect) → Same (settle e m q) (settle e m q′)
   unfolding settle
   same-settle (refused n) = same-refuse n m
   same-settle (done m′) = same-refuse accepted m′
   same-settle (gives l k) = rw en (same-cond (leb (length l) (length ns′))
-      (record { state = refl; refusal = refl; count = refl; comparisons = refl; length = refl; numbers = front l (drop (length l) ns) (drop (length l) ns′); text = refl })
+      (record { state = refl; answer = rw (front l (drop (length l) ns) (drop (length l) ns′)) })
       (same-refuse shortBuffer m))
   same-settle (writes t) = rw et (same-cond (leb (length t) (length ts′))
-      (record { state = refl; refusal = refl; count = refl; comparisons = refl; length = refl; numbers = refl; text = front t (drop (length t) ts) (drop (length t) ts′) })
+      (record { state = refl; answer = rw (front t (drop (length t) ts) (drop (length t) ts′)) })
       (same-refuse shortBuffer m))
 
   -- ANY CALL: lent lists of the same lengths, it leaves the same state and shows the same answer
@@ -63,9 +63,9 @@ same-accepted (Amend s) x y e = refl
 same-accepted (Strike k) x y e = refl
 same-accepted TakeBack x y e = refl
 same-accepted Publish x y e = refl
-same-accepted Write x y e = cc
-same-accepted (Ask w) x y e = cc
+same-accepted Write x y e = ap (λ (a : Answer). writtenText (a .length) (a .text)) (e .answer)
+same-accepted (Ask w) x y e = ap (λ (a : Answer). foundText w (a .count) (a .comparisons) (a .numbers)) (e .answer)
 
 pub same-call : (c : Call) (x y : After) → Same x y → callText c (x .answer) ≡ callText c (y .answer)
 unfolding callText
-same-call c x y e = let a = same-accepted c x y e in cc
+same-call c x y e = rw (same-accepted c x y e, ap (λ (a : Answer). a .refusal) (e .answer))

@@ -1,15 +1,11 @@
 -- The turn of each kind of request. Assumes nothing.
-use mathlib.Core.Path.{_≡_, refl, ap}
-use mathlib.Core.List.{List, _++_}
-use Prim.Native.Nat.{ℕ, _≤_, _<_}
-use borrow.Author.Tests.{le-leb, lt-leb, eq-eqb, ne-eqb}
-use lib.ListN.{drop}
+use Rattle.basis.proofs.Prelude.{_≡_, ap, refl, _<_, _≤_, ℕ, List, _++_, drop, eq-eqb, le-leb, lt-leb, ne-eqb}
 use Rattle.register.specs.Text.{readText}
 use Rattle.model.specs.declared.Call.{Call}
 use Rattle.model.specs.Model.{fresh, begun}
-use Rattle.standing.specs.declared.Standing.{Standing}
+use Rattle.service.specs.declared.Service.{Service}
 use Rattle.service.specs.declared.Started.{Started}
-use Rattle.service.specs.Service.{Represents, Given, Begins}
+use Rattle.service.specs.Service.{Blocks, Represents, Given, Begins}
 use Rattle.service.proofs.Represented.{represented}
 use Rattle.wire.specs.declared.Answered.{Answered}
 use Rattle.requests.specs.Requests.{asksCall, asksRoom, asksRead, malformed}
@@ -18,17 +14,17 @@ use Rattle.wire.specs.Conversation.{registerOf, turnOf}
 use Rattle.wire.specs.Answering.{Sends, Called, Restarted, Answers, lentOf}
 
 -- ---- a reading
-module _ (room n : ℕ) (payload ix out out′ : List ℕ) (place : ℕ) where
-  pub restart-long : (sv : Standing) → 65536 < n → Represents sv ix fresh → Sends (stoppedText 12 0) out place out′
-      → Restarted room n payload out (record { service = sv; room = room; place = place }) ix out′
+module _ (room n : ℕ) (payload : List ℕ) (bs : Blocks) (out out′ : List ℕ) (place : ℕ) where
+  pub restart-long : (sv : Service) → 65536 < n → Represents sv bs fresh → Sends (stoppedText 12 0) out place out′
+      → Restarted room n payload out (record { service = sv; room = room; place = place }) bs out′
   unfolding registerOf turnOf begun readingText
   restart-long sv h r s =
       let no = lt-leb n 65536 h in
       record { given = represented r; taken = λ m. record { sends = rw no s; after = rw no r; room = refl } }
 
-  module _ (h : n ≤ 65536) (g : Started) (b : Begins (readText payload) g ix) where
+  module _ (h : n ≤ 65536) (g : Started) (b : Begins (readText payload) g bs) where
     pub restart-refused : (g .refusal ≡ 0 → ⊥) → Sends (stoppedText (g .refusal) (g .line)) out place out′
-        → Restarted room n payload out (record { service = g .service; room = room; place = place }) ix out′
+        → Restarted room n payload out (record { service = g .service; room = room; place = place }) bs out′
     unfolding registerOf turnOf readingText
     restart-refused e s =
         let yes = le-leb n 65536 h in
@@ -37,7 +33,7 @@ module _ (room n : ℕ) (payload ix out out′ : List ℕ) (place : ℕ) where
         record { given = represented (b .represents); taken = λ m. record { sends = rw (yes, no) bytes; after = rw yes (b .represents); room = refl } }
 
     pub restart-ok : g .refusal ≡ 0 → Sends okText out place out′
-        → Restarted room n payload out (record { service = g .service; room = room; place = place }) ix out′
+        → Restarted room n payload out (record { service = g .service; room = room; place = place }) bs out′
     unfolding registerOf turnOf readingText
     restart-ok e s =
         let yes = le-leb n 65536 h in
@@ -45,23 +41,23 @@ module _ (room n : ℕ) (payload ix out out′ : List ℕ) (place : ℕ) where
         record { given = represented (b .represents); taken = λ m. record { sends = rw (yes, none) s; after = rw yes (b .represents); room = refl } }
 
 -- ---- any request
-module _ (sv : Standing) (ix : List ℕ) (room : ℕ) (payload numbers text out ix′ out′ : List ℕ) where
-  pub turn-call : (c : Call) (ds ns ts : List ℕ) (r : Answered) → Called sv ix (lentOf c ds room numbers text) room out r ix′ ns ts out′
-      → Answers sv ix room (asksCall c ds) payload numbers text out r ix′ (ns ++ drop room numbers) (ts ++ drop room text) out′
+module _ (sv : Service) (bs : Blocks) (room : ℕ) (payload numbers text out out′ : List ℕ) where
+  pub turn-call : {bs′ : Blocks} (c : Call) (ds ns ts : List ℕ) (r : Answered) → Called sv bs (lentOf c ds room numbers text) room out r bs′ ns ts out′
+      → Answers sv bs room (asksCall c ds) payload numbers text out r bs′ (ns ++ drop room numbers) (ts ++ drop room text) out′
   unfolding turnOf
   turn-call c ds ns ts r d = record {
     turned = d .turned;
     lists = λ m rep. (ap (λ (l : List ℕ). l ++ drop room numbers) (d .lists m rep .0), ap (λ (l : List ℕ). l ++ drop room text) (d .lists m rep .1));
   }
 
-  pub turn-read : (n : ℕ) (r : Answered) → room ≤ 65536 → Restarted room n payload out r ix′ out′
-      → Answers sv ix room (asksRead n) payload numbers text out r ix′ numbers text out′
+  pub turn-read : {bs′ : Blocks} (n : ℕ) (r : Answered) → room ≤ 65536 → Restarted room n payload out r bs′ out′
+      → Answers sv bs room (asksRead n) payload numbers text out r bs′ numbers text out′
   unfolding turnOf
   turn-read n r top d = record { turned = record { given = d .given; room = rw (d .taken fresh .room) top; taken = λ m rep. d .taken m }; lists = λ m rep. (refl, refl) }
 
-  module _ (g : Given sv ix) (place : ℕ) where
+  module _ (g : Given sv bs) (place : ℕ) where
     pub turn-room : (n : ℕ) → n ≤ 65536 → Sends okText out place out′
-        → Answers sv ix room (asksRoom n) payload numbers text out (record { service = sv; room = n; place = place }) ix numbers text out′
+        → Answers sv bs room (asksRoom n) payload numbers text out (record { service = sv; room = n; place = place }) bs numbers text out′
     unfolding turnOf
     turn-room n top s = record {
       turned = record { given = g; room = top; taken = λ m rep. record { sends = s; after = rep; room = refl } };
@@ -69,7 +65,7 @@ module _ (sv : Standing) (ix : List ℕ) (room : ℕ) (payload numbers text out 
     }
 
     pub turn-malformed : room ≤ 65536 → Sends malformedText out place out′
-        → Answers sv ix room malformed payload numbers text out (record { service = sv; room = room; place = place }) ix numbers text out′
+        → Answers sv bs room malformed payload numbers text out (record { service = sv; room = room; place = place }) bs numbers text out′
     unfolding turnOf
     turn-malformed top s = record {
       turned = record { given = g; room = top; taken = λ m rep. record { sends = s; after = rep; room = refl } };

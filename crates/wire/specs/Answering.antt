@@ -6,14 +6,13 @@ use mathlib.Core.List.{List, _++_}
 use lib.Dec.{leb}
 use lib.ListN.{length, take, drop}
 use Rattle.model.specs.declared.Call.{Call}
-use Rattle.model.specs.Model.{State, Request, step}
-use Rattle.standing.specs.declared.Standing.{Standing}
-use Rattle.service.specs.declared.Outcome.{Outcome}
-use Rattle.service.specs.Service.{Represents, Given}
+use Rattle.model.specs.Model.{State, Request, Answer, step}
+use Rattle.service.specs.declared.Service.{Service}
+use Rattle.service.specs.Service.{Blocks, Represents, Given}
 use Rattle.wire.specs.declared.Answered.{Answered}
 use Rattle.wire.specs.Conversation.{Conv, Turn, callOf, turnBy, turnOf}
 use Rattle.requests.specs.Requests.{Asked, asksCall, asksRoom, asksRead, malformed, askedOf, daysOf}
-use Rattle.requests.specs.Parsing.{over}
+use Rattle.buffer.specs.Buffer.{over}
 
 -- the text at the end of the list, from the place r on, and the places before it as they were
 pub record Sends (t entry : List ℕ) (r : ℕ) (exit : List ℕ) : Type 0 where
@@ -22,26 +21,26 @@ pub record Sends (t entry : List ℕ) (r : ℕ) (exit : List ℕ) : Type 0 where
   pub places : exit ≡ take (length entry - length t) entry ++ t
 
 -- what an answer's numbers must be for its bytes: each has a decimal, and the lists are as long as it says
-pub record Fits (o : Outcome) (numbers text : List ℕ) : Type 0 where
-  pub count : o .count ≤ 1024
-  pub listed : o .count ≤ length numbers
-  pub comparisons : o .comparisons ≤ 65535
-  pub bytes : o .length ≤ 65535
-  pub written : o .length ≤ length text
+pub record Fits (a : Answer) : Type 0 where
+  pub count : a .count ≤ 1024
+  pub listed : a .count ≤ length (a .numbers)
+  pub comparisons : a .comparisons ≤ 65535
+  pub bytes : a .length ≤ 65535
+  pub written : a .length ≤ length (a .text)
 
 -- ---- The postcondition of a request
 
--- the answer of a turn, with the service and the index that stand for the conversation after it
-pub record Taken (t : Turn) (out : List ℕ) (r : Answered) (ix′ out′ : List ℕ) : Type 0 where
+-- the answer of a turn, with the service and the blocks that stand for the conversation after it
+pub record Taken (t : Turn) (out : List ℕ) (r : Answered) (bs′ : Blocks) (out′ : List ℕ) : Type 0 where
   pub sends : Sends (t .reply) out (r .place) out′
-  pub after : Represents (r .service) ix′ (t .next .state)
+  pub after : Represents (r .service) bs′ (t .next .state)
   pub room : r .room ≡ t .next .room
 
--- the service sv and the index ix take the turn t, for whatever state they stand for
-pub record Turned (sv : Standing) (ix : List ℕ) (t : State → Turn) (out : List ℕ) (r : Answered) (ix′ out′ : List ℕ) : Type 0 where
-  pub given : Given (r .service) ix′
+-- the service sv and the blocks bs take the turn t, for whatever state they stand for
+pub record Turned (sv : Service) (bs : Blocks) (t : State → Turn) (out : List ℕ) (r : Answered) (bs′ : Blocks) (out′ : List ℕ) : Type 0 where
+  pub given : Given (r .service) bs′
   pub room : r .room ≤ 65536
-  pub taken : (m : State) → Represents sv ix m → Taken (t m) out r ix′ out′
+  pub taken : (m : State) → Represents sv bs m → Taken (t m) out r bs′ out′
 
 abbrev pub conv : State → ℕ → Conv
 conv m room = record { state = m; room = room }
@@ -51,14 +50,14 @@ abbrev pub lentOf : Call → List ℕ → ℕ → List ℕ → List ℕ → Requ
 lentOf c ds room numbers text = record { call = c; days = ds; numbers = take room numbers; text = take room text }
 
 -- the turn of a call that is lent these lists, which are as long as the room
-pub record Called (sv : Standing) (ix : List ℕ) (q : Request) (room : ℕ) (out : List ℕ) (r : Answered) (ix′ numbers text out′ : List ℕ) : Type 0 where
-  pub turned : Turned sv ix (λ m. turnBy (q .call) room (step m (callOf (q .call) (q .days) room))) out r ix′ out′
-  pub lists : (m : State) → Represents sv ix m → (numbers ≡ step m q .answer .numbers) × (text ≡ step m q .answer .text)
+pub record Called (sv : Service) (bs : Blocks) (q : Request) (room : ℕ) (out : List ℕ) (r : Answered) (bs′ : Blocks) (numbers text out′ : List ℕ) : Type 0 where
+  pub turned : Turned sv bs (λ m. turnBy (q .call) room (step m (callOf (q .call) (q .days) room))) out r bs′ out′
+  pub lists : (m : State) → Represents sv bs m → (numbers ≡ step m q .answer .numbers) × (text ≡ step m q .answer .text)
 
--- the turn of a reading, whatever service and index were there before
-pub record Restarted (room n : ℕ) (payload out : List ℕ) (r : Answered) (ix′ out′ : List ℕ) : Type 0 where
-  pub given : Given (r .service) ix′
-  pub taken : (m : State) → Taken (turnOf (asksRead n) payload (conv m room)) out r ix′ out′
+-- the turn of a reading, whatever service and blocks were there before
+pub record Restarted (room n : ℕ) (payload out : List ℕ) (r : Answered) (bs′ : Blocks) (out′ : List ℕ) : Type 0 where
+  pub given : Given (r .service) bs′
+  pub taken : (m : State) → Taken (turnOf (asksRead n) payload (conv m room)) out r bs′ out′
 
 -- every place of the lists lent for numbers and text: a call is lent their first places
 abbrev pub numbersBy : Asked → State → ℕ → List ℕ → List ℕ → List ℕ
@@ -74,15 +73,15 @@ textBy (asksRead n) m room numbers text = text
 textBy malformed m room numbers text = text
 
 -- THE POSTCONDITION of a request that asks q, begun with these lists
-pub record Answers (sv : Standing) (ix : List ℕ) (room : ℕ) (q : Asked) (payload numbers text out : List ℕ) (r : Answered) (ix′ numbers′ text′ out′ : List ℕ) : Type 0 where
-  pub turned : Turned sv ix (λ m. turnOf q payload (conv m room)) out r ix′ out′
-  pub lists : (m : State) → Represents sv ix m → (numbers′ ≡ numbersBy q m room numbers text) × (text′ ≡ textBy q m room numbers text)
+pub record Answers (sv : Service) (bs : Blocks) (room : ℕ) (q : Asked) (payload numbers text out : List ℕ) (r : Answered) (bs′ : Blocks) (numbers′ text′ out′ : List ℕ) : Type 0 where
+  pub turned : Turned sv bs (λ m. turnOf q payload (conv m room)) out r bs′ out′
+  pub lists : (m : State) → Represents sv bs m → (numbers′ ≡ numbersBy q m room numbers text) × (text′ ≡ textBy q m room numbers text)
 
 -- a room above 65,536 counts as 65,536
 unfoldable pub roomOf : ℕ → ℕ
 roomOf n = cond (leb n 65536) n 65536
 
 -- the same of a request's bytes, with every place of the list lent for days
-pub record Served (sv : Standing) (ix : List ℕ) (room : ℕ) (line payload days numbers text out : List ℕ) (r : Answered) (ix′ days′ numbers′ text′ out′ : List ℕ) : Type 0 where
-  pub answers : Answers sv ix (roomOf room) (askedOf 32768 line) payload numbers text out r ix′ numbers′ text′ out′
+pub record Served (sv : Service) (bs : Blocks) (room : ℕ) (line payload days numbers text out : List ℕ) (r : Answered) (bs′ : Blocks) (days′ numbers′ text′ out′ : List ℕ) : Type 0 where
+  pub answers : Answers sv bs (roomOf room) (askedOf 32768 line) payload numbers text out r bs′ numbers′ text′ out′
   pub kept : days′ ≡ over (daysOf 32768 line) days

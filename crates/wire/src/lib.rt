@@ -6,7 +6,7 @@ ghost use Rattle.fields.specs.Answers.{Puts};
 ghost use Rattle.requests.specs.Parsing.{askedFrom, daysIn, roomIn};
 ghost use Rattle.wire.specs.Replies.{okText, malformedText, bytesText, refusedText, stoppedText, listedText, severalText, writtenText, foundText, callText};
 ghost use Rattle.wire.specs.Answering.{Sends, Fits, Called, Restarted, Answers, roomOf, Served};
-ghost use Rattle.service.specs.Service.{Given, asking, answerOf};
+ghost use Rattle.service.specs.Service.{blocks, Given, asking, answerOf};
 use model::Call;
 use model::Question;
 use refusal::ACCEPTED;
@@ -142,7 +142,7 @@ fn put_answer(out: &mut [u8; OUT], question: Question, o: Outcome, numbers: &[u1
 
 // The answer of any call.
 fn put_reply(out: &mut [u8; OUT], call: Call, o: Outcome, numbers: &[u16], text: &[u8]) -> usize
-    requires { ⌜ Fits o (now numbers) (now text) ⌝ }
+    requires { ⌜ Fits (answerOf o (now numbers) (now text)) ⌝ }
     ensures { λ r. ⌜ Sends (callText call (answerOf o (now (numbers .entry)) (now (text .entry)))) (now (out .entry)) r (now (out .exit)) ⌝ }
 {
     if o.refusal != ACCEPTED {
@@ -180,9 +180,9 @@ fn call_turn(
     text: &mut [u8],
     out: &mut [u8; OUT],
 ) -> Answered
-    requires { ⌜ Given service (now index) ⌝ }
+    requires { ⌜ Given service (blocks (now index)) ⌝ }
     requires { ⌜ (room ≤ 65536) × (length (now numbers) ≡ room) × (length (now text) ≡ room) ⌝ }
-    ensures { λ r. ⌜ Called service (now (index .entry)) (asking call (now (days .entry)) (now (numbers .entry)) (now (text .entry))) room (now (out .entry)) r (now (index .exit)) (now (numbers .exit)) (now (text .exit)) (now (out .exit)) ⌝ }
+    ensures { λ r. ⌜ Called service (blocks (now (index .entry))) (asking call (now (days .entry)) (now (numbers .entry)) (now (text .entry))) room (now (out .entry)) r (blocks (now (index .exit))) (now (numbers .exit)) (now (text .exit)) (now (out .exit)) ⌝ }
 {
     let r = service::step(service, index, call, days, numbers, text);
     let place = put_reply(out, call, r.outcome, numbers, text);
@@ -202,7 +202,7 @@ pub fn restart(
     payload: &[u8],
     out: &mut [u8; OUT],
 ) -> Answered
-    ensures { λ r. ⌜ Restarted room length (now (payload .entry)) (now (out .entry)) r (now (index .exit)) (now (out .exit)) ⌝ }
+    ensures { λ r. ⌜ Restarted room length (now (payload .entry)) (now (out .entry)) r (blocks (now (index .exit))) (now (out .exit)) ⌝ }
 {
     if length > LONGEST_TEXT {
         let service = service::fresh(index);
@@ -243,10 +243,10 @@ fn turn(
     text: &mut [u8],
     out: &mut [u8; OUT],
 ) -> Answered
-    requires { ⌜ Given service (now index) ⌝ }
+    requires { ⌜ Given service (blocks (now index)) ⌝ }
     requires { ⌜ (room ≤ 65536) × (roomIn request ≤ 65536) × (daysIn request ≤ length (now days)) ⌝ }
     requires { ⌜ (length (now numbers) ≡ 65536) × (length (now text) ≡ 65536) ⌝ }
-    ensures { λ r. ⌜ Answers service (now (index .entry)) room (askedFrom request (now (days .entry))) (now (payload .entry)) (now (numbers .entry)) (now (text .entry)) (now (out .entry)) r (now (index .exit)) (now (numbers .exit)) (now (text .exit)) (now (out .exit)) ⌝ }
+    ensures { λ r. ⌜ Answers service (blocks (now (index .entry))) room (askedFrom request (now (days .entry))) (now (payload .entry)) (now (numbers .entry)) (now (text .entry)) (now (out .entry)) r (blocks (now (index .exit))) (now (numbers .exit)) (now (text .exit)) (now (out .exit)) ⌝ }
 {
     match request {
         Request::Call(call, k) => call_turn(
@@ -296,8 +296,8 @@ pub fn answer(
     text: &mut [u8; ROOM],
     out: &mut [u8; OUT],
 ) -> Answered
-    requires { ⌜ Given service (now index) ⌝ }
-    ensures { λ r. ⌜ Served service (now (index .entry)) room (now (line .entry)) (now (payload .entry)) (now (days .entry)) (now (numbers .entry)) (now (text .entry)) (now (out .entry)) r (now (index .exit)) (now (days .exit)) (now (numbers .exit)) (now (text .exit)) (now (out .exit)) ⌝ }
+    requires { ⌜ Given service (blocks (now index)) ⌝ }
+    ensures { λ r. ⌜ Served service (blocks (now (index .entry))) room (now (line .entry)) (now (payload .entry)) (now (days .entry)) (now (numbers .entry)) (now (text .entry)) (now (out .entry)) r (blocks (now (index .exit))) (now (days .exit)) (now (numbers .exit)) (now (text .exit)) (now (out .exit)) ⌝ }
 {
     let request = requests::parse(line, days);
     turn(

@@ -1,7 +1,5 @@
 -- `decimals::end_before` meets its contract. Assumes nothing.
-use mathlib.Core.Path.{_≡_, refl}
-use Prim.Native.Nat.{ℕ, zero, suc}
-use borrow.Author.Needs.{needs}
+use Rattle.basis.proofs.Prelude.{_≡_, refl, suc, zero, ℕ, needs}
 use Rattle.fields.specs.Fields.{endBefore}
 use Rattle.decimals.proofs.end_before.Statement.{statement}
 use Rattle.decimals.proofs.end_before.Tie as tie

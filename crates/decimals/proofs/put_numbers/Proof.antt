@@ -1,10 +1,6 @@
 -- `decimals::put_numbers` meets its contract. The loop's invariant: the decimals from i on stand in front of the text that
 -- follows. The measure is i. Assumes nothing.
-use borrow.Author.Needs.{needs}
-use mathlib.Core.Path.{_≡_}
-use Prim.Native.Nat.{_-_, _*_, _≤_}
-use native.Mathlib.Omega.{arith}
-use lib.ListN.{length}
+use Rattle.basis.proofs.Prelude.{_≡_, _*_, _-_, _≤_, length, arith, needs}
 use Rattle.fields.specs.Fields.{numbersText}
 use Rattle.fields.proofs.Puts.{puts-before, puts-past}
 use Rattle.decimals.proofs.Rows.{Rest, rest-none, rest-one, rest-all}

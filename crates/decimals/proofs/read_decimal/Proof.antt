@@ -1,12 +1,7 @@
 -- `decimals::read_decimal` meets its contract. Assumes nothing.
-use borrow.Author.Tests.{not-true, not-false}
-use mathlib.Core.Bool.{true}
-use mathlib.Core.Path.{_≡_, sym, _∙_}
-use native.Mathlib.Omega.{arith}
-use lib.ListN.{getD}
+use Rattle.basis.proofs.Prelude.{_∙_, _≡_, sym, true, getD, arith, needs, not-false, not-true}
 use Rattle.fields.specs.Fields.{isDigit}
 use Rattle.decimals.proofs.Places.{decimal-past, decimal-zero, decimal-other, decimal-digits}
-use borrow.Author.Needs.{needs}
 use Rattle.decimals.proofs.read_decimal.Statement.{statement}
 use Rattle.decimals.proofs.read_decimal.Tie as tie
 

@@ -1,10 +1,5 @@
 -- `decimals::read_digits` meets its contract. The invariant: reading on from the place i with the value v gives what was to be read. Assumes nothing.
-use borrow.Author.Tests.{not-true, not-false}
-use mathlib.Core.Bool.{true}
-use mathlib.Core.Path.{_≡_, refl, sym, _∙_}
-use Prim.Native.Nat.{_+_, _-_, _*_, _≤_, _<_}
-use native.Mathlib.Omega.{arith}
-use lib.ListN.{length, drop, getD}
+use Rattle.basis.proofs.Prelude.{_∙_, _≡_, refl, sym, _*_, _+_, _-_, _<_, _≤_, true, drop, getD, length, arith, not-false, not-true}
 use Rattle.fields.specs.Fields.{unreadable, isDigit, readDigits}
 use Rattle.fields.proofs.Bytes.{digit-low, digit-high}
 use Rattle.decimals.proofs.Places.{digits-on-at, digits-above-at, digits-end-at, digits-past}

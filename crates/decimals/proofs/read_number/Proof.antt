@@ -1,9 +1,5 @@
 -- `decimals::read_number` meets its contract: a length that is read is at most the limit. Assumes nothing.
-use mathlib.Core.Path.{_≡_, refl, sym, ap, _∙_}
-use borrow.Author.Needs.{needs}
-use Prim.Native.Nat.{ℕ}
-use native.Mathlib.Omega.{arith}
-use lib.ListN.{drop}
+use Rattle.basis.proofs.Prelude.{_∙_, _≡_, ap, refl, sym, ℕ, drop, arith, needs}
 use Rattle.fields.specs.declared.Field.the-variants.{Value}
 use Rattle.fields.specs.Fields.{found, unreadable, readLength}
 use Rattle.fields.specs.Answers.{lengthOf}

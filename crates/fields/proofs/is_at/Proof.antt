@@ -1,6 +1,5 @@
 -- `fields::is_at` meets its contract. Assumes nothing.
-use borrow.Author.Needs.{needs}
-use borrow.Author.Tests.{lt-ltb, le-ltb}
+use Rattle.basis.proofs.Prelude.{needs, le-ltb, lt-ltb}
 use Rattle.fields.proofs.is_at.Statement.{statement}
 use Rattle.fields.proofs.is_at.Tie as tie
 

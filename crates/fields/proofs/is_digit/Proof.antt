@@ -1,5 +1,5 @@
 -- `fields::is_digit` meets its contract. Assumes nothing.
-use borrow.Author.Tests.{lt-leb, le-leb}
+use Rattle.basis.proofs.Prelude.{le-leb, lt-leb}
 use Rattle.fields.proofs.is_digit.Statement.{statement}
 use Rattle.fields.proofs.is_digit.Tie as tie
 

@@ -1,8 +1,5 @@
 -- `fields::put_byte` meets its contract. Assumes nothing.
-use mathlib.Core.List.{_∷_}
-use Prim.Native.Nat.{_-_}
-use native.Mathlib.Omega.{arith}
-use lib.ListN.{drop, set}
+use Rattle.basis.proofs.Prelude.{_-_, _∷_, drop, set, arith}
 use Rattle.fields.specs.Fields.{byteText}
 use Rattle.fields.proofs.Puts.{Put, put-none, put-one, puts-before, puts-past, puts-room}
 use Rattle.fields.proofs.put_byte.Statement.{statement}

@@ -1,6 +1,5 @@
 -- `framing::advance` meets its contract. Assumes nothing.
-use borrow.Author.Needs.{needs}
-use native.Mathlib.Omega.{arith}
+use Rattle.basis.proofs.Prelude.{arith, needs}
 use Rattle.framing.proofs.Steps.{Begun, begun-fits, begun-place, text-advances, line-advances, part-advances}
 use Rattle.framing.proofs.advance.Statement.{statement}
 use Rattle.framing.proofs.advance.Tie as tie

@@ -1,6 +1,5 @@
 -- `framing::is_ready` meets its contract: each test in its turn. Assumes nothing.
-use borrow.Author.Needs.{needs}
-use borrow.Author.Tests.{le-leb, lt-leb, lt-ltb, le-ltb, eq-eqb, ne-eqb}
+use Rattle.basis.proofs.Prelude.{needs, eq-eqb, le-leb, le-ltb, lt-leb, lt-ltb, ne-eqb}
 use Rattle.framing.proofs.is_ready.Statement.{statement}
 use Rattle.framing.proofs.is_ready.Tie as tie
 

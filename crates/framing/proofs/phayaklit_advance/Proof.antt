@@ -1,7 +1,5 @@
 -- `framing::phayaklit_advance` meets its contract: what `advance` answers, told in one struct, or a refusal. Assumes nothing.
-use borrow.Author.Needs.{needs}
-use borrow.Author.Tests.{not-true, not-false}
-use mathlib.Core.Path.{refl, sym, _∙_}
+use Rattle.basis.proofs.Prelude.{_∙_, refl, sym, needs, not-false, not-true}
 use Rattle.framing.proofs.phayaklit_advance.Statement.{statement}
 use Rattle.framing.proofs.phayaklit_advance.Tie as tie
 

@@ -1,5 +1,5 @@
 -- `framing::put` meets its contract. Assumes nothing.
-use borrow.Author.Needs.{needs}
+use Rattle.basis.proofs.Prelude.{needs}
 use Rattle.framing.proofs.Steps.{put-one, put-none}
 use Rattle.framing.proofs.put.Statement.{statement}
 use Rattle.framing.proofs.put.Tie as tie

@@ -1,10 +1,6 @@
 -- `framing::take_line` meets its contract. The invariant: what the bytes from the place on make is what they made at first.
 -- Assumes nothing.
-use borrow.Author.Needs.{needs}
-use native.Mathlib.Omega.{arith}
-use mathlib.Core.Path.{refl}
-use Prim.Native.Nat.{_-_}
-use lib.ListN.{length, take, drop}
+use Rattle.basis.proofs.Prelude.{refl, _-_, drop, length, take, arith, needs}
 use Rattle.framing.specs.Stream.{inLine}
 use Rattle.framing.specs.Advancing.{next}
 use Rattle.framing.proofs.Steps.{LineSoFar, line-on, line-whole, line-part}

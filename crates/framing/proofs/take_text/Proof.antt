@@ -1,9 +1,6 @@
 -- `framing::take_text` meets its contract. The invariant: what the bytes from the place on make is what they made at first.
 -- Assumes nothing.
-use borrow.Author.Needs.{needs}
-use native.Mathlib.Omega.{arith}
-use mathlib.Core.Path.{refl}
-use lib.ListN.{take, drop}
+use Rattle.basis.proofs.Prelude.{refl, drop, take, arith, needs}
 use Rattle.framing.specs.Stream.{settled}
 use Rattle.framing.specs.Advancing.{after}
 use Rattle.framing.proofs.Steps.{TextSoFar, text-on, text-part, text-whole}

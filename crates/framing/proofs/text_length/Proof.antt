@@ -1,8 +1,5 @@
 -- `framing::text_length` meets its contract. Assumes nothing.
-use borrow.Author.Needs.{needs}
-use native.Mathlib.Omega.{arith}
-use mathlib.Core.Path.{sym}
-use lib.Seq.{length-take-le}
+use Rattle.basis.proofs.Prelude.{sym, length-take-le, arith, needs}
 use Rattle.framing.specs.Stream.{wants}
 use Rattle.framing.proofs.text_length.Statement.{statement}
 use Rattle.framing.proofs.text_length.Tie as tie

@@ -1,6 +1,5 @@
 -- `framing::within` meets its contract. Assumes nothing.
-use borrow.Author.Needs.{needs}
-use borrow.Author.Tests.{le-leb, lt-leb}
+use Rattle.basis.proofs.Prelude.{needs, le-leb, lt-leb}
 use Rattle.framing.proofs.within.Statement.{statement}
 use Rattle.framing.proofs.within.Tie as tie
 

@@ -1,8 +1,6 @@
 -- `hex::hex_digit` meets its contract. Assumes nothing.
-use borrow.Author.Tests.{lt-ltb, le-ltb}
-use native.Mathlib.Omega.{arith}
+use Rattle.basis.proofs.Prelude.{arith, needs, le-ltb, lt-ltb}
 use Rattle.fields.specs.Fields.{hexDigit}
-use borrow.Author.Needs.{needs}
 use Rattle.hex.proofs.hex_digit.Statement.{statement}
 use Rattle.hex.proofs.hex_digit.Tie as tie
 

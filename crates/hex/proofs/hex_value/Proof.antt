@@ -1,10 +1,7 @@
 -- `hex::hex_value` meets its contract. Assumes nothing.
-use borrow.Author.Tests.{le-leb, lt-leb}
-use mathlib.Core.Path.{sym, _∙_}
-use native.Mathlib.Omega.{arith}
+use Rattle.basis.proofs.Prelude.{_∙_, sym, arith, needs, le-leb, lt-leb}
 use Rattle.fields.specs.Fields.{hexValue}
 use Rattle.fields.proofs.Bytes.{digit-low}
-use borrow.Author.Needs.{needs}
 use Rattle.hex.proofs.hex_value.Statement.{statement}
 use Rattle.hex.proofs.hex_value.Tie as tie
 

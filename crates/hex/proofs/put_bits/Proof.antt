@@ -1,9 +1,5 @@
 -- `hex::put_bits` meets its contract. The invariant: the digits left of v put before the place i make the whole field. Assumes nothing.
-use mathlib.Core.Path.{refl, ap}
-use mathlib.Core.List.{_∷_}
-use Prim.Native.Nat.{_-_, _≤_}
-use native.Mathlib.Omega.{arith}
-use lib.ListN.{length, drop, set}
+use Rattle.basis.proofs.Prelude.{ap, refl, _-_, _≤_, _∷_, drop, length, set, arith}
 use Rattle.fields.specs.Fields.{bitsText}
 use Rattle.fields.proofs.Puts.{Put, put-none, put-one, put-on, put-place, puts-before, puts-past, puts-room}
 use Rattle.hex.proofs.Puts.{Hexes, hexes-room, hexes-step, hexes-last}

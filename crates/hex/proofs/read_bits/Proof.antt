@@ -1,11 +1,5 @@
 -- `hex::read_bits` meets its contract. Assumes nothing.
-use mathlib.Core.Path.{_≡_, refl, sym, ap, _∙_}
-use borrow.Author.Needs.{needs}
-use borrow.Author.Tests.{not-true, not-false}
-use mathlib.Core.Bool.{true}
-use Prim.Native.Nat.{ℕ, _+_}
-use native.Mathlib.Omega.{arith}
-use lib.ListN.{drop}
+use Rattle.basis.proofs.Prelude.{_∙_, _≡_, ap, refl, sym, _+_, ℕ, true, drop, arith, needs, not-false, not-true}
 use Rattle.fields.specs.declared.Bits.the-variants.{Value}
 use Rattle.fields.specs.Fields.{Found, found, unreadable, onward, passed, isAt, readHex}
 use Rattle.fields.specs.Answers.{bitsOf}

@@ -1,8 +1,5 @@
 -- `hex::read_hex` meets its contract. The invariant: reading the digits left from the place i with the value v gives what was to be read. Assumes nothing.
-use mathlib.Core.Path.{_≡_, refl, sym, _∙_}
-use Prim.Native.Nat.{suc, _+_, _-_, _*_, _≤_, _<_}
-use native.Mathlib.Omega.{arith}
-use lib.ListN.{drop}
+use Rattle.basis.proofs.Prelude.{_∙_, _≡_, refl, sym, _*_, _+_, _-_, _<_, _≤_, suc, drop, arith}
 use Rattle.fields.specs.Fields.{readHex}
 use Rattle.hex.proofs.Hex.{no-more, limit, digit-fits, none-read}
 use Rattle.hex.proofs.Places.{hex-past-at, hex-bad-at, hex-on-at}

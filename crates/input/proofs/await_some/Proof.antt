@@ -1,8 +1,6 @@
 -- `input::await_some` meets its contract. The loop's invariant: the text keeps its length. The measure is the number of turns that
 -- are left. Assumes nothing.
-use borrow.Author.Needs.{needs}
-use mathlib.Core.Path.{_≡_}
-use lib.ListN.{length}
+use Rattle.basis.proofs.Prelude.{_≡_, length, needs}
 use Rattle.input.proofs.await_some.Statement.{statement}
 use Rattle.input.proofs.await_some.Tie as tie
 

@@ -1,9 +1,6 @@
 -- `input::fill` meets its contract. The loop's invariant: what is read lies within the text. The measure is the room that is left.
 -- Assumes nothing.
-use borrow.Author.Needs.{needs}
-use mathlib.Core.Path.{_≡_}
-use Prim.Native.Nat.{_-_, _≤_}
-use lib.ListN.{length}
+use Rattle.basis.proofs.Prelude.{_≡_, _-_, _≤_, length, needs}
 use Rattle.input.proofs.fill.Statement.{statement}
 use Rattle.input.proofs.fill.Tie as tie
 

@@ -1,8 +1,6 @@
 -- `output::write` is safe and ends. The loop's invariant: no more is written than there is. The measure is the number of turns that
 -- are left. Assumes nothing.
-use borrow.Author.Needs.{needs}
-use Prim.Native.Nat.{_≤_}
-use lib.ListN.{length}
+use Rattle.basis.proofs.Prelude.{_≤_, length, needs}
 use Rattle.output.proofs.write.Statement.{statement}
 use Rattle.output.proofs.write.Tie as tie
 

@@ -1,12 +1,9 @@
 -- `packing::put_spell` meets its contract: seven stores, where there is room. Assumes nothing.
-use mathlib.Core.Path.{sym}
-use native.Mathlib.Omega.{arith}
-use lib.ListN.{length-set}
+use Rattle.basis.proofs.Prelude.{sym, length-set, arith, needs}
 use denote.Ref.{now}
 use Rattle.packing.specs.Words.{spellWords}
 use Rattle.packing.proofs.Blocks.{put-none}
 use Rattle.packing.proofs.Words.{spell-long, spell-back, spell-held, seven-stores}
-use borrow.Author.Needs.{needs}
 use Rattle.packing.proofs.put_spell.Statement.{statement}
 use Rattle.packing.proofs.put_spell.Tie as tie
 

@@ -1,12 +1,9 @@
 -- `packing::put_spells` meets its contract. The loop's invariant: the words of the first i spells are put. Assumes nothing.
-use mathlib.Core.Path.{_≡_, sym}
-use Prim.Native.Nat.{_-_, _*_, _≤_}
-use native.Mathlib.Omega.{arith}
-use borrow.Author.Needs.{needs}
-use lib.ListN.{length}
+use Rattle.basis.proofs.Prelude.{_≡_, sym, _*_, _-_, _≤_, length, arith, needs}
 use denote.Ref.{now}
+use Rattle.spell.specs.Blank.{blank}
 use Rattle.packing.specs.Blocks.{written}
-use Rattle.packing.specs.Words.{noSpell, spellWords, spellOf}
+use Rattle.packing.specs.Words.{spellWords, spellOf}
 use Rattle.packing.proofs.Blocks.{put-none, written-length, Laid, laid-none, laid-more, laid-length, laid-all}
 use Rattle.packing.proofs.Words.{spell-long}
 use Rattle.packing.proofs.put_spells.Statement.{statement}
@@ -51,7 +48,7 @@ loop-again c =
     let i = at .loop .i in
     let all : length (a .t1) ≡ 1024 = search needs in (
       omega arith,
-      laid-more 7 spellWords spellOf spell-long (a .t1) (now (a .out)) (omega arith) (at .loop .out) _ i (7 * i) noSpell (omega arith) (omega arith) (at .loop .inv .1)
+      laid-more 7 spellWords spellOf spell-long (a .t1) (now (a .out)) (omega arith) (at .loop .out) _ i (7 * i) blank (omega arith) (omega arith) (at .loop .inv .1)
           (put .put-spell .ensures),
     )
 

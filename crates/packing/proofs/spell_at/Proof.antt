@@ -1,21 +1,19 @@
 -- `packing::spell_at` meets its contract. Assumes nothing.
-use mathlib.Core.Path.{_∙_, sym}
-use native.Mathlib.Omega.{arith}
+use Rattle.basis.proofs.Prelude.{_∙_, sym, arith, needs}
 use denote.Ref.{now}
 use Rattle.packing.proofs.Words.{spell-at, spell-none}
-use borrow.Author.Needs.{needs}
 use Rattle.packing.proofs.spell_at.Statement.{statement}
 use Rattle.packing.proofs.spell_at.Tie as tie
 
 returns : tie.Need-returns
 returns c =
     let a = c .before .before .before .args in
-    c .none .ensures ∙ sym (spell-none (now (a .words)) (a .at) (omega arith))
+    c .blank .ensures ∙ sym (spell-none (now (a .words)) (a .at) (omega arith))
 
 returns-2 : tie.Need-returns-2
 returns-2 c =
     let a = c .before .before .before .before .args in
-    c .none2 .ensures ∙ sym (spell-none (now (a .words)) (a .at) (omega arith))
+    c .blank2 .ensures ∙ sym (spell-none (now (a .words)) (a .at) (omega arith))
 
 returns-3 : tie.Need-returns-3
 returns-3 c =

@@ -1,12 +1,8 @@
 -- `packing::spells_at` meets its contract. The loop's invariant: the first i spells are read. Assumes nothing.
-use mathlib.Core.Path.{_≡_, refl}
-use mathlib.Core.List.{_++_}
-use Prim.Native.Nat.{_-_, _*_, _≤_}
-use native.Mathlib.Omega.{arith}
-use borrow.Author.Needs.{needs}
-use lib.ListN.{drop}
+use Rattle.basis.proofs.Prelude.{_≡_, refl, _*_, _-_, _≤_, _++_, drop, arith, needs}
+use Rattle.spell.specs.Blank.{blank}
 use Rattle.packing.specs.Blocks.{parts}
-use Rattle.packing.specs.Words.{noSpell, spellOf}
+use Rattle.packing.specs.Words.{spellOf}
 use Rattle.packing.proofs.Blocks.{parts-more, parts-done}
 use Rattle.packing.proofs.spells_at.Statement.{statement}
 use Rattle.packing.proofs.spells_at.Tie as tie
@@ -39,7 +35,7 @@ loop-again : tie.Need-loop-again Inv-loop μ-loop
 loop-again c =
     let at = c .before .before in (
       omega arith,
-      rw (c .spell-at .ensures) (parts-more 7 spellOf _ _ (at .loop .spells) (at .loop .i) (7 * at .loop .i) noSpell (search needs) (omega arith) (at .loop .inv .1)),
+      rw (c .spell-at .ensures) (parts-more 7 spellOf _ _ (at .loop .spells) (at .loop .i) (7 * at .loop .i) blank (search needs) (omega arith) (at .loop .inv .1)),
     )
 
 returns : tie.Need-returns Inv-loop μ-loop

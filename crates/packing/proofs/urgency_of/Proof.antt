@@ -1,7 +1,6 @@
 -- `packing::urgency_of` meets its contract. Assumes nothing.
-use borrow.Author.Tests.{eq-eqb, ne-eqb, le-leb, lt-leb}
+use Rattle.basis.proofs.Prelude.{needs, eq-eqb, le-leb, lt-leb, ne-eqb}
 use Rattle.packing.specs.Words.{urgencyOf}
-use borrow.Author.Needs.{needs}
 use Rattle.packing.proofs.urgency_of.Statement.{statement}
 use Rattle.packing.proofs.urgency_of.Tie as tie
 

@@ -1,7 +1,6 @@
 -- `packing::value_of` meets its contract. Assumes nothing.
-use mathlib.Core.Path.{_∙_, sym, ap}
+use Rattle.basis.proofs.Prelude.{_∙_, ap, sym, needs}
 use Rattle.packing.specs.Words.{valueOf}
-use borrow.Author.Needs.{needs}
 use Rattle.packing.proofs.value_of.Statement.{statement}
 use Rattle.packing.proofs.value_of.Tie as tie
 

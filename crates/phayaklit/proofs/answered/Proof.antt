@@ -1,5 +1,5 @@
 -- `phayaklit::answered` meets its contract: field by field. Assumes nothing.
-use mathlib.Core.Path.{refl}
+use Rattle.basis.proofs.Prelude.{refl}
 use Rattle.phayaklit.proofs.answered.Statement.{statement}
 use Rattle.phayaklit.proofs.answered.Tie as tie
 

@@ -1,6 +1,6 @@
 -- `phayaklit::phayaklit_amend` meets its contract. Assumes nothing.
 use Rattle.phayaklit.proofs.Host.{held, edited}
-use borrow.Author.Needs.{needs}
+use Rattle.basis.proofs.Prelude.{needs}
 use Rattle.phayaklit.proofs.phayaklit_amend.Statement.{statement}
 use Rattle.phayaklit.proofs.phayaklit_amend.Tie as tie
 

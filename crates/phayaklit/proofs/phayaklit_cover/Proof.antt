@@ -1,5 +1,5 @@
 -- `phayaklit::phayaklit_cover` meets its contract. Assumes nothing.
-use borrow.Author.Needs.{needs}
+use Rattle.basis.proofs.Prelude.{needs}
 use Rattle.phayaklit.proofs.phayaklit_cover.Statement.{statement}
 use Rattle.phayaklit.proofs.phayaklit_cover.Tie as tie
 

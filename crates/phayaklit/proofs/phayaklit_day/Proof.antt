@@ -1,5 +1,5 @@
 -- `phayaklit::phayaklit_day` meets its contract. Assumes nothing.
-use borrow.Author.Needs.{needs}
+use Rattle.basis.proofs.Prelude.{needs}
 use Rattle.phayaklit.proofs.phayaklit_day.Statement.{statement}
 use Rattle.phayaklit.proofs.phayaklit_day.Tie as tie
 

@@ -1,6 +1,6 @@
 -- `phayaklit::phayaklit_enter` meets its contract. Assumes nothing.
 use Rattle.phayaklit.proofs.Host.{held, edited}
-use borrow.Author.Needs.{needs}
+use Rattle.basis.proofs.Prelude.{needs}
 use Rattle.phayaklit.proofs.phayaklit_enter.Statement.{statement}
 use Rattle.phayaklit.proofs.phayaklit_enter.Tie as tie
 

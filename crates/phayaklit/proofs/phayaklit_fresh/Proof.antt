@@ -1,5 +1,5 @@
 -- `phayaklit::phayaklit_fresh` meets its contract. Assumes nothing.
-use borrow.Author.Needs.{needs}
+use Rattle.basis.proofs.Prelude.{needs}
 use Rattle.phayaklit.proofs.Host.{begun-fresh}
 use Rattle.phayaklit.proofs.phayaklit_fresh.Statement.{statement}
 use Rattle.phayaklit.proofs.phayaklit_fresh.Tie as tie

@@ -1,6 +1,6 @@
 -- `phayaklit::phayaklit_publish` meets its contract. Assumes nothing.
 use Rattle.phayaklit.proofs.Host.{held, published}
-use borrow.Author.Needs.{needs}
+use Rattle.basis.proofs.Prelude.{needs}
 use Rattle.phayaklit.proofs.phayaklit_publish.Statement.{statement}
 use Rattle.phayaklit.proofs.phayaklit_publish.Tie as tie
 

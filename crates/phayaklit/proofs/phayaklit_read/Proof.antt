@@ -1,5 +1,5 @@
 -- `phayaklit::phayaklit_read` meets its contract. Assumes nothing.
-use borrow.Author.Needs.{needs}
+use Rattle.basis.proofs.Prelude.{needs}
 use Rattle.phayaklit.proofs.Host.{laid}
 use Rattle.phayaklit.proofs.phayaklit_read.Statement.{statement}
 use Rattle.phayaklit.proofs.phayaklit_read.Tie as tie

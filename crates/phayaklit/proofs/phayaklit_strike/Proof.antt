@@ -1,6 +1,6 @@
 -- `phayaklit::phayaklit_strike` meets its contract. Assumes nothing.
 use Rattle.phayaklit.proofs.Host.{held, edited}
-use borrow.Author.Needs.{needs}
+use Rattle.basis.proofs.Prelude.{needs}
 use Rattle.phayaklit.proofs.phayaklit_strike.Statement.{statement}
 use Rattle.phayaklit.proofs.phayaklit_strike.Tie as tie
 

@@ -1,6 +1,6 @@
 -- `phayaklit::phayaklit_write` meets its contract. Assumes nothing.
 use Rattle.phayaklit.proofs.Host.{held}
-use borrow.Author.Needs.{needs}
+use Rattle.basis.proofs.Prelude.{needs}
 use Rattle.phayaklit.proofs.phayaklit_write.Statement.{statement}
 use Rattle.phayaklit.proofs.phayaklit_write.Tie as tie
 

@@ -1,5 +1,5 @@
 -- `phayaklit::put_back` meets its contract. Assumes nothing.
-use borrow.Author.Needs.{needs}
+use Rattle.basis.proofs.Prelude.{needs}
 use Rattle.phayaklit.proofs.Host.{laid}
 use Rattle.phayaklit.proofs.put_back.Statement.{statement}
 use Rattle.phayaklit.proofs.put_back.Tie as tie

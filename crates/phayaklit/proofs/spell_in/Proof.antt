@@ -1,5 +1,5 @@
 -- `phayaklit::spell_in` meets its contract. Assumes nothing.
-use borrow.Author.Needs.{needs}
+use Rattle.basis.proofs.Prelude.{needs}
 use Rattle.phayaklit.proofs.spell_in.Statement.{statement}
 use Rattle.phayaklit.proofs.spell_in.Tie as tie
 

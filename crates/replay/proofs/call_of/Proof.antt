@@ -1,7 +1,6 @@
 -- `replay::call_of` meets its contract: one arm a call. Assumes nothing.
-use borrow.Author.Tests.{ne-eqb}
+use Rattle.basis.proofs.Prelude.{needs, ne-eqb}
 use Rattle.replay.specs.Coded.{callOf}
-use borrow.Author.Needs.{needs}
 use Rattle.replay.proofs.call_of.Statement.{statement}
 use Rattle.replay.proofs.call_of.Tie as tie
 

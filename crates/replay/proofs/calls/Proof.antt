@@ -1,18 +1,15 @@
 -- `replay::calls` meets its contract. The invariant is Going: what is done, followed by what is still to come, is the whole. The
 -- measure is the codes that are left. Assumes nothing.
-use mathlib.Core.Path.{_≡_, sym, _∙_}
-use Prim.Native.Nat.{_+_, _-_, _*_, _≤_}
-use native.Mathlib.Omega.{arith}
-use borrow.Author.Needs.{needs}
-use lib.ListN.{length}
-use Rattle.replay.specs.Coded.{nextOf}
+use Rattle.basis.proofs.Prelude.{_∙_, _≡_, sym, _*_, _+_, _-_, _≤_, length, arith, needs}
+use Rattle.service.specs.Service.{blocks}
+use Rattle.replay.specs.Coded.{codeWidth, resultWidth, nextOf}
 use Rattle.replay.proofs.Runs.{Going, Room, next-room, starts, ended-all, ended-stop, turned, whole-room}
 use Rattle.replay.proofs.calls.Statement.{statement}
 use Rattle.replay.proofs.calls.Tie as tie
 
 abbrev Inv-loop : tie.InvT-loop
 Inv-loop index₀ codes days results₀ numbers₀ text₀ whole s₀ made₀ d₀ n₀ t₀ index results numbers text s made d n t =
-    Going s₀ index₀ codes days results₀ numbers₀ text₀ whole s index results numbers text made d n t
+    Going s₀ (blocks index₀) codes days results₀ numbers₀ text₀ whole s (blocks index) results numbers text made d n t
 
 abbrev μ-loop : tie.MeasureT-loop
 μ-loop index₀ codes days results₀ numbers₀ text₀ whole s₀ made₀ d₀ n₀ t₀ index results numbers text s made d n t =
@@ -35,7 +32,7 @@ fits c = next-room (c .before .before .before .before .code-at .result) _ _ _ _ 
 
 -- the code is whole, and its results have room
 whole : (c : tie.In-loop Inv-loop μ-loop)
-    → (10 * c .before .loop .made + 10 ≤ length (c .before .before .before .before .before .before .before .before .args .codes .now)) × (4 * c .before .loop .made + 4 ≤ length (c .before .before .before .before .before .before .before .before .args .results .now))
+    → (codeWidth * c .before .loop .made + codeWidth ≤ length (c .before .before .before .before .before .before .before .before .args .codes .now)) × (resultWidth * c .before .loop .made + resultWidth ≤ length (c .before .before .before .before .before .before .before .before .args .results .now))
 whole c = whole-room _ _ _ (c .before .loop .made) (c .before .before .whole-of .ensures) (c .loop-test .taken)
 
 loop-holds : tie.Need-loop-holds Inv-loop μ-loop

@@ -1,7 +1,6 @@
 -- `replay::next_of` meets its contract: one test a return. Assumes nothing.
-use borrow.Author.Tests.{le-leb, lt-leb}
+use Rattle.basis.proofs.Prelude.{needs, le-leb, lt-leb}
 use Rattle.replay.specs.Coded.{nextOf}
-use borrow.Author.Needs.{needs}
 use Rattle.replay.proofs.next_of.Statement.{statement}
 use Rattle.replay.proofs.next_of.Tie as tie
 

@@ -1,5 +1,5 @@
 -- `replay::run` meets its contract: by its two beginnings. Assumes nothing.
-use borrow.Author.Needs.{needs}
+use Rattle.basis.proofs.Prelude.{needs}
 use Rattle.service.proofs.Represented.{represented}
 use Rattle.replay.proofs.Runs.{replayed-fresh, replayed-read}
 use Rattle.replay.proofs.run.Statement.{statement}

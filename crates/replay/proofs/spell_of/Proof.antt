@@ -1,5 +1,5 @@
 -- `replay::spell_of` meets its contract: field by field. Assumes nothing.
-use borrow.Author.Needs.{needs}
+use Rattle.basis.proofs.Prelude.{needs}
 use Rattle.replay.proofs.spell_of.Statement.{statement}
 use Rattle.replay.proofs.spell_of.Tie as tie
 

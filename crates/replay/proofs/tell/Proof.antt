@@ -1,9 +1,7 @@
--- `replay::tell` meets its contract: four stores, one after the other. Assumes nothing.
-use Prim.Native.Nat.{_*_}
-use native.Mathlib.Omega.{arith}
-use lib.ListN.{length-set}
-use Rattle.replay.proofs.Laid.{four-stores}
-use borrow.Author.Needs.{needs}
+-- `replay::tell` meets its contract: stores, one after the other. Assumes nothing.
+use Rattle.basis.proofs.Prelude.{[], _*_, length-set, sets-eq, add-one, add-two, add-three, arith, needs}
+use Rattle.service.specs.Service.{answerOf}
+use Rattle.replay.specs.Coded.{resultWidth, told}
 use Rattle.replay.proofs.tell.Statement.{statement}
 use Rattle.replay.proofs.tell.Tie as tie
 
@@ -19,7 +17,7 @@ slice-write-results-4 c = simp length-set (omega arith)
 returns : tie.Need-returns
 returns c =
     let a = c .before .args in
-    four-stores (a .results .now) (4 * a .k) (a .o .refusal) (a .o .count) (a .o .comparisons) (a .o .length) (omega arith)
+    rw (add-one, add-two, add-three) (sets-eq (told (answerOf (a .o) [] [])) (a .results .now) (resultWidth * a .k) (omega arith))
 
 pub tell-spec : {M : Type 1} → statement M
 tell-spec =

@@ -1,6 +1,5 @@
 -- `replay::urgency_of` meets its contract: by the kind. Assumes nothing.
-use borrow.Author.Tests.{eq-eqb, ne-eqb}
-use borrow.Author.Needs.{needs}
+use Rattle.basis.proofs.Prelude.{needs, eq-eqb, ne-eqb}
 use Rattle.replay.proofs.urgency_of.Statement.{statement}
 use Rattle.replay.proofs.urgency_of.Tie as tie
 

@@ -1,5 +1,5 @@
 -- `requests::bare` meets its contract. Assumes nothing.
-use mathlib.Core.Path.{sym, ap}
+use Rattle.basis.proofs.Prelude.{ap, sym}
 use Rattle.requests.specs.Parsing.{requestOf}
 use Rattle.requests.proofs.Fields.{bare-more, bare-all}
 use Rattle.requests.proofs.bare.Statement.{statement}

@@ -1,10 +1,5 @@
 -- `requests::begins` meets its contract. The invariant: the rest of the line is to begin with the rest of the word. Assumes nothing.
-use borrow.Author.Needs.{needs}
-use borrow.Author.Tests.{not-true, not-false}
-use mathlib.Core.Path.{_≡_, refl, sym, _∙_}
-use Prim.Native.Nat.{_-_, _≤_}
-use native.Mathlib.Omega.{arith}
-use lib.ListN.{length, drop}
+use Rattle.basis.proofs.Prelude.{_∙_, _≡_, refl, sym, _-_, _≤_, drop, length, arith, needs, not-false, not-true}
 use Rattle.requests.specs.Requests.{begins}
 use Rattle.requests.proofs.Words.{begins-on, begins-not, begins-all}
 use Rattle.requests.proofs.begins.Statement.{statement}

@@ -1,5 +1,5 @@
 -- `requests::cover_asked` meets its contract. Assumes nothing.
-use borrow.Author.Needs.{needs}
+use Rattle.basis.proofs.Prelude.{needs}
 use Rattle.requests.proofs.cover_asked.Statement.{statement}
 use Rattle.requests.proofs.cover_asked.Tie as tie
 

@@ -1,5 +1,5 @@
 -- `requests::enter_asked` meets its contract. Assumes nothing.
-use borrow.Author.Needs.{needs}
+use Rattle.basis.proofs.Prelude.{needs}
 use Rattle.requests.proofs.enter_asked.Statement.{statement}
 use Rattle.requests.proofs.enter_asked.Tie as tie
 

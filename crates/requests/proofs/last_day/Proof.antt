@@ -1,6 +1,5 @@
 -- `requests::last_day` meets its contract. Assumes nothing.
-use mathlib.Core.Path.{sym, ap, _∙_}
-use borrow.Author.Needs.{needs}
+use Rattle.basis.proofs.Prelude.{_∙_, ap, sym, needs}
 use Rattle.fields.specs.Answers.{fieldOf}
 use Rattle.requests.proofs.DayLists.{last-none, last-one}
 use Rattle.requests.proofs.last_day.Statement.{statement}

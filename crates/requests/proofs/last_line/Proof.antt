@@ -1,7 +1,5 @@
 -- `requests::last_line` meets its contract: what is read ends the line, or something follows it. Assumes nothing.
-use mathlib.Core.Path.{_≡_, sym, ap, _∙_}
-use borrow.Author.Needs.{needs}
-use lib.ListN.{drop}
+use Rattle.basis.proofs.Prelude.{_∙_, _≡_, ap, sym, drop, needs}
 use Rattle.fields.specs.Fields.{found}
 use Rattle.register.specs.Text.{readLine}
 use Rattle.register.specs.Answers.{lineOf}

@@ -1,6 +1,5 @@
 -- `requests::parse` meets its contract: each word with what its form asks. Assumes nothing.
-use mathlib.Core.Path.{refl, _∙_}
-use borrow.Author.Needs.{needs}
+use Rattle.basis.proofs.Prelude.{_∙_, refl, needs}
 use Rattle.model.specs.declared.Call.the-variants.{Enter, Amend, Strike, Ask}
 use Rattle.model.specs.declared.Question.the-variants.{Day, Cover}
 use Rattle.requests.specs.Requests.{asksRoom, asksRead, askedBy, isDays}

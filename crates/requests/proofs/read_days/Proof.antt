@@ -1,10 +1,6 @@
 -- `requests::read_days` meets its contract. The invariant: k days stand in their places, and the rest is to be read from the place `at`.
 -- Assumes nothing.
-use mathlib.Core.Path.{sym, ap, _∙_}
-use borrow.Author.Needs.{needs}
-use Prim.Native.Nat.{_-_}
-use native.Mathlib.Omega.{arith}
-use lib.ListN.{length, drop}
+use Rattle.basis.proofs.Prelude.{_∙_, ap, sym, _-_, drop, length, arith, needs}
 use Rattle.fields.specs.Answers.{fieldOf}
 use Rattle.requests.specs.Requests.{readDays}
 use Rattle.requests.proofs.DayLists.{SoFar, sofar-start, sofar-step, sofar-last, sofar-full}

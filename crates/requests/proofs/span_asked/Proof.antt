@@ -1,7 +1,5 @@
 -- `requests::span_asked` meets its contract: the second day is read where the first ended. Assumes nothing.
-use mathlib.Core.Path.{_≡_, sym, ap, _∙_}
-use borrow.Author.Needs.{needs}
-use lib.ListN.{drop}
+use Rattle.basis.proofs.Prelude.{_∙_, _≡_, ap, sym, drop, needs}
 use Rattle.fields.specs.Fields.{found, readNumber}
 use Rattle.fields.specs.Answers.{fieldOf}
 use Rattle.requests.proofs.span_asked.Statement.{statement}

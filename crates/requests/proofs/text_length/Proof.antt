@@ -1,7 +1,5 @@
 -- `requests::text_length` meets its contract: a line that is too long, one with another word, and a `read`. Assumes nothing.
-use mathlib.Core.Path.{sym, _∙_}
-use borrow.Author.Needs.{needs}
-use borrow.Author.Tests.{not-true, not-false}
+use Rattle.basis.proofs.Prelude.{_∙_, sym, needs, not-false, not-true}
 use Rattle.requests.proofs.Following.{long-none, other-none, read-announces}
 use Rattle.requests.proofs.text_length.Statement.{statement}
 use Rattle.requests.proofs.text_length.Tie as tie

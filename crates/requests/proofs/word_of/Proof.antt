@@ -1,9 +1,5 @@
 -- `requests::word_of` meets its contract: each word of the table stands before those that were tried. Assumes nothing.
-use mathlib.Core.Path.{_≡_}
-use mathlib.Core.Bool.{cond}
-use mathlib.Core.List.{List}
-use Prim.Native.Nat.{ℕ}
-use borrow.Author.Needs.{needs}
+use Rattle.basis.proofs.Prelude.{_≡_, ℕ, List, cond, needs}
 use Rattle.requests.specs.declared.Word.{Word}
 use Rattle.requests.specs.declared.Word.the-variants.{Enter as EnterWord, Amend as AmendWord, Strike as StrikeWord, TakeBack as TakeBackWord, Publish as PublishWord, Write as WriteWord, Day as DayWord, Span as SpanWord, Cover as CoverWord, Days as DaysWord, NoDays as NoDaysWord, Room as RoomWord, Read as ReadWord, Unknown}
 use Rattle.requests.specs.Requests.{begins, wordOf, enterWord, amendWord, strikeWord, takeBackWord, publishWord, writeWord, dayWord, spanWord, coverWord, daysWord, noDaysWord, roomWord, readWord}

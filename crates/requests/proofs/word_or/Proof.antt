@@ -1,6 +1,5 @@
 -- `requests::word_or` meets its contract. Assumes nothing.
-use mathlib.Core.Path.{sym, _∙_}
-use borrow.Author.Needs.{needs}
+use Rattle.basis.proofs.Prelude.{_∙_, sym, needs}
 use Rattle.requests.proofs.word_or.Statement.{statement}
 use Rattle.requests.proofs.word_or.Tie as tie
 

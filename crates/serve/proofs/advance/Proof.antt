@@ -1,7 +1,5 @@
 -- `serve::advance` meets its contract: the bytes that have arrived lie within their list. Assumes nothing.
-use borrow.Author.Needs.{needs}
-use mathlib.Core.Path.{sym}
-use lib.Seq.{length-take-le}
+use Rattle.basis.proofs.Prelude.{sym, length-take-le, needs}
 use Rattle.serve.proofs.advance.Statement.{statement}
 use Rattle.serve.proofs.advance.Tie as tie
 

@@ -1,10 +1,6 @@
 -- `serve::next` meets its contract. The invariant: what is kept and what has arrived make what all bytes read so far make. The measure
 -- is the turns that are left. Assumes nothing.
-use borrow.Author.Needs.{needs}
-use native.Mathlib.Omega.{arith}
-use mathlib.Core.Path.{refl}
-use mathlib.Core.Bool.{false≢true}
-use mathlib.Core.List.{[]}
+use Rattle.basis.proofs.Prelude.{refl, [], false≢true, arith, needs}
 use Rattle.serve.specs.Serving.{between}
 use Rattle.serve.proofs.Coming.{Coming, comes, goes-on, is-whole}
 use Rattle.serve.proofs.next.Statement.{statement}

@@ -1,9 +1,5 @@
 -- `serve::reply` meets its contract. Assumes nothing.
-use borrow.Author.Needs.{needs}
-use native.Mathlib.Omega.{arith}
-use mathlib.Core.Path.{sym}
-use lib.Seq.{length-take-le}
-use borrow.Author.Needs.{needs}
+use Rattle.basis.proofs.Prelude.{sym, length-take-le, arith, needs}
 use Rattle.serve.proofs.reply.Statement.{statement}
 use Rattle.serve.proofs.reply.Tie as tie
 

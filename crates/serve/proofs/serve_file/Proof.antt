@@ -1,8 +1,5 @@
 -- `serve::serve_file` is safe: what was read lies within the text. Assumes nothing.
-use borrow.Author.Needs.{needs}
-use native.Mathlib.Omega.{arith}
-use mathlib.Core.Path.{sym}
-use lib.Seq.{length-take-le}
+use Rattle.basis.proofs.Prelude.{sym, length-take-le, arith, needs}
 use Rattle.serve.proofs.serve_file.Statement.{statement}
 use Rattle.serve.proofs.serve_file.Tie as tie
 

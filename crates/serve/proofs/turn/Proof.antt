@@ -1,9 +1,5 @@
 -- `serve::turn` meets its contract. Assumes nothing.
-use borrow.Author.Needs.{needs}
-use borrow.Author.Tests.{not-true}
-use native.Mathlib.Omega.{arith}
-use mathlib.Core.Path.{sym, _∙_}
-use mathlib.Core.Bool.{false≢true}
+use Rattle.basis.proofs.Prelude.{_∙_, sym, false≢true, arith, needs, not-true}
 use Rattle.serve.proofs.turn.Statement.{statement}
 use Rattle.serve.proofs.turn.Tie as tie
 

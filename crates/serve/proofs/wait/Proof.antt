@@ -1,6 +1,5 @@
 -- `serve::wait` meets its contract: a read brings no more than the list has places for. Assumes nothing.
-use borrow.Author.Needs.{needs}
-use native.Mathlib.Omega.{arith}
+use Rattle.basis.proofs.Prelude.{arith, needs}
 use Rattle.serve.proofs.wait.Statement.{statement}
 use Rattle.serve.proofs.wait.Tie as tie
 

@@ -1,5 +1,5 @@
 -- `service::amend` meets its contract. Assumes nothing.
-use borrow.Author.Needs.{needs}
+use Rattle.basis.proofs.Prelude.{needs}
 use Rattle.service.proofs.Editing.{amend-changed}
 use Rattle.service.proofs.amend.Statement.{statement}
 use Rattle.service.proofs.amend.Tie as tie

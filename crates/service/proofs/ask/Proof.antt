@@ -1,5 +1,5 @@
 -- `service::ask` meets its contract: each question's own postcondition is that of `ask`. Assumes nothing.
-use borrow.Author.Needs.{needs}
+use Rattle.basis.proofs.Prelude.{needs}
 use Rattle.service.proofs.Asking.{as-question}
 use Rattle.service.proofs.ask.Statement.{statement}
 use Rattle.service.proofs.ask.Tie as tie

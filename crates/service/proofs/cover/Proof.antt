@@ -1,5 +1,5 @@
 -- `service::cover` meets its contract: the rows' question answers as the account does. Assumes nothing.
-use borrow.Author.Needs.{needs}
+use Rattle.basis.proofs.Prelude.{needs}
 use Rattle.service.proofs.Asking.{published-built, cover-asked}
 use Rattle.service.proofs.cover.Statement.{statement}
 use Rattle.service.proofs.cover.Tie as tie
@@ -8,7 +8,7 @@ cover-requires : tie.Need-cover-requires
 cover-requires c κs = published-built _ (c .before .before .pre)
 
 returns : tie.Need-returns
-returns c = λ days. cover-asked _ days _ _ _ (c .listed .ensures) _ (c .before .before .before .before .before .before .args .number) (c .before .before .before .cover .ensures)
+returns c = λ days. cover-asked _ days _ _ _ (c .found .ensures) _ (c .before .before .before .before .before .before .args .number) (c .before .before .before .cover .ensures)
 
 pub cover-spec : {M : Type 1} → statement M
 cover-spec = tie.close (tie.spec cover-requires (λ c κs. search needs) (λ c. search needs) returns)

@@ -1,5 +1,5 @@
 -- `service::day` meets its contract: the rows' question answers as the account does. Assumes nothing.
-use borrow.Author.Needs.{needs}
+use Rattle.basis.proofs.Prelude.{needs}
 use Rattle.service.proofs.Asking.{published-built, day-asked}
 use Rattle.service.proofs.day.Statement.{statement}
 use Rattle.service.proofs.day.Tie as tie
@@ -8,7 +8,7 @@ day-requires : tie.Need-day-requires
 day-requires c κs = published-built _ (c .before .before .pre)
 
 returns : tie.Need-returns
-returns c = λ days. day-asked _ days _ _ _ (c .listed .ensures) _ (c .before .before .before .before .before .before .args .d) (c .before .before .before .day .ensures)
+returns c = λ days. day-asked _ days _ _ _ (c .found .ensures) _ (c .before .before .before .before .before .before .args .d) (c .before .before .before .day .ensures)
 
 pub day-spec : {M : Type 1} → statement M
 day-spec = tie.close (tie.spec day-requires (λ c κs. search needs) (λ c. search needs) returns)

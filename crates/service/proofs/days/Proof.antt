@@ -1,5 +1,5 @@
 -- `service::days` meets its contract. Assumes nothing.
-use borrow.Author.Needs.{needs}
+use Rattle.basis.proofs.Prelude.{needs}
 use Rattle.service.proofs.Asking.{published-built, days-asked}
 use Rattle.service.proofs.days.Statement.{statement}
 use Rattle.service.proofs.days.Tie as tie
@@ -8,7 +8,7 @@ days-requires : tie.Need-days-requires
 days-requires c κs = published-built _ (c .before .before .before .pre)
 
 returns : tie.Need-returns
-returns c = days-asked _ _ _ _ _ (c .listed .ensures) _ (c .before .before .before .days .ensures)
+returns c = days-asked _ _ _ _ _ (c .found .ensures) _ (c .before .before .before .days .ensures)
 
 pub days-spec : {M : Type 1} → statement M
 days-spec = tie.close (tie.spec days-requires (λ c κs. search needs) (λ c. search needs) returns)

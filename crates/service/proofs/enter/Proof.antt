@@ -1,5 +1,5 @@
 -- `service::enter` meets its contract. Assumes nothing.
-use borrow.Author.Needs.{needs}
+use Rattle.basis.proofs.Prelude.{needs}
 use Rattle.service.proofs.Editing.{enter-changed}
 use Rattle.service.proofs.enter.Statement.{statement}
 use Rattle.service.proofs.enter.Tie as tie

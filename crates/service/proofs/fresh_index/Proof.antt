@@ -1,5 +1,5 @@
 -- `service::fresh_index` meets its contract. Assumes nothing.
-use borrow.Author.Needs.{needs}
+use Rattle.basis.proofs.Prelude.{needs}
 use Rattle.service.proofs.Beginning.{no-rows}
 use Rattle.service.proofs.fresh_index.Statement.{statement}
 use Rattle.service.proofs.fresh_index.Tie as tie

@@ -1,5 +1,5 @@
 -- `service::lay` meets its contract: the columns of a list that stands can be published. Assumes nothing.
-use borrow.Author.Needs.{needs}
+use Rattle.basis.proofs.Prelude.{needs}
 use Rattle.service.proofs.Beginning.{indexed}
 use Rattle.service.proofs.lay.Statement.{statement}
 use Rattle.service.proofs.lay.Tie as tie

@@ -1,11 +1,13 @@
 -- `service::read` meets its contract. Assumes nothing.
-use borrow.Author.Needs.{needs}
-use Rattle.service.proofs.Beginning.{begins}
+use Rattle.basis.proofs.Prelude.{needs}
+use Rattle.service.proofs.Beginning.{begins-read}
 use Rattle.service.proofs.read.Statement.{statement}
 use Rattle.service.proofs.read.Tie as tie
 
 returns : tie.Need-returns
-returns c = begins _ _ _ (c .before .read .ensures) (c .before .before .fresh-index .ensures)
+returns c =
+    let got = c .before in
+    begins-read _ _ _ _ (got .read .ensures) (c .loaded .ensures) (got .before .fresh-index .ensures)
 
 pub read-spec : {M : Type 1} → statement M
-read-spec = tie.close (tie.spec (λ c κs. search needs) (λ c κs. search needs) returns)
+read-spec = tie.close (tie.spec (λ c κs. search needs) (λ c κs. search needs) (λ c κs. search needs) returns)

@@ -1,5 +1,5 @@
 -- `service::step` meets its contract: each call's own postcondition is that of `step`. Assumes nothing.
-use borrow.Author.Needs.{needs}
+use Rattle.basis.proofs.Prelude.{needs}
 use Rattle.service.proofs.Asking.{as-call}
 use Rattle.service.proofs.Beginning.{publishes-met}
 use Rattle.service.proofs.step.Statement.{statement}
@@ -23,7 +23,7 @@ step-spec =
     -- take back
     (λ c. as-call (c .before .enum-told .given .1) (c .take-back .ensures .met _ _ _ _ (c .before .before .before .before .before .before .pre)))
     -- publish
-    (λ c. as-call (c .before .before .enum-told2 .given .1) (publishes-met (c .before .before .before .before .before .before .before .pre .wf) (c .publish .ensures) _ _ _ _))
+    (λ c. as-call (c .before .before .enum-told2 .given .1) (publishes-met (c .before .before .before .before .before .before .before .pre .valid) (c .publish .ensures) _ _ _ _))
     (λ c. search needs)
     -- write
     (λ c. rw (c .answered .ensures) (as-call (c .before .before .before .before .before .enum-told3 .given .1) (c .before .before .before .write .ensures .met _ _ _ (c .before .before .before .before .before .before .before .before .before .before .pre))))

@@ -1,5 +1,5 @@
 -- `service::strike` meets its contract. Assumes nothing.
-use borrow.Author.Needs.{needs}
+use Rattle.basis.proofs.Prelude.{needs}
 use Rattle.service.proofs.Editing.{strike-changed}
 use Rattle.service.proofs.strike.Statement.{statement}
 use Rattle.service.proofs.strike.Tie as tie

@@ -1,5 +1,5 @@
 -- `service::take_back` meets its contract. Assumes nothing.
-use borrow.Author.Needs.{needs}
+use Rattle.basis.proofs.Prelude.{needs}
 use Rattle.service.proofs.Editing.{back-changed}
 use Rattle.service.proofs.take_back.Statement.{statement}
 use Rattle.service.proofs.take_back.Tie as tie

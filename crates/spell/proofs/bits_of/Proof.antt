@@ -1,5 +1,5 @@
 -- `spell::bits_of` meets its contract. Assumes nothing.
-use borrow.Author.Needs.{needs}
+use Rattle.basis.proofs.Prelude.{needs}
 use lib.Ieee.{toBits}
 use lib.Ieee.Compare.{differs-from-itself}
 use Rattle.spell.proofs.Floats.{no-nan}

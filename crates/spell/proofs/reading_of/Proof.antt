@@ -1,6 +1,4 @@
-use borrow.Author.Needs.{needs}
-use borrow.Author.Tests.{lt-ltb, le-ltb}
-use mathlib.Core.Path.{_≡_, refl, sym, _∙_}
+use Rattle.basis.proofs.Prelude.{_∙_, _≡_, refl, sym, needs, le-ltb, lt-ltb}
 use lib.Ieee.{nan, binary32, div, ofBits}
 use lib.Ieee.Bits.{nanBits-is, nanBits-above}
 use Rattle.spell.proofs.Equal.{is-nan}

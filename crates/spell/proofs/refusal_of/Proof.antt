@@ -1,9 +1,5 @@
-use borrow.Author.Needs.{needs}
-use borrow.Author.Tests.{eq-eqb, ne-eqb, lt-ltb, le-ltb, not-true, not-false}
-use mathlib.Core.Path.{_≡_, _∙_, sym}
-use mathlib.Core.Bool.{true, false}
-use lib.Dec.{eqb}
-use Rattle.spell.specs.Entry.{dayOk}
+use Rattle.basis.proofs.Prelude.{_∙_, _≡_, sym, false, true, eqb, needs, eq-eqb, le-ltb, lt-ltb, ne-eqb, not-false, not-true}
+use Rattle.calendar.specs.Calendar.{isDay}
 use Rattle.spell.proofs.refusal_of.Statement.{statement}
 use Rattle.spell.proofs.refusal_of.Tie as tie
 
@@ -14,11 +10,11 @@ numbered c = ne-eqb _ _ (c .if1 .left)
 named : (c : tie.Else2) → eqb (c .before .before .before .before .args .s .candidate) 0 ≡ false
 named c = ne-eqb _ _ (c .if2 .left)
 
-first-in : (c : tie.Else3) → dayOk (c .before .before .before .before .before .before .args .s .first) ≡ true
-first-in c = sym (c .before .day-ok .ensures) ∙ not-false _ (c .if3 .left)
+first-in : (c : tie.Else3) → isDay (c .before .before .before .before .before .before .args .s .first) ≡ true
+first-in c = sym (c .before .is-day .ensures) ∙ not-false _ (c .if3 .left)
 
-last-in : (c : tie.Else4) → dayOk (c .before .before .before .before .before .before .before .before .args .s .last) ≡ true
-last-in c = sym (c .before .day-ok2 .ensures) ∙ not-false _ (c .if4 .left)
+last-in : (c : tie.Else4) → isDay (c .before .before .before .before .before .before .before .before .args .s .last) ≡ true
+last-in c = sym (c .before .is-day2 .ensures) ∙ not-false _ (c .if4 .left)
 
 returns : tie.Need-returns
 returns c = simp (eq-eqb _ _ (c .if1 .taken))
@@ -29,13 +25,13 @@ returns-2 c = simp (numbered (c .before .before), eq-eqb _ _ (c .if2 .taken))
 returns-3 : tie.Need-returns-3
 returns-3 c =
     let e2 = c .before .before in
-    simp (numbered (e2 .before .before), named e2, sym (c .before .day-ok .ensures), not-true (c .before .day-ok .result) (c .if3 .taken))
+    simp (numbered (e2 .before .before), named e2, sym (c .before .is-day .ensures), not-true (c .before .is-day .result) (c .if3 .taken))
 
 returns-4 : tie.Need-returns-4
 returns-4 c =
     let e3 = c .before .before in
     let e2 = e3 .before .before in
-    simp (numbered (e2 .before .before), named e2, first-in e3, sym (c .before .day-ok2 .ensures), not-true (c .before .day-ok2 .result) (c .if4 .taken))
+    simp (numbered (e2 .before .before), named e2, first-in e3, sym (c .before .is-day2 .ensures), not-true (c .before .is-day2 .result) (c .if4 .taken))
 
 returns-5 : tie.Need-returns-5
 returns-5 c =

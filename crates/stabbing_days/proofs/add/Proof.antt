@@ -1,9 +1,5 @@
 -- `stabbing_days::add` meets its contract: each need is a step of `proofs/Several.antt`. Assumes nothing.
-use native.Mathlib.Omega.{arith}
-use mathlib.Core.Path.{sym}
-use lib.ListN.{getD}
-use lib.Seq.{length-take-le}
-use borrow.Author.Needs.{needs}
+use Rattle.basis.proofs.Prelude.{sym, getD, length-take-le, arith, needs}
 use Rattle.stabbing_days.specs.Code.{AddAsks}
 use Rattle.stabbing_days.proofs.Several as Steps
 use Rattle.stabbing_days.proofs.add.Statement.{statement}

@@ -1,8 +1,5 @@
 -- `stabbing_days::close` meets its contract: each need is a step of `proofs/Closing.antt`. Assumes nothing.
-use Prim.Native.Nat.{_-_}
-use native.Mathlib.Omega.{arith}
-use lib.ListN.{length}
-use borrow.Author.Needs.{needs}
+use Rattle.basis.proofs.Prelude.{_-_, length, arith, needs}
 use Rattle.stabbing_days.proofs.Closing as Steps
 use Rattle.stabbing_days.proofs.Closing.{Closing}
 use Rattle.stabbing_days.proofs.close.Statement.{statement}

@@ -1,7 +1,5 @@
 -- `stabbing_days::days` meets its contract: each need is a step of `proofs/Several.antt`. Assumes nothing.
-use mathlib.Core.Path.{sym, _∙_}
-use borrow.Author.Needs.{needs}
-use borrow.Author.Tests.{not-true, not-false}
+use Rattle.basis.proofs.Prelude.{_∙_, sym, needs, not-false, not-true}
 use Rattle.stabbing_days.proofs.Several as Steps
 use Rattle.stabbing_days.proofs.days.Statement.{statement}
 use Rattle.stabbing_days.proofs.days.Tie as tie

@@ -1,9 +1,5 @@
 -- `stabbing_days::gather` meets its contract: each need is a step of `proofs/Several.antt`. Assumes nothing.
-use Prim.Native.Nat.{_≤_, _-_}
-use native.Mathlib.Omega.{arith}
-use mathlib.Core.Path.{_≡_, refl}
-use lib.ListN.{length}
-use borrow.Author.Needs.{needs}
+use Rattle.basis.proofs.Prelude.{_≡_, refl, _-_, _≤_, length, arith, needs}
 use Rattle.stabbing_days.proofs.Several as Steps
 use Rattle.stabbing_days.proofs.Several.{Going}
 use Rattle.stabbing_days.proofs.gather.Statement.{statement}

@@ -1,9 +1,5 @@
 -- `stabbing_days::in_order` meets its contract: what the days from i on say after the day before is what all of them say. Assumes nothing.
-use Prim.Native.Nat.{_≤_, _-_}
-use native.Mathlib.Omega.{arith}
-use mathlib.Core.Path.{_≡_, refl, sym, _∙_}
-use borrow.Author.Needs.{needs}
-use lib.ListN.{length, drop}
+use Rattle.basis.proofs.Prelude.{_∙_, _≡_, refl, sym, _-_, _≤_, drop, length, arith, needs}
 use Rattle.stabbing.specs.Answer.{risingFrom}
 use Rattle.stabbing_days.proofs.Several as Steps
 use Rattle.stabbing_days.proofs.in_order.Statement.{statement}

@@ -1,17 +1,12 @@
 -- `stabbing_days::on_calendar` meets its contract: what the days from i on say is what all of them say. Assumes nothing.
-use Prim.Native.Nat.{_≤_, _-_}
-use native.Mathlib.Omega.{arith}
-use mathlib.Core.Path.{_≡_, refl, sym, _∙_}
-use borrow.Author.Needs.{needs}
-use borrow.Author.Tests.{not-true, not-false}
-use lib.ListN.{length, drop}
-use Rattle.stabbing.specs.Answer.{calendars}
+use Rattle.basis.proofs.Prelude.{_∙_, _≡_, refl, sym, _-_, _≤_, drop, length, arith, needs, not-false, not-true}
+use Rattle.calendar.specs.Calendar.{daysOk}
 use Rattle.stabbing_days.proofs.Several as Steps
 use Rattle.stabbing_days.proofs.on_calendar.Statement.{statement}
 use Rattle.stabbing_days.proofs.on_calendar.Tie as tie
 
 abbrev Inv-loop : tie.InvT-loop
-Inv-loop days i₀ i = (i ≤ length days) × (calendars (drop i days) ≡ calendars days)
+Inv-loop days i₀ i = (i ≤ length days) × (daysOk (drop i days) ≡ daysOk days)
 
 abbrev μ-loop : tie.MeasureT-loop
 μ-loop days i₀ i = length days - i

@@ -1,6 +1,5 @@
 -- `stabbing_days::skip` meets its contract: each need is a step of `proofs/Skipping.antt`. Assumes nothing.
-use native.Mathlib.Omega.{arith}
-use borrow.Author.Needs.{needs}
+use Rattle.basis.proofs.Prelude.{arith, needs}
 use Rattle.stabbing_days.proofs.Skipping as Steps
 use Rattle.stabbing_days.proofs.Skipping.{Passing}
 use Rattle.stabbing_days.proofs.skip.Statement.{statement}

@@ -1,7 +1,5 @@
 -- `stabbing_index::advance` meets its contract: each need is a step of `proofs/DayTables.antt`. The measure is the number of rows left. Assumes nothing.
-use Prim.Native.Nat.{_<_, ℕ, _-_}
-use native.Mathlib.Omega.{arith}
-use borrow.Author.Needs.{needs}
+use Rattle.basis.proofs.Prelude.{_-_, _<_, ℕ, arith, needs}
 use Rattle.stabbing_index.proofs.DayTables as Steps
 use borrow.Fn.Kinds.{In}
 use borrow.Fn.PlainCycle.{Measures, is, falls, and}

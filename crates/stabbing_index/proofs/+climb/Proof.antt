@@ -1,8 +1,6 @@
 -- `stabbing_index::climb` meets its contract: each need is a step of `proofs/Links.antt`. The measure is the mark. Assumes nothing.
-use native.Mathlib.Omega.{arith}
+use Rattle.basis.proofs.Prelude.{_-_, _<_, ℕ, arith, needs}
 use Rattle.stabbing_index.proofs.Links as Steps
-use borrow.Author.Needs.{needs}
-use Prim.Native.Nat.{_<_, ℕ, _-_}
 use borrow.Fn.Kinds.{In}
 use borrow.Fn.PlainCycle.{Measures, is, falls, and}
 use Rattle.stabbing_index.proofs.climb.Reads as climb

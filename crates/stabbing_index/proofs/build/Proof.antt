@@ -1,7 +1,6 @@
 -- `stabbing_index::build` meets its contract: each need is a step of `proofs/Assembling.antt`. Assumes nothing.
-use borrow.Author.Tests.{not-true, not-false}
+use Rattle.basis.proofs.Prelude.{needs, not-false, not-true}
 use Rattle.stabbing_index.proofs.Assembling as Assemble
-use borrow.Author.Needs.{needs}
 use Rattle.stabbing_index.proofs.build.Statement.{statement}
 use Rattle.stabbing_index.proofs.build.Tie as tie
 

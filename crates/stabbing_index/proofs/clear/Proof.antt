@@ -1,8 +1,5 @@
 -- `stabbing_index::clear` meets its contract: each need is a step of `proofs/Laying.antt`. Assumes nothing.
-use Prim.Native.Nat.{_-_, _≤_, zero-le}
-use native.Mathlib.Omega.{arith}
-use mathlib.Core.Path.{refl}
-use borrow.Author.Needs.{needs}
+use Rattle.basis.proofs.Prelude.{refl, _-_, _≤_, zero-le, arith, needs}
 use Rattle.stabbing_index.proofs.Laying as Steps
 use Rattle.stabbing_index.proofs.clear.Statement.{statement}
 use Rattle.stabbing_index.proofs.clear.Tie as tie

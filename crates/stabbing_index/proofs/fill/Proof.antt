@@ -1,6 +1,6 @@
 -- `stabbing_index::fill` meets its contract: each need is a step of `proofs/Assembling.antt`. Assumes nothing.
 use Rattle.stabbing_index.proofs.Assembling as Assemble
-use borrow.Author.Needs.{needs}
+use Rattle.basis.proofs.Prelude.{needs}
 use Rattle.stabbing_index.proofs.fill.Statement.{statement}
 use Rattle.stabbing_index.proofs.fill.Tie as tie
 

@@ -1,9 +1,5 @@
 -- `stabbing_index::in_order` meets its contract: each need is a step of `proofs/Rows.antt`. Assumes nothing.
-use borrow.Author.Tests.{not-true, not-false}
-use Prim.Native.Nat.{_-_, _≤_, zero-le}
-use native.Mathlib.Omega.{arith}
-use mathlib.Core.Path.{refl}
-use borrow.Author.Needs.{needs}
+use Rattle.basis.proofs.Prelude.{refl, _-_, _≤_, zero-le, arith, needs, not-false, not-true}
 use Rattle.stabbing_index.proofs.Rows as Steps
 use Rattle.stabbing_index.proofs.in_order.Statement.{statement}
 use Rattle.stabbing_index.proofs.in_order.Tie as tie

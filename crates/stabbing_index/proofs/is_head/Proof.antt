@@ -1,6 +1,6 @@
 -- `stabbing_index::is_head` meets its contract: each need is a step of `proofs/Links.antt`. Assumes nothing.
 use Rattle.stabbing_index.proofs.Links as Steps
-use borrow.Author.Needs.{needs}
+use Rattle.basis.proofs.Prelude.{needs}
 use Rattle.stabbing_index.proofs.is_head.Statement.{statement}
 use Rattle.stabbing_index.proofs.is_head.Tie as tie
 

@@ -1,6 +1,5 @@
 -- `stabbing_index::last_of` meets its contract: each need is a step of `proofs/Chains.antt`. Assumes nothing.
-use native.Mathlib.Omega.{arith}
-use borrow.Author.Needs.{needs}
+use Rattle.basis.proofs.Prelude.{arith, needs}
 use Rattle.stabbing_index.proofs.Chains as Steps
 use Rattle.stabbing_index.proofs.last_of.Statement.{statement}
 use Rattle.stabbing_index.proofs.last_of.Tie as tie

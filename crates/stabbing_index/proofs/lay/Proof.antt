@@ -1,6 +1,5 @@
 -- `stabbing_index::lay` meets its contract: the words are put into the part of the block from `base` on. Assumes nothing.
-use mathlib.Core.Path.{refl}
-use borrow.Author.Needs.{needs}
+use Rattle.basis.proofs.Prelude.{refl, needs}
 use Rattle.stabbing_index.proofs.Laying.{laid-part}
 use Rattle.stabbing_index.proofs.lay.Statement.{statement}
 use Rattle.stabbing_index.proofs.lay.Tie as tie

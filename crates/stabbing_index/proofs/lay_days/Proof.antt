@@ -1,6 +1,6 @@
 -- `stabbing_index::lay_days` meets its contract: each need is a step of `proofs/Assembling.antt`. Assumes nothing.
 use Rattle.stabbing_index.proofs.Assembling as Assemble
-use borrow.Author.Needs.{needs}
+use Rattle.basis.proofs.Prelude.{needs}
 use Rattle.stabbing_index.proofs.lay_days.Statement.{statement}
 use Rattle.stabbing_index.proofs.lay_days.Tie as tie
 

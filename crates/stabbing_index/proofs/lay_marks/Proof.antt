@@ -1,9 +1,5 @@
 -- `stabbing_index::lay_marks` meets its contract: each need is a step of `proofs/Laying.antt`. Assumes nothing.
-use Prim.Native.Nat.{_-_, _≤_, zero-le}
-use native.Mathlib.Omega.{arith}
-use mathlib.Core.Path.{_≡_, ap, _∙_}
-use lib.ListN.{length, getD}
-use borrow.Author.Needs.{needs}
+use Rattle.basis.proofs.Prelude.{_∙_, _≡_, ap, _-_, _≤_, zero-le, getD, length, arith, needs}
 use Rattle.stabbing.specs.Index.{lastOf}
 use Rattle.stabbing_index.proofs.Laying as Steps
 use Rattle.stabbing_index.proofs.lay_marks.Statement.{statement}

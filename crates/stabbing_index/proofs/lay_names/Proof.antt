@@ -1,8 +1,7 @@
 -- `stabbing_index::lay_names` meets its contract: each need is a step of `proofs/Assembling.antt`. Assumes nothing.
 use Rattle.stabbing_index.proofs.Assembling as Assemble
 use Rattle.stabbing_index.proofs.Laying.{laid-over}
-use borrow.Author.Needs.{needs}
-use native.Mathlib.Omega.{arith}
+use Rattle.basis.proofs.Prelude.{arith, needs}
 use Rattle.stabbing_index.proofs.lay_names.Statement.{statement}
 use Rattle.stabbing_index.proofs.lay_names.Tie as tie
 

@@ -1,8 +1,5 @@
 -- `stabbing_index::lay_rows` meets its contract: its columns are a step of `proofs/Assembling.antt`. Assumes nothing.
-use native.Mathlib.Omega.{arith}
-use mathlib.Core.Path.{sym}
-use lib.Seq.{length-take-le}
-use borrow.Author.Needs.{needs}
+use Rattle.basis.proofs.Prelude.{sym, length-take-le, arith, needs}
 use Rattle.stabbing_index.proofs.Assembling as Assemble
 use Rattle.stabbing_index.proofs.lay_rows.Statement.{statement}
 use Rattle.stabbing_index.proofs.lay_rows.Tie as tie

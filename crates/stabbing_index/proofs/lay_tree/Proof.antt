@@ -1,7 +1,5 @@
 -- `stabbing_index::lay_tree` meets its contract: each need is a step of `proofs/Assembling.antt`. Assumes nothing.
-use native.Mathlib.Omega.{arith}
-use mathlib.Core.Path.{refl}
-use borrow.Author.Needs.{needs}
+use Rattle.basis.proofs.Prelude.{refl, arith, needs}
 use Rattle.stabbing_index.proofs.Assembling as Assemble
 use Rattle.stabbing_index.proofs.Links.{none-yet}
 use Rattle.stabbing_index.proofs.lay_tree.Statement.{statement}

@@ -1,9 +1,5 @@
 -- `stabbing_index::link` meets its contract: each need is a step of `proofs/Links.antt`. Assumes nothing.
-use Prim.Native.Nat.{_-_, _≤_, zero-le}
-use native.Mathlib.Omega.{arith}
-use mathlib.Core.Path.{_≡_}
-use lib.ListN.{take}
-use borrow.Author.Needs.{needs}
+use Rattle.basis.proofs.Prelude.{_≡_, _-_, _≤_, zero-le, take, arith, needs}
 use Rattle.stabbing.proofs.Links.{bottom}
 use Rattle.stabbing_index.specs.Passes.{Linked, Chained}
 use Rattle.stabbing_index.proofs.Links as Steps

@@ -1,8 +1,6 @@
 -- `stabbing_index::link_head` meets its contract: each need is a step of `proofs/Links.antt`. Assumes nothing.
-use native.Mathlib.Omega.{arith}
-use mathlib.Core.Path.{refl}
+use Rattle.basis.proofs.Prelude.{refl, arith, needs}
 use Rattle.stabbing_index.proofs.Links as Steps
-use borrow.Author.Needs.{needs}
 use Rattle.stabbing_index.proofs.link_head.Statement.{statement}
 use Rattle.stabbing_index.proofs.link_head.Tie as tie
 

@@ -1,8 +1,5 @@
 -- `stabbing_index::name_rows` meets its contract: each need is a step of `proofs/Words.antt`. Assumes nothing.
-use Prim.Native.Nat.{_-_, _≤_, zero-le}
-use native.Mathlib.Omega.{arith}
-use mathlib.Core.Path.{_≡_, refl}
-use borrow.Author.Needs.{needs}
+use Rattle.basis.proofs.Prelude.{_≡_, refl, _-_, _≤_, zero-le, arith, needs}
 use Rattle.stabbing_index.proofs.Laying as Steps
 use Rattle.stabbing_index.proofs.Words as Names
 use Rattle.stabbing_index.specs.Words.{nameWord}

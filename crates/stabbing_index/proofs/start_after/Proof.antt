@@ -1,5 +1,5 @@
 -- `stabbing_index::start_after` meets its contract: each need is a step of `proofs/DayTables.antt`. Assumes nothing.
-use borrow.Author.Needs.{needs}
+use Rattle.basis.proofs.Prelude.{needs}
 use Rattle.stabbing_index.proofs.DayTables as Steps
 use Rattle.stabbing_index.proofs.start_after.Statement.{statement}
 use Rattle.stabbing_index.proofs.start_after.Tie as tie

@@ -1,15 +1,12 @@
 -- `stabbing_query::rise` meets its contract: each need is a step of `proofs/Rising.antt`, taken for w and for its last child c. The
 -- measure is the number of heads not yet visited. Assumes nothing.
-use native.Mathlib.Omega.{arith}
-use mathlib.Core.Logic.{inl, inr}
-use borrow.Author.Needs.{needs}
+use Rattle.basis.proofs.Prelude.{_+_, _-_, _<_, ℕ, inl, inr, arith, needs}
 use Rattle.stabbing.specs.Tree.{lastChild}
 use Rattle.stabbing.specs.Walk.{compare}
 use Rattle.stabbing.specs.Index.{firsts, lasts}
 use Rattle.stabbing_query.specs.Code.{Does, RiseAsks, riseOf}
 use Rattle.stabbing_query.proofs.Rising as Steps
 use Rattle.stabbing_query.proofs.Rising.{unvisited}
-use Prim.Native.Nat.{ℕ, _+_, _-_, _<_}
 use borrow.Fn.Kinds.{In}
 use borrow.Fn.PlainCycle.{Measures, is, falls, and}
 use Rattle.stabbing_query.proofs.rise.Reads as rise

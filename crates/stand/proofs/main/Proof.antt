@@ -1,8 +1,5 @@
 -- `stand::main` is safe: what was read lies within the text. Assumes nothing.
-use borrow.Author.Needs.{needs}
-use mathlib.Core.Path.{sym}
-use native.Mathlib.Omega.{arith}
-use lib.Seq.{length-take-le}
+use Rattle.basis.proofs.Prelude.{sym, length-take-le, arith, needs}
 use Rattle.stand.proofs.main.Statement.{statement}
 use Rattle.stand.proofs.main.Tie as tie
 

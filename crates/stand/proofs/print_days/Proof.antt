@@ -1,9 +1,7 @@
 -- `stand::print_days` meets its contract. The loop's invariant: the parts that are printed have come to day d. The measure is the
 -- number of days that are left. Assumes nothing.
-use borrow.Author.Needs.{needs}
-use Prim.Native.Nat.{_-_}
-use native.Mathlib.Omega.{arith}
-use Rattle.report.proofs.Parts.{Printing, printing-none, printing-one, printing-some, printing-all}
+use Rattle.basis.proofs.Prelude.{_-_, arith, needs}
+use Rattle.stand_text.proofs.Parts.{Printing, printing-none, printing-one, printing-some, printing-all}
 use Rattle.stand.proofs.print_days.Statement.{statement}
 use Rattle.stand.proofs.print_days.Tie as tie
 

@@ -1,8 +1,7 @@
 -- `stand::stand` meets its contract: publish leaves an index that shows the register's spells. Assumes nothing.
-use borrow.Author.Needs.{needs}
-use mathlib.Core.List.{[]}
+use Rattle.basis.proofs.Prelude.{[], needs}
 use Rattle.service.proofs.Beginning.{publishes-given, publishes-met}
-use Rattle.report.proofs.Parts.{printed-of, refused-none}
+use Rattle.stand_text.proofs.Parts.{printed-of, refused-none}
 use Rattle.stand.proofs.stand.Statement.{statement}
 use Rattle.stand.proofs.stand.Tie as tie
 
@@ -12,13 +11,13 @@ returns c =
     refused-none (read .before .before .before .args .text .now) (read .read .ensures .refusal) (c .before .if1 .taken)
 
 print-days-requires : tie.Need-print-days-requires
-print-days-requires c κs = publishes-given (c .before .before .before .before .before .before .read .ensures .represents .wf) (c .before .publish .ensures) .published
+print-days-requires c κs = publishes-given (c .before .before .before .before .before .before .read .ensures .represents .valid) (c .before .publish .ensures) .published
 
 returns-2 : tie.Need-returns-2
 returns-2 c =
     let publish = c .before .before in
     let read = publish .before .before .before .before .before in
-    let met = publishes-met (read .read .ensures .represents .wf) (publish .publish .ensures) _ [] [] [] in
+    let met = publishes-met (read .read .ensures .represents .valid) (publish .publish .ensures) _ [] [] [] in
     printed-of (read .before .before .before .args .text .now) (c .print-days .ensures) (met .after _ (read .read .ensures .represents) .shows)
 
 pub stand-spec : {M : Type 1} → statement M

@@ -1,7 +1,4 @@
-use borrow.Author.Needs.{needs}
-use mathlib.Core.Path.{_≡_, ap, _∙_}
-use Prim.Native.Nat.{_<_}
-use native.Mathlib.Omega.{arith}
+use Rattle.basis.proofs.Prelude.{_∙_, _≡_, ap, _<_, arith, needs}
 use Rattle.refusal.specs.Table.{accepted}
 use Rattle.model.specs.Edits.{replace, amendRefusal}
 use Rattle.standing.specs.declared.Standing.{Standing}

@@ -1,6 +1,4 @@
-use borrow.Author.Needs.{needs}
-use mathlib.Core.Path.{_≡_, _∙_}
-use native.Mathlib.Omega.{arith}
+use Rattle.basis.proofs.Prelude.{_∙_, _≡_, arith, needs}
 use Rattle.refusal.specs.Table.{accepted}
 use Rattle.model.specs.Edits.{insert, enterRefusal}
 use Rattle.standing.specs.Standing.{listOf}

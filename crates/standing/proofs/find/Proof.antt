@@ -1,15 +1,6 @@
-use borrow.Author.Needs.{needs}
-use borrow.Author.Tests.{eq-eqb, ne-eqb}
-use mathlib.Core.Path.{_≡_, sym, ap}
-use mathlib.Core.Bool.{not}
-use Prim.Native.Nat.{_+_, _-_, _≤_}
-use native.Mathlib.Nat.{zero-add}
-use native.Mathlib.Omega.{arith}
-use lib.Dec.{eqb}
-use lib.ListN.{length, drop}
+use Rattle.basis.proofs.Prelude.{_≡_, ap, sym, _+_, _-_, _≤_, not, eqb, drop, length, zero-add, arith, needs, eq-eqb, ne-eqb, unmapped}
 use Rattle.standing.specs.Standing.{listOf}
 use Rattle.standing.specs.Search.{indexOf}
-use Rattle.standing.proofs.Lists.{unmapped}
 use Rattle.standing.proofs.Search.{walk-on, walk-stops, walk-ends}
 use Rattle.standing.proofs.find.Statement.{statement}
 use Rattle.standing.proofs.find.Tie as tie

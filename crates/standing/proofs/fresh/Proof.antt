@@ -1,9 +1,10 @@
+use Rattle.basis.proofs.Prelude.{needs}
 use Rattle.standing.proofs.Calls.{fresh-is}
 use Rattle.standing.proofs.fresh.Statement.{statement}
 use Rattle.standing.proofs.fresh.Tie as tie
 
 returns : tie.Need-returns
-returns c = fresh-is
+returns c = rw (c .blank .ensures) fresh-is
 
 pub fresh-spec : {M : Type 1} → statement M
-fresh-spec = tie.close (tie.spec returns)
+fresh-spec = tie.close (tie.spec (λ c κs. search needs) returns)

@@ -1,14 +1,9 @@
-use borrow.Author.Needs.{needs}
-use mathlib.Core.Path.{_≡_, refl}
-use Prim.Native.Nat.{_≤_}
-use native.Mathlib.Omega.{arith}
-use lib.ListN.{length}
-use lib.Seq.{length-take-le}
+use Rattle.basis.proofs.Prelude.{_≡_, refl, _≤_, length, length-take-le, arith, needs, unmapped}
 use Rattle.spell.specs.Order.{earlierOf}
-use Rattle.register.specs.Answers.{blank}
+use Rattle.spell.specs.Blank.{blank}
 use Rattle.standing.specs.Standing.{listOf}
 use Rattle.model.proofs.Edits.{length-insert}
-use Rattle.standing.proofs.Lists.{unmapped, shifted, shift-none, shift-down}
+use Rattle.standing.proofs.Lists.{shifted, shift-none, shift-down}
 use Rattle.standing.proofs.Places.{same}
 use Rattle.standing.proofs.Search.{lead-le, insert-shifted}
 use Rattle.standing.proofs.inserted.Statement.{statement}
@@ -77,7 +72,7 @@ returns c =
     same
     (insert-shifted (start .args .s) (st .spells) (head .loop .a .spells) (st .count) (head .loop .i) (omega (arith, whole start)) (head .loop .inv .2)
     (omega (arith, head .before .place .ensures)))
-    (omega (arith, length-insert (start .args .s) (listOf st), length-take-le (st .count) (st .spells) (omega (arith, whole start))))
+    (omega (arith, length-insert earlierOf (start .args .s) (listOf st), length-take-le (st .count) (st .spells) (omega (arith, whole start))))
     (head .loop .inv .3)
     (head .loop .inv .4)
 

@@ -1,7 +1,4 @@
-use mathlib.Core.Path.{_≡_, sym}
-use Prim.Native.Nat.{_-_, _≤_, _<_}
-use native.Mathlib.Omega.{arith}
-use lib.ListN.{length}
+use Rattle.basis.proofs.Prelude.{_≡_, sym, _-_, _<_, _≤_, length, arith}
 use denote.Ref.{now}
 use Rattle.standing.proofs.Calls.{list-length}
 use Rattle.standing.proofs.Rows.{Filled, filled-none, filled-more, filled-all}

@@ -1,14 +1,7 @@
-use borrow.Author.Needs.{needs}
-use borrow.Author.Tests.{not-true, not-false}
-use mathlib.Core.Path.{_≡_, sym, _∙_}
-use Prim.Native.Nat.{_+_, _-_, _≤_}
-use native.Mathlib.Nat.{zero-add}
-use native.Mathlib.Omega.{arith}
-use lib.ListN.{length, drop}
+use Rattle.basis.proofs.Prelude.{_∙_, _≡_, sym, _+_, _-_, _≤_, drop, length, zero-add, arith, needs, not-false, not-true, unmapped}
 use Rattle.spell.specs.Order.{earlierOf}
 use Rattle.standing.specs.Standing.{listOf}
 use Rattle.standing.specs.Search.{placeOf}
-use Rattle.standing.proofs.Lists.{unmapped}
 use Rattle.standing.proofs.Search.{walk-on, walk-stops, walk-ends}
 use Rattle.standing.proofs.place.Statement.{statement}
 use Rattle.standing.proofs.place.Tie as tie

@@ -1,10 +1,6 @@
-use borrow.Author.Needs.{needs}
-use mathlib.Core.Path.{_≡_, refl}
-use Prim.Native.Nat.{_-_, _≤_}
-use native.Mathlib.Omega.{arith}
-use lib.ListN.{length}
+use Rattle.basis.proofs.Prelude.{_≡_, refl, _-_, _≤_, length, arith, needs, unmapped}
 use Rattle.standing.specs.Places.{blankEntry}
-use Rattle.standing.proofs.Lists.{unmapped, closed, close-none, close-step}
+use Rattle.standing.proofs.Lists.{closed, close-none, close-step}
 use Rattle.standing.proofs.Past.{push-room, push-full}
 use Rattle.standing.proofs.pushed.Statement.{statement}
 use Rattle.standing.proofs.pushed.Tie as tie

@@ -1,10 +1,6 @@
-use borrow.Author.Needs.{needs}
-use mathlib.Core.Path.{_≡_, ap, _∙_}
-use native.Mathlib.Omega.{arith}
-use lib.ListN.{length}
+use Rattle.basis.proofs.Prelude.{_∙_, _≡_, ap, length, arith, needs, unmapped}
 use Rattle.standing.specs.Standing.{listOf}
 use Rattle.standing.specs.Places.{relisted}
-use Rattle.standing.proofs.Lists.{unmapped}
 use Rattle.standing.proofs.Calls.{removed-is, removed-none}
 use Rattle.standing.proofs.removed.Statement.{statement}
 use Rattle.standing.proofs.removed.Tie as tie

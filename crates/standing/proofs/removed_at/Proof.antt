@@ -1,12 +1,7 @@
-use borrow.Author.Needs.{needs}
-use mathlib.Core.Path.{_≡_, refl, _∙_}
-use Prim.Native.Nat.{suc, _-_, _≤_, _<_}
-use native.Mathlib.Omega.{arith}
-use lib.ListN.{length, take, drop, length-append, length-drop}
-use lib.Seq.{length-take-le}
-use Rattle.register.specs.Answers.{blank}
+use Rattle.basis.proofs.Prelude.{_∙_, _≡_, refl, _-_, _<_, _≤_, suc, drop, length, length-append, length-drop, take, length-take-le, arith, needs, unmapped}
+use Rattle.spell.specs.Blank.{blank}
 use Rattle.standing.specs.Standing.{listOf}
-use Rattle.standing.proofs.Lists.{unmapped, closed, close-none, close-step, close-all}
+use Rattle.standing.proofs.Lists.{closed, close-none, close-step, close-all}
 use Rattle.standing.proofs.Places.{same}
 use Rattle.standing.proofs.removed_at.Statement.{statement}
 use Rattle.standing.proofs.removed_at.Tie as tie

@@ -1,4 +1,4 @@
-use borrow.Author.Needs.{needs}
+use Rattle.basis.proofs.Prelude.{needs}
 use Rattle.standing.proofs.Calls.{strike-unknown, strike-made}
 use Rattle.standing.proofs.strike.Statement.{statement}
 use Rattle.standing.proofs.strike.Tie as tie

@@ -1,5 +1,4 @@
-use borrow.Author.Needs.{needs}
-use borrow.Author.Tests.{not-true, not-false}
+use Rattle.basis.proofs.Prelude.{needs, not-false, not-true}
 use Rattle.standing.proofs.Calls.{takes-none, undo-entered, undo-room, undo-stood}
 use Rattle.standing.proofs.take_back.Statement.{statement}
 use Rattle.standing.proofs.take_back.Tie as tie

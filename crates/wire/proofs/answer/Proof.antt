@@ -1,6 +1,5 @@
 -- `wire::answer` meets its contract. Assumes nothing.
-use borrow.Author.Needs.{needs}
-use native.Mathlib.Omega.{arith}
+use Rattle.basis.proofs.Prelude.{arith, needs}
 use Rattle.requests.proofs.Asking.{parsed-days, parsed-room}
 use Rattle.wire.proofs.Serving.{room-fits, served}
 use Rattle.wire.proofs.answer.Statement.{statement}
@@ -21,7 +20,7 @@ returns c =
     let parsed = clamped .before .before in
     let start = parsed .before .before .before .before in
     let a = start .args in
-    served (a .service) (a .index .now) (a .room) (a .line .now) (a .payload .now) (a .days .now) (a .numbers .now) (a .text .now) (a .out .now) _ _ _ _ _ _ _
+    served (a .service) _ (a .room) (a .line .now) (a .payload .now) (a .days .now) (a .numbers .now) (a .text .now) (a .out .now) _ _ _ _ _ _ _
     (omega (arith, start .good)) (parsed .parse .ensures) (rw (clamped .room-of .ensures) at (c .turn .ensures))
 
 pub answer-spec : {M : Type 1} → statement M

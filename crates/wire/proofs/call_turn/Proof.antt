@@ -1,6 +1,5 @@
 -- `wire::call_turn` meets its contract. Assumes nothing.
-use borrow.Author.Needs.{needs}
-use native.Mathlib.Omega.{arith}
+use Rattle.basis.proofs.Prelude.{arith, needs}
 use Rattle.service.specs.Service.{asking}
 use Rattle.wire.proofs.Replying.{fits, called}
 use Rattle.wire.proofs.call_turn.Statement.{statement}

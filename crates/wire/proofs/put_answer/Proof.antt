@@ -1,9 +1,5 @@
 -- `wire::put_answer` meets its contract. Assumes nothing.
-use borrow.Author.Needs.{needs}
-use native.Mathlib.Omega.{arith}
-use mathlib.Core.Path.{sym}
-use lib.ListN.{take}
-use lib.Seq.{length-take-le}
+use Rattle.basis.proofs.Prelude.{sym, take, length-take-le, arith, needs}
 use Rattle.wire.specs.Replies.{foundText}
 use Rattle.wire.proofs.Replying.{sends-found}
 use Rattle.wire.proofs.put_answer.Statement.{statement}

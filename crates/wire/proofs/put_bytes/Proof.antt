@@ -1,6 +1,5 @@
 -- `wire::put_bytes` meets its contract. Assumes nothing.
-use borrow.Author.Needs.{needs}
-use native.Mathlib.Omega.{arith}
+use Rattle.basis.proofs.Prelude.{arith, needs}
 use Rattle.wire.specs.Replies.{bytesText}
 use Rattle.fields.proofs.Puts.{puts-before, puts-past}
 use Rattle.wire.proofs.Sending.{put-copied}

@@ -1,8 +1,5 @@
 -- `wire::put_found` meets its contract. Assumes nothing.
-use borrow.Author.Needs.{needs}
-use native.Mathlib.Omega.{arith}
-use mathlib.Core.Path.{sym}
-use lib.Seq.{length-take-le}
+use Rattle.basis.proofs.Prelude.{sym, length-take-le, arith, needs}
 use Rattle.wire.proofs.put_found.Statement.{statement}
 use Rattle.wire.proofs.put_found.Tie as tie
 

@@ -1,6 +1,5 @@
 -- `wire::put_listed` meets its contract. Assumes nothing.
-use borrow.Author.Needs.{needs}
-use native.Mathlib.Omega.{arith}
+use Rattle.basis.proofs.Prelude.{arith, needs}
 use Rattle.fields.specs.Fields.{numbersText}
 use Rattle.wire.specs.Replies.{listedWord, listedText}
 use Rattle.wire.proofs.Sending.{put-end, put-sends, on-number, on-numbers, on-bytes}

@@ -1,6 +1,5 @@
 -- `wire::put_malformed` meets its contract. Assumes nothing.
-use borrow.Author.Needs.{needs}
-use native.Mathlib.Omega.{arith}
+use Rattle.basis.proofs.Prelude.{arith, needs}
 use Rattle.wire.specs.Replies.{malformedText}
 use Rattle.wire.proofs.Sending.{put-end, put-sends, on-bytes}
 use Rattle.wire.proofs.put_malformed.Statement.{statement}

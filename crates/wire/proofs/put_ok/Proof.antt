@@ -1,6 +1,5 @@
 -- `wire::put_ok` meets its contract. Assumes nothing.
-use borrow.Author.Needs.{needs}
-use native.Mathlib.Omega.{arith}
+use Rattle.basis.proofs.Prelude.{arith, needs}
 use Rattle.wire.specs.Replies.{okText}
 use Rattle.wire.proofs.Sending.{put-end, put-sends, on-bytes}
 use Rattle.wire.proofs.put_ok.Statement.{statement}

@@ -1,8 +1,5 @@
 -- `wire::put_reply` meets its contract. Assumes nothing.
-use borrow.Author.Needs.{needs}
-use native.Mathlib.Omega.{arith}
-use mathlib.Core.Path.{sym}
-use lib.Seq.{length-take-le}
+use Rattle.basis.proofs.Prelude.{sym, length-take-le, arith, needs}
 use Rattle.wire.specs.Replies.{acceptedText}
 use Rattle.wire.proofs.Replying.{sends-refused, sends-accepted}
 use Rattle.wire.proofs.put_reply.Statement.{statement}

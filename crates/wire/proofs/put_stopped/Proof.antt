@@ -1,6 +1,5 @@
 -- `wire::put_stopped` meets its contract. Assumes nothing.
-use borrow.Author.Needs.{needs}
-use native.Mathlib.Omega.{arith}
+use Rattle.basis.proofs.Prelude.{arith, needs}
 use Rattle.wire.specs.Replies.{refusedWord, stoppedText}
 use Rattle.wire.proofs.Sending.{put-end, put-sends, on-number, on-bytes}
 use Rattle.wire.proofs.put_stopped.Statement.{statement}

@@ -1,7 +1,5 @@
 -- `wire::put_written` meets its contract. Assumes nothing.
-use borrow.Author.Needs.{needs}
-use native.Mathlib.Omega.{arith}
-use mathlib.Core.List.{append-nil}
+use Rattle.basis.proofs.Prelude.{append-nil, arith, needs}
 use Rattle.wire.specs.Replies.{textWord, writtenText}
 use Rattle.wire.proofs.Sending.{put-end, put-sends, on-number, on-bytes}
 use Rattle.wire.proofs.put_written.Statement.{statement}

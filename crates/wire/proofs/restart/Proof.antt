@@ -1,5 +1,5 @@
 -- `wire::restart` meets its contract. Assumes nothing.
-use borrow.Author.Needs.{needs}
+use Rattle.basis.proofs.Prelude.{needs}
 use Rattle.wire.proofs.Turns.{restart-long, restart-refused, restart-ok}
 use Rattle.wire.proofs.restart.Statement.{statement}
 use Rattle.wire.proofs.restart.Tie as tie

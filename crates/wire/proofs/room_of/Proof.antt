@@ -1,5 +1,5 @@
 -- `wire::room_of` meets its contract. Assumes nothing.
-use mathlib.Core.Path.{sym}
+use Rattle.basis.proofs.Prelude.{sym}
 use Rattle.wire.proofs.Serving.{room-same, room-largest}
 use Rattle.wire.proofs.room_of.Statement.{statement}
 use Rattle.wire.proofs.room_of.Tie as tie

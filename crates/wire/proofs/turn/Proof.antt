@@ -1,9 +1,5 @@
 -- `wire::turn` meets its contract. Assumes nothing.
-use borrow.Author.Needs.{needs}
-use native.Mathlib.Omega.{arith}
-use mathlib.Core.Path.{sym}
-use lib.ListN.{take}
-use lib.Seq.{length-take-le}
+use Rattle.basis.proofs.Prelude.{sym, take, length-take-le, arith, needs}
 use Rattle.wire.proofs.Turns.{turn-call, turn-read, turn-room, turn-malformed}
 use Rattle.wire.proofs.turn.Statement.{statement}
 use Rattle.wire.proofs.turn.Tie as tie
@@ -36,7 +32,7 @@ returns c =
     let a = known .before .before .before .before .before .before .args in
     let d = c .before .before .before .before .call-turn in
     rw (known .request .given .1)
-    (turn-call (a .service) (a .index .now) (a .room) (a .payload .now) (a .numbers .now) (a .text .now) (a .out .now) _ _ (known .request .given .0 .0) (take (known .request .given .0 .1 .0) (a .days .now)) _ _ (d .result) (d .ensures))
+    (turn-call (a .service) _ (a .room) (a .payload .now) (a .numbers .now) (a .text .now) (a .out .now) _ (known .request .given .0 .0) (take (known .request .given .0 .1 .0) (a .days .now)) _ _ (d .result) (d .ensures))
 
 returns-2 : tie.Need-returns-2
 returns-2 c =
@@ -44,7 +40,7 @@ returns-2 c =
     let start = known .before .before .before .before .before .before in
     let a = start .args in
     rw (known .request2 .given .1)
-    (turn-room (a .service) (a .index .now) (a .room) (a .payload .now) (a .numbers .now) (a .text .now) (a .out .now) (a .index .now) _ (start .pre .0) (c .put-ok .result) (known .request2 .given .0 .0) (rw (known .request2 .given .1) at (start .pre .1 .0 .1)) (c .put-ok .ensures))
+    (turn-room (a .service) _ (a .room) (a .payload .now) (a .numbers .now) (a .text .now) (a .out .now) _ (start .pre .0) (c .put-ok .result) (known .request2 .given .0 .0) (rw (known .request2 .given .1) at (start .pre .1 .0 .1)) (c .put-ok .ensures))
 
 returns-3 : tie.Need-returns-3
 returns-3 c =
@@ -52,7 +48,7 @@ returns-3 c =
     let start = known .before .before .before .before .before .before in
     let a = start .args in
     rw (known .request3 .given .1)
-    (turn-read (a .service) (a .index .now) (a .room) (a .payload .now) (a .numbers .now) (a .text .now) (a .out .now) _ _ (known .request3 .given .0 .0) (c .restart .result) (start .pre .1 .0 .0) (c .restart .ensures))
+    (turn-read (a .service) _ (a .room) (a .payload .now) (a .numbers .now) (a .text .now) (a .out .now) _ (known .request3 .given .0 .0) (c .restart .result) (start .pre .1 .0 .0) (c .restart .ensures))
 
 returns-4 : tie.Need-returns-4
 returns-4 c =
@@ -60,7 +56,7 @@ returns-4 c =
     let start = told .before .before .before .before .before .before in
     let a = start .args in
     rw (told .enum-told .given .1)
-    (turn-malformed (a .service) (a .index .now) (a .room) (a .payload .now) (a .numbers .now) (a .text .now) (a .out .now) (a .index .now) _ (start .pre .0) (c .put-malformed .result) (start .pre .1 .0 .0) (c .put-malformed .ensures))
+    (turn-malformed (a .service) _ (a .room) (a .payload .now) (a .numbers .now) (a .text .now) (a .out .now) _ (start .pre .0) (c .put-malformed .result) (start .pre .1 .0 .0) (c .put-malformed .ensures))
 
 pub turn-spec : {M : Type 1} → statement M
 turn-spec =

@@ -1,8 +1,7 @@
 -- `standing::words::entry_at` meets its contract. Assumes nothing.
-use mathlib.Core.Path.{sym}
+use Rattle.basis.proofs.Prelude.{sym, needs}
 use denote.Ref.{now}
 use Rattle.standing.proofs.Packed.{entry-at}
-use borrow.Author.Needs.{needs}
 use Rattle.standing.proofs.words.entry_at.Statement.{statement}
 use Rattle.standing.proofs.words.entry_at.Tie as tie
 

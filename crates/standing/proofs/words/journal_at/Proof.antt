@@ -1,10 +1,5 @@
 -- `standing::words::journal_at` meets its contract. The loop's invariant: the first i entries are read. Assumes nothing.
-use mathlib.Core.Path.{_≡_, refl}
-use mathlib.Core.List.{_++_}
-use Prim.Native.Nat.{_-_, _*_, _≤_}
-use native.Mathlib.Omega.{arith}
-use borrow.Author.Needs.{needs}
-use lib.ListN.{drop}
+use Rattle.basis.proofs.Prelude.{_≡_, refl, _*_, _-_, _≤_, _++_, drop, arith, needs}
 use Rattle.packing.specs.Blocks.{parts}
 use Rattle.packing.proofs.Blocks.{parts-more, parts-done}
 use Rattle.standing.specs.Packed.{entryOf}

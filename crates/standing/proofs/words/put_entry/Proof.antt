@@ -1,11 +1,8 @@
 -- `standing::words::put_entry` meets its contract. Assumes nothing.
-use mathlib.Core.Path.{ap, _∙_}
-use native.Mathlib.Omega.{arith}
-use lib.ListN.{length, length-set}
+use Rattle.basis.proofs.Prelude.{_∙_, ap, length, length-set, arith, needs}
 use denote.Ref.{now}
 use Rattle.packing.proofs.Blocks.{put-length}
 use Rattle.standing.proofs.Packed.{put-entry, entry-back}
-use borrow.Author.Needs.{needs}
 use Rattle.standing.proofs.words.put_entry.Statement.{statement}
 use Rattle.standing.proofs.words.put_entry.Tie as tie
 

@@ -1,9 +1,5 @@
 -- `standing::words::put_journal` meets its contract. The loop's invariant: the words of the first i entries are put. Assumes nothing.
-use mathlib.Core.Path.{_≡_}
-use Prim.Native.Nat.{_-_, _*_, _≤_}
-use native.Mathlib.Omega.{arith}
-use borrow.Author.Needs.{needs}
-use lib.ListN.{length}
+use Rattle.basis.proofs.Prelude.{_≡_, _*_, _-_, _≤_, length, arith, needs}
 use denote.Ref.{now}
 use Rattle.packing.proofs.Blocks.{Laid, laid-none, laid-more, laid-length, laid-all}
 use Rattle.standing.specs.Packed.{entryWords, entryOf}

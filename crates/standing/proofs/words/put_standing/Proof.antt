@@ -1,10 +1,7 @@
 -- `standing::words::put_standing` meets its contract. Assumes nothing.
-use mathlib.Core.Path.{refl, sym, _∙_}
-use native.Mathlib.Omega.{arith}
-use lib.ListN.{length-set}
+use Rattle.basis.proofs.Prelude.{_∙_, refl, sym, length-set, arith, needs}
 use denote.Ref.{now}
 use Rattle.standing.proofs.Packed.{put-part, packed-length}
-use borrow.Author.Needs.{needs}
 use Rattle.standing.proofs.words.put_standing.Statement.{statement}
 use Rattle.standing.proofs.words.put_standing.Tie as tie
 

@@ -1,8 +1,7 @@
 -- `standing::words::standing_at` meets its contract. Assumes nothing.
-use native.Mathlib.Omega.{arith}
+use Rattle.basis.proofs.Prelude.{arith, needs}
 use denote.Ref.{now}
 use Rattle.standing.proofs.Packed.{read-standing}
-use borrow.Author.Needs.{needs}
 use Rattle.standing.proofs.words.standing_at.Statement.{statement}
 use Rattle.standing.proofs.words.standing_at.Tie as tie
 

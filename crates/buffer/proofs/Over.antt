@@ -1,0 +1,37 @@
+-- What is over a list: laws of values in its first places. Assumes nothing.
+use Rattle.basis.proofs.Prelude.{_∙_, _≡_, ap, sym, _+_, _-_, _≤_, ℕ, List, _++_, drop, length, length-append, length-drop, length-replicate, replicate, replicate-append-replicate, take, take-append-drop, drop-append-add, drop-at, drop-drop, length-take-le, arith}
+use Rattle.buffer.specs.Buffer.{over}
+
+module _ {A : Type 0} where
+  -- the list is as long as before
+  pub over-length : (l a : List A) → length l ≤ length a → length (over l a) ≡ length a
+  over-length l a h = omega (arith, length-append l (drop (length l) a), length-drop (length l) a)
+
+  -- its own first values change nothing
+  pub own-over : (n : ℕ) (a : List A) → n ≤ length a → over (take n a) a ≡ a
+  own-over n a h = rw (length-take-le n a h) (take-append-drop n a)
+
+  -- the places past those that were written
+  drop-over : (m : List A) (n : ℕ) (a : List A) → length m ≤ n → drop n (over m a) ≡ drop n a
+  drop-over m n a h =
+      let is : n ≡ length m + (n - length m) = omega arith in
+      rw is (drop-append-add m (drop (length m) a) (n - length m) ∙ drop-drop (n - length m) (length m) a)
+
+  -- of two writings the longer one stays
+  pub over-twice : (m l a : List A) → length m ≤ length l → over l (over m a) ≡ over l a
+  over-twice m l a h = ap (λ (r : List A). l ++ r) (drop-over m (length l) a h)
+
+  -- a list whose first n places hold l, and whose later places are those of a
+  pub over-is : (l a b : List A) (n : ℕ) → n ≤ length b → take n b ≡ l → drop n b ≡ drop n a → b ≡ over l a
+  over-is l a b n h first rest =
+      let long : length l ≡ n = ap length (sym first) ∙ length-take-le n b h in
+      sym (take-append-drop n b) ∙ rw (first, rest, long)
+
+  -- blank places stay past the values
+  pub over-blank : (l : List A) (n : ℕ) (x : A) → length l ≤ n → over l (replicate n x) ≡ l ++ replicate (n - length l) x
+  over-blank l n x h =
+      let is : n ≡ length l + (n - length l) = omega arith in
+      ap (λ (r : List A). l ++ r)
+      (ap (λ (k : ℕ). drop (length l) (replicate k x)) is
+      ∙ ap (drop (length l)) (sym (replicate-append-replicate (length l) (n - length l) x))
+      ∙ drop-at (replicate (length l) x) (replicate (n - length l) x) (length l) (length-replicate (length l) x))

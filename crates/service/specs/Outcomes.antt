@@ -1,0 +1,30 @@
+-- What a call tells beside its lent lists: every outcome is one of these. Assumes nothing.
+use Prim.Native.Nat.{ℕ}
+use mathlib.Core.List.{List}
+use Rattle.register.specs.declared.Written.{Written}
+use Rattle.stabbing.specs.declared.Listed.{Listed}
+use Rattle.model.specs.Model.{Answer}
+use Rattle.service.specs.declared.Outcome.{Outcome}
+
+-- a number and no more: the refusal's, or 0
+abbrev pub toldOf : ℕ → Outcome
+toldOf n = record { refusal = n; count = 0; comparisons = 0; length = 0 }
+
+-- what a question found in the index
+abbrev pub foundOf : Listed → Outcome
+foundOf l = record { refusal = l .refusal; count = l .count; comparisons = l .comparisons; length = 0 }
+
+-- what was written of a text
+abbrev pub wroteOf : Written → Outcome
+wroteOf w = record { refusal = w .refusal; count = 0; comparisons = 0; length = w .length }
+
+-- a call's outcome with what its lent lists hold afterwards, as the account's answer
+abbrev pub answerOf : Outcome → List ℕ → List ℕ → Answer
+answerOf o numbers text = record {
+  refusal = o .refusal;
+  count = o .count;
+  comparisons = o .comparisons;
+  length = o .length;
+  numbers = numbers;
+  text = text;
+}

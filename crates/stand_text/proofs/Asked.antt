@@ -1,0 +1,90 @@
+-- What the answer to a day says of the published list that an index shows. Assumes nothing.
+use Rattle.basis.proofs.Prelude.{_≡_, ap, refl, subst, sym, _≤_, ℕ, List, [], _∷_, map, Bool, cond, false, true, leb, drop, length, take, take-append-seam, arith, le-leb, leb-true, both, by-cases, clash}
+use Rattle.spell.specs.declared.Spell.{Spell}
+use Rattle.calendar.specs.Calendar.{isDay}
+use Rattle.spell.specs.Listing.{Each, Sound, Good}
+use Rattle.spell.proofs.Entered.{entered}
+use Rattle.standing.proofs.Calls.{fresh-is}
+use Rattle.model.specs.declared.Call.the-variants.{Ask}
+use Rattle.model.specs.declared.Question.the-variants.{Day}
+use Rattle.model.specs.Questions.{onDay, filter, listed, comparisonsOf}
+use Rattle.model.specs.Effects.{State, withPublished, Request, Answer, After, Effect, gives, settle}
+use Rattle.model.specs.Model.{fresh, ask, effectOf}
+use Rattle.model.proofs.Filter.{listed-few}
+use Rattle.model.proofs.Bridge.{comparisons-le}
+use Rattle.service.specs.declared.Outcome.{Outcome}
+use Rattle.service.specs.Places.{freshService}
+use Rattle.service.specs.Service.{blocks, Shows, Represents, Asked, asking}
+use Rattle.service.proofs.Represented.{represented}
+
+-- a spell stands on no day off the calendar
+stands-on : (d : ℕ) (s : Spell) → Sound s → onDay d s ≡ true → isDay d ≡ true
+stands-on d s g e =
+    let n = entered s (g .entered) in
+    let f = both (leb (s .first) d) (leb d (s .last)) e in
+    rw (le-leb 1 d (omega (arith, n .first-up, leb-true (s .first) d (f .0))), le-leb d 4000 (omega (arith, n .last-day, leb-true d (s .last) (f .1))))
+
+filter-off : (d : ℕ) → isDay d ≡ false → (p : List Spell) → Each Sound p → filter (onDay d) p ≡ []
+unfolding filter Each
+filter-off d off [] g = refl
+filter-off d off (s ∷ p) g = go (onDay d s) refl (filter-off d off p (g .1))
+  where
+    go : (b : Bool) → onDay d s ≡ b → filter (onDay d) p ≡ [] → cond b (s ∷ filter (onDay d) p) (filter (onDay d) p) ≡ []
+    go true e h = absurd (clash (stands-on d s (g .0) e) off)
+    go false e h = h
+
+-- ---- The answer
+
+-- k spells stand on day d, with c comparisons (document 01's looks), and their numbers are the first of a list
+pub record Told (p : List Spell) (d k c : ℕ) (out : List ℕ) : Type 0 where
+  pub count : k ≡ length (listed (onDay d) p)
+  pub comparisons : c ≡ comparisonsOf d d p
+  pub numbers : take k out ≡ listed (onDay d) p
+  pub few : k ≤ 1024
+  pub comparisons-few : c ≤ 3072
+
+module _ (m : State) (q : Request) (g : Good (m .published)) (room : 1024 ≤ length (q .numbers)) (d : ℕ) where
+  abbrev p : List Spell
+  p = m .published
+
+  abbrev ToldBy : After → Type 0
+  ToldBy x = Told p d (x .answer .count) (x .answer .comparisons) (x .answer .numbers)
+
+  told-on : ToldBy (settle (gives (listed (onDay d) p) (comparisonsOf d d p)) m q)
+  unfolding settle
+  told-on =
+      let few : length (listed (onDay d) p) ≤ 1024 = omega (arith, listed-few (onDay d) p, g .few) in
+      by-cases ToldBy (leb (length (listed (onDay d) p)) (length (q .numbers)))
+      (λ _. record {
+        count = refl;
+        comparisons = refl;
+        numbers = take-append-seam (listed (onDay d) p) (drop (length (listed (onDay d) p)) (q .numbers));
+        few = few;
+        comparisons-few = omega (arith, comparisons-le d d p);
+      })
+      (λ e. absurd (clash (le-leb (length (listed (onDay d) p)) (length (q .numbers)) (omega arith)) e))
+
+  told : ToldBy (settle (ask (Day d) (q .days) p) m q)
+  unfolding ask settle
+  told =
+      by-cases (λ (e : Effect). ToldBy (settle e m q)) (isDay d) (λ _. told-on) (λ off.
+      let none : listed (onDay d) p ≡ [] = ap (map (λ (s : Spell). s .number)) (filter-off d off p (g .each)) in
+      record {
+        count = rw none;
+        comparisons = omega (arith, comparisons-le d d p, ap length none);
+        numbers = rw none;
+        few = omega arith;
+        comparisons-few = omega arith;
+      })
+
+-- a question's answer does not go by what stands, so the service beside the index may be a fresh one, and the state one in which nothing stands
+pub day-tells : (ix : List ℕ) (p : List Spell) (d : ℕ) (days ns : List ℕ) (o : Outcome) (ns′ : List ℕ) → 1024 ≤ length ns → Shows ix p
+    → Asked (blocks ix) (Day d) days ns o ns′ → Told p d (o .count) (o .comparisons) ns′
+unfolding effectOf
+day-tells ix p d days ns o ns′ room s a =
+    let alone : State = withPublished p fresh in
+    let stood : Represents freshService (blocks ix) alone
+    = record { valid = record { standing = fresh-is .wf }; standing = fresh-is .list; past = fresh-is .past; shows = s } in
+    let same = a .met _ [] (represented stood) .answer alone stood in
+    subst (λ (x : Answer). Told p d (x .count) (x .comparisons) (x .numbers)) (sym same)
+    (told alone (asking (Ask (Day d)) days ns []) (s .good) room d)

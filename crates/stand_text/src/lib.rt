@@ -1,0 +1,95 @@
+// What the program `stand` prints: each line put into the last places of a buffer, and the whole text in parts of many lines.
+ghost use Prim.Native.Nat.{_≤_, _+_, _-_};
+ghost use mathlib.Core.List.{_++_};
+ghost use lib.ListN.{length, drop};
+ghost use Rattle.fields.specs.Answers.{Puts};
+ghost use Rattle.service.specs.Service.{Published};
+ghost use Rattle.stand_text.specs.Report.{Appends, DayEnds, PartStands, RefusedEnds};
+use stabbing::INDEX;
+
+const TAB: u8 = 9;
+
+// The places of a buffer: a line has at most 1,027 numbers, and each takes six at most with the byte that ends it.
+pub const LINE: usize = 8192;
+
+// Day d's line over the published list: the place where it begins, which is the end where nobody stands.
+pub fn day_line(index: &[u16; INDEX], d: u16, buf: &mut [u8; LINE]) -> usize
+    requires { ⌜ Published (now index) ⌝ }
+    ensures { λ r. ⌜ DayEnds (now (index .entry)) d (now (buf .entry)) r (now (buf .exit)) ⌝ }
+{
+    let mut numbers = [0u16; 1024];
+    let o = service::day(index, d, &mut numbers);
+    let k = o.count;
+    let comparisons = o.comparisons;
+    let at_numbers = decimals::put_numbers(buf, LINE, &numbers[..k]);
+    if k == 0 {
+        return at_numbers;
+    }
+    let at_comparisons = decimals::put_number(buf, at_numbers, comparisons as u16, TAB);
+    let at_count = decimals::put_number(buf, at_comparisons, k as u16, TAB);
+    decimals::put_number(buf, at_count, d, TAB)
+}
+
+// The places of a list for a part, the bytes of a part that has room for one line more, and the last day of the calendar.
+pub const PART: usize = 65536;
+
+const ROOMY: usize = PART - LINE;
+
+pub const LAST_DAY: u16 = 4000;
+
+// Whole lines in the first places of a list: how many bytes they have, and the day to go on with.
+pub struct Part {
+    pub bytes: usize,
+    pub next: u16,
+}
+
+// What stands in a buffer from `from` on, copied to the place `at` of a list: the place after it.
+fn append(buf: &[u8], from: usize, out: &mut [u8], at: usize) -> usize
+    requires { ⌜ from ≤ length (now buf) ⌝ }
+    requires { ⌜ at + (length (now buf) - from) ≤ length (now out) ⌝ }
+    ensures { λ r. ⌜ Appends (drop from (now (buf .entry))) (now (out .entry)) at r (now (out .exit)) ⌝ }
+{
+    let end = at + (buf.len() - from);
+    bytes::copy(&buf[from..], &mut out[at..end]);
+    end
+}
+
+// The next part of the text of all days: the lines from day `from` on, as long as there is room for one more.
+pub fn days_part(index: &[u16; INDEX], from: u16, out: &mut [u8; PART]) -> Part
+    requires { ⌜ Published (now index) ⌝ }
+    ensures { λ r. ⌜ PartStands (now (index .entry)) from (now (out .entry)) r (now (out .exit)) ⌝ }
+{
+    let mut buf = [0u8; LINE];
+    let mut bytes = 0;
+    let mut d = from;
+    while d <= LAST_DAY && bytes <= ROOMY {
+        let at = day_line(index, d, &mut buf);
+        bytes = append(&buf, at, out, bytes);
+        d += 1;
+    }
+    Part { bytes, next: d }
+}
+
+// The bytes of a word before the place `at`: the place where it begins.
+fn put_word(buf: &mut [u8], at: usize, word: &[u8]) -> usize
+    requires { ⌜ length (now word) ≤ at ⌝ }
+    requires { ⌜ at ≤ length (now buf) ⌝ }
+    ensures { λ r. ⌜ Puts (length (now (word .entry))) (λ rest. now (word .entry) ++ rest) (now (buf .entry)) at r (now (buf .exit)) ⌝ }
+{
+    let mut place = at;
+    let mut i = word.len();
+    while 0 < i {
+        i -= 1;
+        place = fields::put_byte(buf, place, word[i]);
+    }
+    place
+}
+
+// The line of a refused text: the place where it begins.
+pub fn refused_line(number: u16, line: u16, buf: &mut [u8; LINE]) -> usize
+    ensures { λ r. ⌜ RefusedEnds number line (now (buf .entry)) r (now (buf .exit)) ⌝ }
+{
+    let pair = [number, line];
+    let at_pair = decimals::put_numbers(buf, LINE, &pair);
+    put_word(buf, at_pair, b"refused\t")
+}

@@ -1,0 +1,69 @@
+//! The published list and the questions put to it.
+
+use crate::account::Answered;
+use crate::call::{Answer, Question, Refusal, Spell};
+use crate::entry::{check, check_day, find, order};
+use crate::tree::Tree;
+use std::cell::OnceCell;
+
+#[derive(Clone, Default)]
+pub struct Published {
+    /// In the order of the answers.
+    pub spells: Vec<Spell>,
+    /// Made when the first question needs it.
+    tree: OnceCell<Tree>,
+}
+
+impl Published {
+    pub fn of(standing: &[Spell]) -> Published {
+        let mut spells = standing.to_vec();
+        spells.sort_by_key(order);
+        Published { spells, tree: OnceCell::new() }
+    }
+
+    pub fn tree(&self) -> &Tree {
+        self.tree.get_or_init(|| Tree::of(&self.spells))
+    }
+
+    pub fn ask(&self, question: &Question) -> Answered {
+        match question {
+            Question::Day(d) => {
+                check_day(*d)?;
+                Ok(self.with_looks(|spell| on_day(spell, *d)))
+            }
+            Question::Span(a, b) => {
+                check_day(*a)?;
+                check_day(*b)?;
+                check(a <= b, Refusal::BACKWARDS)?;
+                Ok(self.with_looks(|spell| spell.first <= *b && spell.last >= *a))
+            }
+            Question::Cover(number) => {
+                let covered = find(&self.spells, *number).ok_or(Refusal::UNKNOWN)?;
+                Ok(self.with_looks(|spell| spell.first <= covered.first && spell.last >= covered.last))
+            }
+            Question::Days(days) => {
+                days.iter().try_for_each(|d| check_day(*d))?;
+                check(days.windows(2).all(|pair| pair[0] < pair[1]), Refusal::DAYS_UNSORTED)?;
+                Ok(self.listed(&self.fitting(|spell| days.iter().any(|d| on_day(spell, *d))), None))
+            }
+        }
+    }
+
+    /// The positions of the spells that fit.
+    pub fn fitting(&self, fits: impl Fn(&Spell) -> bool) -> Vec<usize> {
+        (0..self.spells.len()).filter(|&at| fits(&self.spells[at])).collect()
+    }
+
+    fn with_looks(&self, fits: impl Fn(&Spell) -> bool) -> Answer {
+        let listed = self.fitting(fits);
+        self.listed(&listed, Some(self.tree().looks(&listed)))
+    }
+
+    fn listed(&self, listed: &[usize], looks: Option<usize>) -> Answer {
+        Answer::Listed { numbers: listed.iter().map(|&at| self.spells[at].number).collect(), looks }
+    }
+}
+
+fn on_day(spell: &Spell, d: u16) -> bool {
+    spell.first <= d && d <= spell.last
+}

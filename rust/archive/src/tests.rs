@@ -1,0 +1,55 @@
+//! What a host in Rust is promised beside the answers.
+
+use crate::phayaklit::{
+    self, Listed, Published, Refusal, WrongLength, INDEX_WORDS, SERVICE_WORDS, SPELLS, STACK_BYTES,
+};
+use crate::target::{words, LENGTHS};
+
+#[test]
+fn blocks_of_wrong_lengths_are_refused() {
+    for (service, index) in [(0, 0), (SERVICE_WORDS - 1, INDEX_WORDS), (SERVICE_WORDS + 1, INDEX_WORDS)] {
+        let refused = Some(WrongLength { needed: SERVICE_WORDS, lent: service });
+        assert_eq!(phayaklit::fresh(words(service), words(index)).err(), refused);
+        assert_eq!(phayaklit::read(b"", words(service), words(index)).err(), refused);
+    }
+    for index in [0, INDEX_WORDS - 1, INDEX_WORDS + 1] {
+        let refused = Some(WrongLength { needed: INDEX_WORDS, lent: index });
+        assert_eq!(phayaklit::fresh(words(SERVICE_WORDS), words(index)).err(), refused);
+        assert_eq!(unsafe { Published::shared(words(index)) }.err(), refused);
+    }
+}
+
+/// The words of a shared index answer as the index itself does.
+#[test]
+fn a_shared_index_answers() {
+    let begun = phayaklit::read(b"5\t1\t2\t9\tG\t1\n", words(SERVICE_WORDS), words(INDEX_WORDS));
+    let (service, mut index, read) = begun.expect(LENGTHS);
+    assert_eq!(read, Ok(()));
+    service.publish(&mut index);
+    let shared = unsafe { Published::shared(index.into_words()) }.expect(LENGTHS);
+    let mut numbers = [0];
+    assert_eq!(shared.day(9, &mut numbers), Ok(Listed { count: 1, looks: 0 }));
+    assert_eq!(numbers, [5]);
+    assert_eq!(shared.day(9, &mut []), Err(Refusal::SHORT_BUFFER));
+}
+
+/// A full register read, edited, published and written, and all days asked of a list whose walks are the deepest, in a
+/// thread with the least stack that a host may give.
+#[test]
+fn the_deepest_calls_have_stack_enough() {
+    let nested = (1..SPELLS).map(|at| format!("{at}\t1\t{at}\t3999\tG\t1\n"));
+    let text: String = nested.chain([format!("{SPELLS}\t1\t{SPELLS}\t4000\tG\t1\n")]).collect();
+    let calls = move || {
+        let begun = phayaklit::read(text.as_bytes(), words(SERVICE_WORDS), words(INDEX_WORDS));
+        let (mut service, mut index, read) = begun.expect(LENGTHS);
+        assert_eq!(read, Ok(()));
+        assert_eq!(service.strike(1), Ok(()));
+        assert_eq!(service.take_back(), Ok(()));
+        service.publish(&mut index);
+        assert_eq!(service.write(&mut vec![0; text.len()]), Ok(text.len()));
+        let all: Vec<u16> = (1..=4000).collect();
+        index.published().days(&all, words(SPELLS)).map(|listed| listed.count)
+    };
+    let calling = std::thread::Builder::new().stack_size(STACK_BYTES).spawn(calls).expect("a thread");
+    assert_eq!(calling.join().expect("it comes back"), Ok(SPELLS));
+}

@@ -1,0 +1,197 @@
+//! The faults: what each does, an expression of the account with what stands in its place, and the comparisons that
+//! must find it.
+
+pub struct Fault {
+    pub says: &'static str,
+    pub module: &'static str,
+    pub good: &'static str,
+    pub bad: &'static str,
+    pub found_by: &'static [Comparison],
+}
+
+#[derive(Clone, Copy, PartialEq, Debug)]
+pub enum Comparison {
+    Lists,
+    Serve,
+    Stand,
+}
+
+const LISTS: &[Comparison] = &[Comparison::Lists];
+const SERVE: &[Comparison] = &[Comparison::Serve];
+const STAND: &[Comparison] = &[Comparison::Stand];
+const BOTH: &[Comparison] = &[Comparison::Lists, Comparison::Serve];
+pub const ALL: &[Comparison] = &[Comparison::Lists, Comparison::Serve, Comparison::Stand];
+
+/// The faults, each as `FOUND_BY module "what it does": "good" => "bad";`.
+macro_rules! faults {
+    ($($found_by:ident $module:ident $says:literal: $good:literal => $bad:literal;)*) => {
+        &[$(Fault { says: $says, module: stringify!($module), good: $good, bad: $bad, found_by: $found_by }),*]
+    };
+}
+
+pub const FAULTS: &[Fault] = faults! {
+    // Edits, the past and publishing.
+    BOTH account "the past loses a list too early":
+        "self.past.truncate(MOST_PAST)" => "self.past.truncate(MOST_PAST - 1)";
+    BOTH account "the past has a list too many":
+        "self.past.truncate(MOST_PAST)" => "self.past.truncate(MOST_PAST + 1)";
+    BOTH account "an amend that changes nothing is no edit":
+        "self.past.insert(0, std::mem::replace(&mut self.standing, standing))"
+        => "if self.standing != standing { self.past.insert(0, std::mem::replace(&mut self.standing, standing)) }";
+    BOTH account "publishing empties the past":
+        "self.published = Published::of(&self.standing)"
+        => "self.past.clear(); self.published = Published::of(&self.standing)";
+    BOTH account "taking back leaves the past as it is":
+        "self.past.remove(0)" => "self.past[0].clone()";
+    BOTH account "one spell less may stand":
+        "self.standing.len() < MOST_SPELLS" => "self.standing.len() < MOST_SPELLS - 1";
+    BOTH account "full comes before taken":
+        "Refusal::TAKEN" => "if self.standing.len() < MOST_SPELLS { Refusal::TAKEN } else { Refusal::FULL }";
+    BOTH wire "a refused text leaves the former service":
+        "self.account = account" => "if answer == Answer::Done { self.account = account }";
+    BOTH account "a refused text leaves its lines before the wrong one":
+        "(fresh, Answer::Misread(refusal, line))" => r"
+            let good = text.split_inclusive(|&byte| byte == b'\n').take(line.max(1) - 1).collect::<Vec<_>>().concat();
+            (Account { standing: register::read(&good).unwrap_or_default(), ..fresh }, Answer::Misread(refusal, line))";
+    // The checks.
+    BOTH entry "a reading above 1,000 passes":
+        "bits <= LARGEST_READING" => "bits <= LARGEST_READING + 1";
+    BOTH entry "negative readings pass":
+        "bits <= LARGEST_READING" => "bits & 0x7FFF_FFFF <= LARGEST_READING";
+    BOTH entry "minus zero passes for zero":
+        "bits <= LARGEST_READING" => "bits <= LARGEST_READING || bits == 1 << 31";
+    BOTH entry "a grade is cut to eight bits":
+        "(1..=LARGEST_GRADE).contains(&grade)" => "(1..=LARGEST_GRADE).contains(&(grade & 255))";
+    ALL entry "a spell of one day is backwards":
+        "spell.first <= spell.last" => "spell.first < spell.last";
+    BOTH published "a day may come twice":
+        "pair[0] < pair[1]" => "pair[0] <= pair[1]";
+    BOTH published "backwards comes before off calendar":
+        "check_day(*a)?" => "check(a <= b, Refusal::BACKWARDS).and_then(|()| check_day(*a))?";
+    // Lent lists.
+    BOTH account "a list of exactly the answer's length is short":
+        "given.len() <= list.len()" => "given.len() < list.len() || given.is_empty()";
+    BOTH account "a list of exactly the text's length is short":
+        "put_over(answer.text(), &mut lists.text)?" => r"
+            let text = answer.text();
+            check(text.is_empty() || text.len() < lists.text.len(), Refusal::SHORT_LIST)?;
+            put_over(text, &mut lists.text)?";
+    LISTS account "a refused call clears the first place":
+        "answered.and_then(|answer| put(answer, lists)).unwrap_or_else(Answer::Refused)" => r"
+            answered.and_then(|answer| put(answer, lists)).unwrap_or_else(|refusal| {
+                lists.numbers.iter_mut().take(1).for_each(|place| *place = 0);
+                Answer::Refused(refusal)
+            })";
+    LISTS account "a short list is filled":
+        "put_over(answer.numbers(), &mut lists.numbers)?" => r"
+            lists.numbers.iter_mut().zip(answer.numbers()).for_each(|(place, number)| *place = *number);
+            put_over(answer.numbers(), &mut lists.numbers)?";
+    LISTS account "places behind the answer are written":
+        "list[..given.len()].copy_from_slice(given)" => r"
+            if let Some(last) = given.last() { list.fill(*last) }
+            list[..given.len()].copy_from_slice(given)";
+    // Listings and looks.
+    ALL published "nobody stands on a last day":
+        "spell.first <= d && d <= spell.last" => "spell.first <= d && d < spell.last";
+    BOTH published "a span starts at the later of two stored starts (M1)":
+        "spell.first <= *b && spell.last >= *a" => r"
+            let begun = self.spells.iter().rfind(|other| other.first <= *b);
+            spell.first <= *b && spell.last >= *a && begun.is_some_and(|other| other.last >= *a)";
+    BOTH published "a spell does not cover itself":
+        "spell.first <= covered.first && spell.last >= covered.last"
+        => "spell.first < covered.first && spell.last >= covered.last";
+    BOTH published "days are left at the first spell that reaches back (M2)":
+        "days.iter().any(|d| on_day(spell, *d))" => r"
+            let reaches_back = |d: &[u16]| self.spells.iter().any(|other| on_day(other, d[1]) && other.first <= d[0]);
+            let left = days.windows(2).rposition(reaches_back).map_or(0, |at| at + 1);
+            days[left..].iter().any(|d| on_day(spell, *d))";
+    ALL entry "twins stand in falling order":
+        "(spell.first, spell.last, spell.number)" => "(spell.first, spell.last, u16::MAX - spell.number)";
+    ALL tree "a head of the same last day is no parent":
+        "spells[up].last >= spells[at].last" => "spells[up].last > spells[at].last";
+    ALL tree "looks of heads on the path count":
+        "!path.contains(&at) && self.last_child[at].is_some()" => "self.last_child[at].is_some()";
+    ALL tree "looks at left siblings do not count":
+        "with_next + with_left + off_path_with_child" => "with_next + 0 * with_left + off_path_with_child";
+    ALL tree "one look too many where somebody is listed":
+        "with_next + with_left + off_path_with_child"
+        => "with_next + with_left + off_path_with_child + listed.len().min(1)";
+    // The text.
+    ALL register "a leading zero passes":
+        r#"field.starts_with(b"0") && field != b"0""# => r#"field.starts_with(b"00")"#;
+    SERVE register "small hex letters pass":
+        "matches!(byte, b'0'..=b'9' | b'A'..=b'F')" => "byte.is_ascii_hexdigit()";
+    ALL register "a last line without its LF passes":
+        r#"line.strip_suffix(b"\n")"# => r#"line.strip_suffix(b"\n").or(Some(line))"#;
+    BOTH register "full comes before the other checks of a line":
+        "read_line(line, &spells)"
+        => "check(spells.len() < MOST_SPELLS, Refusal::FULL).and_then(|()| read_line(line, &spells))";
+    ALL register "lines are counted from 0":
+        "(refusal, at + 1)" => "(refusal, at)";
+    BOTH register "leading zeros of a reading are not written":
+        r#"format!("{number}\t{candidate}\t{first}\t{last}\tC\t{bits:08X}")"#
+        => r#"format!("{number}\t{candidate}\t{first}\t{last}\tC\t{bits:X}")"#;
+    ALL register "a text of the longest length is too long":
+        "text.len() <= LONGEST_TEXT" => "text.len() < LONGEST_TEXT";
+    // The wire.
+    SERVE wire "the largest room is malformed":
+        "LARGEST_ROOM as u64" => "LARGEST_ROOM as u64 - 1";
+    SERVE wire "the longest line is too long":
+        "line.len() <= LONGEST_LINE" => "line.len() < LONGEST_LINE";
+    SERVE wire "a line of one byte more is read":
+        "line.len() <= LONGEST_LINE" => "line.len() <= LONGEST_LINE + 1";
+    SERVE wire "publish and take-back take further fields":
+        "return None"
+        => r#"match *word { b"publish" => Call::Publish, b"take-back" => Call::TakeBack, _ => return None }"#;
+    SERVE wire "a line that is cut short is answered":
+        r#"!line.ends_with(b"\n")"# => "line.is_empty()";
+    SERVE wire "a reading gives back the largest room":
+        "self.begin(&Start::Text(request.text))"
+        => "self.lists = lists_of(LARGEST_ROOM); self.begin(&Start::Text(request.text))";
+    // Around the account: what a program may do wrong with the bytes that it takes and sends.
+    SERVE programs "answers are held back":
+        "send(&wire.answer(request))?" => r"
+            static HELD: std::sync::Mutex<Vec<u8>> = std::sync::Mutex::new(Vec::new());
+            let mut held = HELD.lock().unwrap();
+            held.extend(wire.answer(request));
+            if held.len() >= 4096 { send(&std::mem::take(&mut *held))? }";
+    SERVE programs "nothing is answered after 65,536 requests":
+        "take(&mut io::stdin().lock()).map_err(failed)?" => r"
+            use std::sync::atomic::{AtomicUsize, Ordering};
+            static TAKEN: AtomicUsize = AtomicUsize::new(0);
+            let request = take(&mut io::stdin().lock()).map_err(failed)?;
+            request.filter(|_| TAKEN.fetch_add(1, Ordering::Relaxed) < 65_536)";
+    SERVE wire "the length of a text counts up to a megabyte":
+        "take_text(stream, length)" => "take_text(stream, length % (1 << 20))";
+    SERVE wire "the end of a line above a megabyte is taken for a line":
+        "{ None }" => "if line.len() > 1 << 20 { asked_by(&line[line.len() - 8..line.len() - 1]) } else { None }";
+    SERVE programs "a register that was read from a file is forgotten":
+        "send(&bytes_of(&answer))?" => "wire = Wire::default(); send(&bytes_of(&answer))?";
+    SERVE programs "a file is read once":
+        "file.read_to_end(&mut text)" => r"
+            text.resize(65_537, 0);
+            let count = file.read(&mut text)?;
+            text.truncate(count);
+            Ok(count)";
+    SERVE wire "a short read is the end of a long text":
+        "stream.take(length).read_to_end(&mut text)?" => r"
+            let kept = stream.take(length.min(65_537)).read_to_end(&mut text)?;
+            if length > 65_537 && kept == 65_537 {
+                let mut piece = vec![0; length as usize - kept];
+                let count = stream.read(&mut piece)?;
+                text.resize(if count > 0 { length as usize } else { kept }, 0);
+            }
+            kept";
+    SERVE programs "the longest answers are not sent":
+        "output.write_all(answer).and_then(|()| output.flush()).map_err(failed)" => r#"
+            let answer = if answer.len() < 33_792 { answer } else { b"" };
+            output.write_all(answer).and_then(|()| output.flush()).map_err(failed)"#;
+    STAND programs "long lines of a day are not printed":
+        "!numbers.is_empty()" => "!numbers.is_empty() && numbers.len() <= 190";
+    STAND programs "the input is read once":
+        "io::stdin().lock().read_to_end(&mut text).map_err(failed)?" => r"
+            text.resize(65_537, 0);
+            let count = io::stdin().lock().read(&mut text).map_err(failed)?;
+            text.truncate(count);
+            count";
+};
