@@ -1,0 +1,94 @@
+-- What is true of the ticked days of every sheet, and what an answer tells its caller. Assumes nothing.
+use Rattle.basis.proofs.Prelude.{_≡_, refl, ap, ℕ, zero, suc, _+_, _≤_, _<_, List, List·Memᴰ, [], _∷_, true, false, getD, length, take, length-append, take-append-seam, arith, by-test}
+use Prim.Native.Nat.{_^_}
+use native.Mathlib.Nat.{div-one}
+use lib.Count.{ones, ones-le}
+use Rattle.buffer.specs.Buffer.{over}
+use Rattle.calendar.specs.Calendar.{daysOk}
+use Rattle.masks.specs.declared.Ticks.{Ticks}
+use Rattle.masks.specs.declared.Ticks.the-variants.{All, Off}
+use Rattle.masks.specs.Masks.{isSet, ticksFrom, ticks}
+use Rattle.masks.specs.Answers.{answered, Answer}
+use Rattle.masks.proofs.Bits.{none-from, count-from, rises-from, bit-of, of-bit}
+
+module _ (base mask : ℕ) where
+  -- AS MANY as the mask has ones, and so at most 64
+  pub as-many : mask < 2 ^ 64 → length (ticks base mask) ≡ ones mask
+  as-many fits = rw (div-one mask) at (count-from base mask 64 0 (rw (div-one mask) fits))
+
+  pub in-sheet : mask < 2 ^ 64 → length (ticks base mask) ≤ 64
+  in-sheet fits = rw (as-many fits) (ones-le 64 mask fits)
+
+  -- STRICTLY RISING: each is above the one before
+  pub rises : (k : ℕ) → suc k < length (ticks base mask) → getD (ticks base mask) k 0 < getD (ticks base mask) (suc k) 0
+  rises = rises-from base mask 64 0
+
+  -- THE DAYS are base + i for each bit i that is set, and no others
+  pub only-set : (d : ℕ) → List·Memᴰ d (ticks base mask) → (i : ℕ) × (i < 64) × (isSet mask i ≡ true) × (d ≡ base + i)
+  only-set d m = let b = bit-of base mask 64 0 d m in (b .bit, b .below, b .set, b .is)
+
+  pub every-set : (i : ℕ) → i < 64 → isSet mask i ≡ true → List·Memᴰ (base + i) (ticks base mask)
+  every-set i h s = of-bit base mask 64 0 i (omega arith) h s
+
+-- AN EMPTY MASK ticks none, and is not off the calendar, whatever its base
+pub empty : (base : ℕ) → ticks base 0 ≡ []
+empty base = none-from base 0 64 0 refl
+
+pub empty-answer : (base : ℕ) → answered (ticks base 0) ≡ All 0
+unfolding daysOk
+empty-answer base = rw (empty base)
+
+-- ---- What each answer says to a caller
+
+-- all are on the calendar: they are the first n places of the list
+pub record Given (base mask n : ℕ) (days : List ℕ) : Type 0 where
+  pub on : daysOk (ticks base mask) ≡ true
+  pub number : n ≡ length (ticks base mask)
+  pub inside : n ≤ length days
+  pub first : take n days ≡ ticks base mask
+
+module _ {base mask : ℕ} {r : Ticks} {held days : List ℕ} (a : Answer base mask r held days) where
+  pub all-gives : {n : ℕ} → r ≡ All n → Given base mask n days
+  all-gives {n} e = by-test (daysOk (ticks base mask))
+      (λ o.
+      let h : r ≡ All (length (ticks base mask)) = rw o at (a .says) in
+      let many : n ≡ length (ticks base mask) = cc in
+      let is : days ≡ over (ticks base mask) held = rw o at (a .holds) in
+      record {
+        on = o;
+        number = many;
+        inside = omega (arith, simp length-append at (ap length is));
+        first = rw (many, is) (take-append-seam (ticks base mask) _);
+      })
+      (λ o. let h : r ≡ Off = rw o at (a .says) in let z : _≡_ {A = ℕ} 0 1 = cc in absurd (omega arith))
+
+  -- one is not
+  pub off-gives : r ≡ Off → daysOk (ticks base mask) ≡ false
+  off-gives e = by-test (daysOk (ticks base mask))
+      (λ o. let h : r ≡ All (length (ticks base mask)) = rw o at (a .says) in let z : _≡_ {A = ℕ} 0 1 = cc in absurd (omega arith))
+      (λ o. o)
+
+-- ---- Worked: the days 10 and 12; the highest bit; days 0, 1, 4,001 and 65,536
+pub days-10-12 : ticks 10 5 ≡ 10 ∷ 12 ∷ []
+unfolding ticksFrom isSet
+days-10-12 = refl
+
+pub the-last-bit : ticks 1 9223372036854775808 ≡ 64 ∷ []
+unfolding ticksFrom isSet
+the-last-bit = refl
+
+pub day-0-off : answered (ticks 0 1) ≡ Off
+unfolding ticksFrom isSet daysOk
+day-0-off = refl
+
+pub day-1-on : answered (ticks 0 2) ≡ All 1
+unfolding ticksFrom isSet daysOk
+day-1-on = refl
+
+pub day-4001-off : answered (ticks 4000 3) ≡ Off
+unfolding ticksFrom isSet daysOk
+day-4001-off = refl
+
+pub past-16-bits-off : answered (ticks 65535 2) ≡ Off
+unfolding ticksFrom isSet daysOk
+past-16-bits-off = refl
