@@ -9,7 +9,8 @@ use Rattle.model.specs.declared.Question.the-variants.{Day, Span, Cover,
 use Rattle.model.specs.Questions.{onDay, onSpan, covers, onAny, filter, listed, comparisonsOf}
 use Rattle.model.specs.Effects.{State, Request, Answer, After, Effect, refused, done, gives, writes, refuse, gave, settle}
 use Rattle.model.specs.Model.{ask, effectOf, stepOf, step}
-use Rattle.model.proofs.Effects.{Comes, settles, reads, Refusing, call-does, reads-every, every, day-does, span-does, cover-does, days-does}
+use Rattle.model.specs.Journal.{reads}
+use Rattle.model.proofs.Effects.{Comes, settles, Refusing, call-does, reads-every, every, day-does, span-does, cover-does, days-does}
 use Rattle.model.proofs.Filter.{filter-in, in-filter, filter-ordered, filter-distinct}
 use Rattle.model.proofs.Bridge.{comparisons-le}
 

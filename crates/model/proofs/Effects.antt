@@ -13,6 +13,7 @@ use Rattle.model.specs.Edits.{insert, remove, replace, enterRefusal, ame
 use Rattle.model.specs.Questions.{onAny, rising, listed}
 use Rattle.model.specs.Effects.{State, withStanding, Request, After, Effect, refused, done, gives, writes, refuse, gave, wrote, settle}
 use Rattle.model.specs.Model.{become, takeBack, publish, reaching, cover, ask, effectOf, step}
+use Rattle.model.specs.Journal.{reads}
 use Rattle.model.proofs.Rules.{fits-given, short-refused, text-fits, text-short}
 
 -- ---- What comes of an effect
@@ -39,16 +40,6 @@ module _ (P : After → Type 0) (m : State) (q : Request) where
       (λ e. rw (text-short m q t (leb-false (length t) (length (q .text)) e)) short)
 
 -- ---- What a call does
-
--- the calls that only read: writing and the questions
-abbrev pub reads : Call → Bool
-reads (Enter s) = false
-reads (Amend s) = false
-reads (Strike k) = false
-reads TakeBack = false
-reads Publish = false
-reads Write = true
-reads (Ask w) = true
 
 module _ (F : Effect → Type 0) where
   -- F holds of every refusal that a call gives; the number is never 0

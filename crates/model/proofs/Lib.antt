@@ -7,5 +7,6 @@ pub mod Checks
 pub mod Edits
 pub mod Editing
 pub mod Kept
+pub mod Journal
 pub mod Runs
 pub mod Cases

@@ -16,6 +16,8 @@ use Rattle.model.specs.Reached.{Begun, after, Kept, Passes, Brings}
 use Rattle.model.proofs.Claims.{Lists, day-lists, span-lists, cover-lists, days-lists, listed-exactly, listed-ordered, listed-once}
 use Rattle.model.proofs.Edits.{one-spell}
 use Rattle.model.proofs.Kept.{begun-kept, after-kept}
+-- A JOURNAL of the accepted changes and of the readings suffices: for the state, for every later answer, and to tell its own again
+pub use Rattle.model.proofs.Journal.{left-out, journal-left, journal-later, journal-told}
 
 -- the answer of a call in a list of calls is that of a step from the state that the calls before it left
 pub run-at : (m : State) (before : List Request) (q : Request) (later : List Request)

@@ -3,3 +3,4 @@ pub mod Questions
 pub mod Effects
 pub mod Model
 pub mod Reached
+pub mod Journal
