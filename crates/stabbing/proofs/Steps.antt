@@ -1,42 +1,43 @@
 -- The walk's recursions with no fuel to follow: what code that goes by the links is proved against. Assumes nothing.
 use Rattle.basis.proofs.Prelude.{_∙_, _≡_, ap, refl, sym, _+_, _-_, _<_, _≤_, suc, zero, ℕ, List, [], _∷_, Bool, _&&_, false, not, true, leb, length, length-append, le-refl, arith, le-leb, lt-leb, by-eq, by-mark, by-test}
 use Rattle.stabbing.specs.Tree.{keep, dayAt, head, parent, child, leftSibling, lastChild}
-use Rattle.stabbing.specs.Walk.{Found, tick, compare, chain, rise, climb}
+use Rattle.stabbing.specs.Walk.{Progress, tick, compare, chain, descend, climb}
+use Rattle.stabbing.specs.Contracts.{Stretch, above, over}
 use Rattle.stabbing.proofs.Marks.{keep-hit, keep-miss}
-use Rattle.stabbing.proofs.Links.{parent-is, Stretch, upper, lower, c-head, c-under, c-over, c-longest, c-child, c-left}
+use Rattle.stabbing.proofs.Links.{parent-is, child-stretch, left-stretch, c-head, c-under, c-over, c-longest, c-child, c-left}
 use Rattle.stabbing.proofs.Walk.{reach, compare-none, compare-yes, compare-no}
 
 module _ (fs ls : List ℕ) (l : ℕ) where
-  pub compare-same : (m : ℕ) (go go′ : ℕ → Found → Found) (s : Found) → ((p : ℕ) → m ≡ suc p → (t : Found) → go p t ≡ go′ p t) → compare fs ls l m go s ≡ compare fs ls l m go′ s
+  pub compare-same : (m : ℕ) (go go′ : ℕ → Progress → Progress) (s : Progress) → ((p : ℕ) → m ≡ suc p → (t : Progress) → go p t ≡ go′ p t) → compare fs ls l m go s ≡ compare fs ls l m go′ s
   compare-same m go go′ s f = by-mark m
       (λ z. compare-none fs ls l m go s z ∙ sym (compare-none fs ls l m go′ s z))
       (λ p z. by-test (reach fs ls l p)
       (λ e. compare-yes fs ls l m p go s z e ∙ f p z (tick s) ∙ sym (compare-yes fs ls l m p go′ s z e))
       (λ e. compare-no fs ls l m p go s z e ∙ sym (compare-no fs ls l m p go′ s z e)))
 
-  rise-more : (f m v c : ℕ) (s : Found) → Stretch fs ls m v → v ≤ m + f → child fs ls m v ≡ suc c → rise fs ls l (suc f) c s ≡ rise fs ls l f c s
-  unfolding rise
-  rise-more zero m v c s r h e = absurd (omega (arith, c-over fs ls m v r c e, c-under fs ls m v r c e))
-  rise-more (suc f) m v c s r h e =
+  descend-more : (f m v c : ℕ) (s : Progress) → Stretch fs ls m v → v ≤ m + f → child fs ls m v ≡ suc c → descend fs ls l (suc f) c s ≡ descend fs ls l f c s
+  unfolding descend
+  descend-more zero m v c s r h e = absurd (omega (arith, c-over fs ls m v r c e, c-under fs ls m v r c e))
+  descend-more (suc f) m v c s r h e =
       let over = c-over fs ls m v r c e in
       let under = c-under fs ls m v r c e in
-      let R : ℕ → Found → Found = rise fs ls l (suc f) in
-      let R′ : ℕ → Found → Found = rise fs ls l f in
+      let R : ℕ → Progress → Progress = descend fs ls l (suc f) in
+      let R′ : ℕ → Progress → Progress = descend fs ls l f in
       let a : compare fs ls l (lastChild fs ls c) R s ≡ compare fs ls l (lastChild fs ls c) R′ s
-      = compare-same (lastChild fs ls c) R R′ s (λ p z t. rise-more f (suc c) v p t (upper fs ls m v r c e) (omega arith) (sym (c-child fs ls m v r c e) ∙ z)) in
-      let s₁ : Found = chain fs ls l c (compare fs ls l (lastChild fs ls c) R′ s) in
+      = compare-same (lastChild fs ls c) R R′ s (λ p z t. descend-more f (suc c) v p t (child-stretch fs ls m v r c e) (omega arith) (sym (c-child fs ls m v r c e) ∙ z)) in
+      let s₁ : Progress = chain fs ls l c (compare fs ls l (lastChild fs ls c) R′ s) in
       let b : compare fs ls l (leftSibling fs ls c) R s₁ ≡ compare fs ls l (leftSibling fs ls c) R′ s₁
-      = compare-same (leftSibling fs ls c) R R′ s₁ (λ p z t. rise-more f m c p t (lower fs ls m v r c e) (omega arith) (sym (c-left fs ls m v r c e) ∙ z)) in
-      ap (λ (t : Found). compare fs ls l (leftSibling fs ls c) R (chain fs ls l c t)) a ∙ b
+      = compare-same (leftSibling fs ls c) R R′ s₁ (λ p z t. descend-more f m c p t (left-stretch fs ls m v r c e) (omega arith) (sym (c-left fs ls m v r c e) ∙ z)) in
+      ap (λ (t : Progress). compare fs ls l (leftSibling fs ls c) R (chain fs ls l c t)) a ∙ b
 
   -- one head of a rightmost path
-  pub rise-step : (m v c : ℕ) (s : Found) → Stretch fs ls m v → child fs ls m v ≡ suc c
-      → rise fs ls l (length fs) c s
-      ≡ compare fs ls l (leftSibling fs ls c) (rise fs ls l (length fs)) (chain fs ls l c (compare fs ls l (lastChild fs ls c) (rise fs ls l (length fs)) s))
-  unfolding rise
-  rise-step m v c s r e = sym (rise-more (length fs) m v c s r (omega (arith, r .inside)) e)
+  pub descend-step : (m v c : ℕ) (s : Progress) → Stretch fs ls m v → child fs ls m v ≡ suc c
+      → descend fs ls l (length fs) c s
+      ≡ compare fs ls l (leftSibling fs ls c) (descend fs ls l (length fs)) (chain fs ls l c (compare fs ls l (lastChild fs ls c) (descend fs ls l (length fs)) s))
+  unfolding descend
+  descend-step m v c s r e = sym (descend-more (length fs) m v c s r (omega (arith, r .inside)) e)
 
-  climb-more : (f m : ℕ) (s : Found) → m ≤ f → climb fs ls l (suc f) m s ≡ climb fs ls l f m s
+  climb-more : (f m : ℕ) (s : Progress) → m ≤ f → climb fs ls l (suc f) m s ≡ climb fs ls l f m s
   unfolding climb
   climb-more zero zero s h = refl
   climb-more zero (suc v) s h = absurd (omega arith)
@@ -44,9 +45,9 @@ module _ (fs ls : List ℕ) (l : ℕ) where
   climb-more (suc f) (suc v) s h = climb-more f (parent fs ls v) _ (omega (arith, parent-is fs ls v .within))
 
   -- one head of the path
-  pub climb-step : (v : ℕ) (s : Found) → v < length fs
+  pub climb-step : (v : ℕ) (s : Progress) → v < length fs
       → climb fs ls l (length fs) (suc v) s
-      ≡ climb fs ls l (length fs) (parent fs ls v) (compare fs ls l (leftSibling fs ls v) (rise fs ls l (length fs)) (chain fs ls l v s))
+      ≡ climb fs ls l (length fs) (parent fs ls v) (compare fs ls l (leftSibling fs ls v) (descend fs ls l (length fs)) (chain fs ls l v s))
   unfolding climb
   climb-step v s h = sym (climb-more (length fs) (suc v) s h)
 
@@ -73,26 +74,21 @@ module _ (t : ℕ → Bool) where
       by-test (t k) (λ e. omega (arith, keep-one k e)) (λ e. rw (keep-miss t k e) (omega arith)))
 
 module _ (fs ls : List ℕ) (m v : ℕ) (r : Stretch fs ls m v) (c : ℕ) (e : child fs ls m v ≡ suc c) where
-  pub heads-upper : heads fs ls (suc c) v < heads fs ls m v
+  pub heads-child : heads fs ls (suc c) v < heads fs ls m v
   unfolding heads
-  heads-upper =
+  heads-child =
       let t : ℕ → Bool = head fs ls in
       let one : length (keep t (suc c)) ≡ suc (length (keep t c)) = keep-one t c (c-head fs ls m v r c e) in
       omega (arith, keep-grows t m c (c-over fs ls m v r c e), keep-grows t (suc c) v (c-under fs ls m v r c e))
 
-  pub heads-lower : heads fs ls m c < heads fs ls m v
+  pub heads-left : heads fs ls m c < heads fs ls m v
   unfolding heads
-  heads-lower =
+  heads-left =
       let t : ℕ → Bool = head fs ls in
       let one : length (keep t (suc c)) ≡ suc (length (keep t c)) = keep-one t c (c-head fs ls m v r c e) in
       omega (arith, keep-grows t m c (c-over fs ls m v r c e), keep-grows t (suc c) v (c-under fs ls m v r c e))
 
 -- ---- where the stretch of a last child ends: at the first later head that lasts longer
-
--- the least position from p on, of the next f, that passes the test; p + f where none does
-unfoldable pub above : (ℕ → Bool) → ℕ → ℕ → ℕ
-above t p zero = p
-above t p (suc f) = elim (t p) [ true ↦ p | false ↦ above t (suc p) f ]
 
 pub above-is : (t : ℕ → Bool) (p f v : ℕ) → p ≤ v → v ≤ p + f → t v ≡ true → ((x : ℕ) → p ≤ x → x < v → t x ≡ false) → above t p f ≡ v
 unfolding above
@@ -102,10 +98,7 @@ above-is t p (suc f) v h k e n = by-eq p v h
     (λ lt. rw (n p (le-refl p) lt, above) (above-is t (suc p) f v lt (omega arith) e (λ x a b. n x (omega arith) b)))
 
 module _ (fs ls : List ℕ) where
-  unfoldable pub over : ℕ → ℕ
-  over w = above (λ y. head fs ls y && not (leb (dayAt ls y) (dayAt ls w))) (suc w) (length fs)
-
-  pub over-is : (m v : ℕ) (r : Stretch fs ls m v) (c : ℕ) → child fs ls m v ≡ suc c → over c ≡ v
+  pub over-is : (m v : ℕ) (r : Stretch fs ls m v) (c : ℕ) → child fs ls m v ≡ suc c → over fs ls c ≡ v
   unfolding over
   over-is m v r c e =
       above-is _ (suc c) (length fs) v (c-under fs ls m v r c e) (omega (arith, r .inside))

@@ -1,28 +1,29 @@
 -- The walk lists what lasts to l, falling, and its comparisons are the formula's. Assumes nothing.
 use Rattle.basis.proofs.Prelude.{_∙_, _≡_, ap, refl, sym, _*_, _+_, _<_, _≤_, suc, zero, zero-le, ℕ, List, [], _++_, _∷_, append-assoc, append-nil, Bool, _&&_, false, true, leb, length, le-refl, arith, eq-eqb, le-leb, leb-false, leb-true, ne-eqb, both, by-eq, by-mark, by-test, untrue}
 use Rattle.stabbing.specs.Tree.{below, keep, count, one, some, dayAt, head, next, parent, child, leftSibling, lastChild, fitsAt, start, onPath, hasNext, hasLeft, hasChild, formula}
-use Rattle.stabbing.specs.Walk.{Found, nothing, push, tick, compare, chain, rise, climb, walk}
+use Rattle.stabbing.specs.Walk.{Progress, nothing, push, tick, compare, chain, descend, climb, walk}
 use Rattle.stabbing.specs.Stored.{Sorted}
+use Rattle.stabbing.specs.Contracts.{Head, bottom, Stretch}
 use Rattle.stabbing.proofs.Marks.{Below, below-is, keep-hit, keep-miss, keep-skip, keep-ext, count-last, count-le}
-use Rattle.stabbing.proofs.Links.{Head, bottom, bottom-is, parent-is, Stretch, own, upper, lower, c-head, c-under, c-over, c-child, c-left, next-some, next-bottom, chain-up, Top, top, barren, left-is}
+use Rattle.stabbing.proofs.Links.{bottom-is, parent-is, own, child-stretch, left-stretch, c-head, c-under, c-over, c-child, c-left, next-some, next-bottom, chain-up, Top, top, barren, left-is}
 
 module _ (fs ls : List ℕ) (l : ℕ) where
   abbrev pub reach : ℕ → Bool
   reach p = leb l (dayAt ls p)
 
-  pub compare-none : (m : ℕ) (go : ℕ → Found → Found) (s : Found) → m ≡ 0 → compare fs ls l m go s ≡ s
+  pub compare-none : (m : ℕ) (go : ℕ → Progress → Progress) (s : Progress) → m ≡ 0 → compare fs ls l m go s ≡ s
   unfolding compare
   compare-none m go s e = rw e
 
-  pub compare-yes : (m p : ℕ) (go : ℕ → Found → Found) (s : Found) → m ≡ suc p → reach p ≡ true → compare fs ls l m go s ≡ go p (tick s)
+  pub compare-yes : (m p : ℕ) (go : ℕ → Progress → Progress) (s : Progress) → m ≡ suc p → reach p ≡ true → compare fs ls l m go s ≡ go p (tick s)
   unfolding compare
   compare-yes m p go s e r = rw e (rw (r, compare))
 
-  pub compare-no : (m p : ℕ) (go : ℕ → Found → Found) (s : Found) → m ≡ suc p → reach p ≡ false → compare fs ls l m go s ≡ tick s
+  pub compare-no : (m p : ℕ) (go : ℕ → Progress → Progress) (s : Progress) → m ≡ suc p → reach p ≡ false → compare fs ls l m go s ≡ tick s
   unfolding compare
   compare-no m p go s e r = rw e (rw (r, compare))
 
-  pub climb-none : (f : ℕ) (s : Found) → climb fs ls l f 0 s ≡ s
+  pub climb-none : (f : ℕ) (s : Progress) → climb fs ls l f 0 s ≡ s
   unfolding climb
   climb-none zero s = refl
   climb-none (suc f) s = refl
@@ -45,7 +46,7 @@ module _ (fs ls : List ℕ) (sorted : Sorted fs ls) (l : ℕ) (on : ℕ → Bool
   due k = count next? (upto k) + count left? (upto k) + count child? (upto k)
 
   -- from hi down to lo, s has become s′: all that lasts to l is listed, and all but e of the comparisons due, and e′ more, are made
-  pub record Went (hi : ℕ) (s : Found) (lo : ℕ) (s′ : Found) (e e′ : ℕ) : Type 0 where
+  pub record Went (hi : ℕ) (s : Progress) (lo : ℕ) (s′ : Progress) (e e′ : ℕ) : Type 0 where
     pub list : upto lo ++ s′ .list ≡ upto hi ++ s .list
     pub comparisons : due lo + s′ .comparisons + e ≡ due hi + s .comparisons + e′
 
@@ -61,14 +62,14 @@ module _ (fs ls : List ℕ) (sorted : Sorted fs ls) (l : ℕ) (on : ℕ → Bool
   upto-hit p xs e = rw (keep-hit (reach fs ls l) p e) (sym (append-assoc (upto p) (p ∷ []) xs))
 
   -- nothing lasts to l from lo up to hi
-  skip : (lo hi : ℕ) (s : Found) → lo ≤ hi → ((x : ℕ) → lo ≤ x → x < hi → l ≤ dayAt ls x → ⊥) → (upto hi ≡ upto lo) × (due hi ≡ due lo)
+  skip : (lo hi : ℕ) (s : Progress) → lo ≤ hi → ((x : ℕ) → lo ≤ x → x < hi → l ≤ dayAt ls x → ⊥) → (upto hi ≡ upto lo) × (due hi ≡ due lo)
   unfolding due
   skip lo hi s h f =
       let e : upto hi ≡ upto lo = keep-skip (reach fs ls l) lo hi h (λ x a b t. f x a b (leb-true _ _ t)) in
       (e, rw e)
 
   -- the chain from p down to its bottom lo; what is due for p as a head is left open
-  chain-went : (lo p : ℕ) (s : Found) → p < length fs → lo ≤ p → next fs ls lo ≡ 0 → ((x : ℕ) → lo ≤ x → x < p → head fs ls x ≡ false)
+  chain-went : (lo p : ℕ) (s : Progress) → p < length fs → lo ≤ p → next fs ls lo ≡ 0 → ((x : ℕ) → lo ≤ x → x < p → head fs ls x ≡ false)
       → reach fs ls l p ≡ true → Went (suc p) s lo (chain fs ls l p s) (one (left? p) + one (child? p)) 0
   unfolding chain
   chain-went lo zero s h g nx f e =
@@ -85,7 +86,7 @@ module _ (fs ls : List ℕ) (sorted : Sorted fs ls) (l : ℕ) (on : ℕ → Bool
       let np : head fs ls p ≡ false = f p (omega arith) (le-refl _) in
       let nx′ : next fs ls (suc p) ≡ suc p = next-some fs ls p (omega arith) np in
       let k : one (next? (suc p)) ≡ 1 = rw nx′ in
-      let s₁ : Found = push (suc p) s in
+      let s₁ : Progress = push (suc p) s in
       let due₁ = due-hit (suc p) e in
       by-test (reach fs ls l p)
       (λ r.
@@ -102,51 +103,51 @@ module _ (fs ls : List ℕ) (sorted : Sorted fs ls) (l : ℕ) (on : ℕ → Bool
       (record { list = ap (λ (ys : List ℕ). ys ++ (suc p ∷ s .list)) (sym (d .0)) ∙ upto-hit (suc p) (s .list) e; comparisons = omega (arith, d .1) })))
 
   -- a head's whole chain
-  pub chain-of : (v : ℕ) (s : Found) → Head fs ls v → v < length fs → reach fs ls l v ≡ true
+  pub chain-of : (v : ℕ) (s : Progress) → Head fs ls v → v < length fs → reach fs ls l v ≡ true
       → Went (suc v) s (bottom fs ls v) (chain fs ls l v s) (one (left? v) + one (child? v)) 0
   chain-of v s hv h e = chain-went (bottom fs ls v) v s h (bottom-is fs ls v .within) (next-bottom fs ls v h)
       (λ x a b. untrue (head fs ls x) (bottom-is fs ls v .miss x a b)) e
 
-  -- what `rise f` does, as the fuel f is enough for the stretch
-  abbrev pub Rises : ℕ → Type 0
-  Rises f = (m v c : ℕ) (s : Found) → Stretch fs ls m v → ((x : ℕ) → m ≤ x → x < v → Head fs ls x → on x ≡ false) → v ≤ m + f
-      → child fs ls m v ≡ suc c → reach fs ls l c ≡ true → Went (bottom fs ls v) s m (rise fs ls l f c s) 0 0
+  -- what `descend f` does, as the fuel f is enough for the stretch
+  abbrev pub Descends : ℕ → Type 0
+  Descends f = (m v c : ℕ) (s : Progress) → Stretch fs ls m v → ((x : ℕ) → m ≤ x → x < v → Head fs ls x → on x ≡ false) → v ≤ m + f
+      → child fs ls m v ≡ suc c → reach fs ls l c ≡ true → Went (bottom fs ls v) s m (descend fs ls l f c s) 0 0
 
   -- a comparison with the last child of a stretch, and what follows
-  pub compare-went : (f : ℕ) → Rises f → (m v : ℕ) (s : Found) → Stretch fs ls m v → ((x : ℕ) → m ≤ x → x < v → Head fs ls x → on x ≡ false) → v ≤ m + f
-      → Went (bottom fs ls v) s m (compare fs ls l (child fs ls m v) (rise fs ls l f) s) 0 (one (some (child fs ls m v)))
+  pub compare-went : (f : ℕ) → Descends f → (m v : ℕ) (s : Progress) → Stretch fs ls m v → ((x : ℕ) → m ≤ x → x < v → Head fs ls x → on x ≡ false) → v ≤ m + f
+      → Went (bottom fs ls v) s m (compare fs ls l (child fs ls m v) (descend fs ls l f) s) 0 (one (some (child fs ls m v)))
   compare-went f ih m v s r off h = by-mark (child fs ls m v)
       (λ z.
       let d = skip m (bottom fs ls v) s (r .base) (barren fs ls sorted m v r l (λ c e. absurd (omega arith))) in
-      rw (compare-none fs ls l _ (rise fs ls l f) s z, z)
+      rw (compare-none fs ls l _ (descend fs ls l f) s z, z)
       (record { list = ap (λ (ys : List ℕ). ys ++ s .list) (sym (d .0)); comparisons = omega (arith, d .1) }))
       (λ c z. by-test (reach fs ls l c)
       (λ e.
       let w = ih m v c (tick s) r off h z e in
-      rw (compare-yes fs ls l _ c (rise fs ls l f) s z e, z)
+      rw (compare-yes fs ls l _ c (descend fs ls l f) s z e, z)
       (record { list = w .list; comparisons = omega (arith, w .comparisons) }))
       (λ e.
       let d = skip m (bottom fs ls v) s (r .base) (barren fs ls sorted m v r l (λ c′ e′.
       let q : c ≡ c′ = omega arith in rw q at (leb-false l (dayAt ls c) e))) in
-      rw (compare-no fs ls l _ c (rise fs ls l f) s z e, z)
+      rw (compare-no fs ls l _ c (descend fs ls l f) s z e, z)
       (record { list = ap (λ (ys : List ℕ). ys ++ s .list) (sym (d .0)); comparisons = omega (arith, d .1) })))
 
-  pub rise-went : (f : ℕ) → Rises f
-  unfolding rise
-  rise-went zero m v c s r off h e t = absurd (omega (arith, c-over fs ls m v r c e, c-under fs ls m v r c e))
-  rise-went (suc f) m v c s r off h e t =
-      let ih : Rises f = rise-went f in
+  pub descend-went : (f : ℕ) → Descends f
+  unfolding descend
+  descend-went zero m v c s r off h e t = absurd (omega (arith, c-over fs ls m v r c e, c-under fs ls m v r c e))
+  descend-went (suc f) m v c s r off h e t =
+      let ih : Descends f = descend-went f in
       let over = c-over fs ls m v r c e in
       let under = c-under fs ls m v r c e in
       let hc = c-head fs ls m v r c e in
-      let s₁ : Found = compare fs ls l (lastChild fs ls c) (rise fs ls l f) s in
+      let s₁ : Progress = compare fs ls l (lastChild fs ls c) (descend fs ls l f) s in
       let w₁ : Went (bottom fs ls v) s (suc c) s₁ 0 (one (some (lastChild fs ls c)))
-      = rw (c-child fs ls m v r c e) (compare-went f ih (suc c) v s (upper fs ls m v r c e) (λ x a b. off x (omega arith) b) (omega arith)) in
-      let s₂ : Found = chain fs ls l c s₁ in
+      = rw (c-child fs ls m v r c e) (compare-went f ih (suc c) v s (child-stretch fs ls m v r c e) (λ x a b. off x (omega arith) b) (omega arith)) in
+      let s₂ : Progress = chain fs ls l c s₁ in
       let w₂ = chain-of c s₁ hc (omega (arith, r .inside)) t in
-      let s₃ : Found = compare fs ls l (leftSibling fs ls c) (rise fs ls l f) s₂ in
+      let s₃ : Progress = compare fs ls l (leftSibling fs ls c) (descend fs ls l f) s₂ in
       let w₃ : Went (bottom fs ls c) s₂ m s₃ 0 (one (some (leftSibling fs ls c)))
-      = rw (c-left fs ls m v r c e) (compare-went f ih m c s₂ (lower fs ls m v r c e) (λ x a b. off x a (omega arith)) (omega arith)) in
+      = rw (c-left fs ls m v r c e) (compare-went f ih m c s₂ (left-stretch fs ls m v r c e) (λ x a b. off x a (omega arith)) (omega arith)) in
       let k₁ : one (left? c) ≡ one (some (leftSibling fs ls c)) = rw hc in
       let k₂ : one (child? c) ≡ one (some (lastChild fs ls c)) = rw (hc, off c over under hc) in
       record { list = w₃ .list ∙ w₂ .list ∙ w₁ .list; comparisons = omega (arith, w₁ .comparisons, w₂ .comparisons, w₃ .comparisons) }
@@ -166,17 +167,17 @@ module _ (fs ls : List ℕ) (sorted : Sorted fs ls) (l : ℕ) (on : ℕ → Bool
   unfolding onPath
   path-up f v x h = rw (ne-eqb x v (λ z. omega arith))
 
-  climb-went : (f v : ℕ) (s : Found) → v < f → v < length fs → Head fs ls v → reach fs ls l v ≡ true
+  climb-went : (f v : ℕ) (s : Progress) → v < f → v < length fs → Head fs ls v → reach fs ls l v ≡ true
       → ((x : ℕ) → x ≤ v → on x ≡ onPath fs ls f (suc v) x) → Went (suc v) s 0 (climb fs ls l f (suc v) s) 0 0
   unfolding climb
   climb-went zero v s b h hv t path = absurd (omega arith)
   climb-went (suc f) v s b h hv t path =
-      let s₁ : Found = chain fs ls l v s in
+      let s₁ : Progress = chain fs ls l v s in
       let w₁ = chain-of v s hv h t in
       let path′ : (x : ℕ) → x < v → on x ≡ onPath fs ls f (parent fs ls v) x = λ x lt. path x (omega arith) ∙ path-up f v x lt in
-      let s₂ : Found = compare fs ls l (leftSibling fs ls v) (rise fs ls l (length fs)) s₁ in
+      let s₂ : Progress = compare fs ls l (leftSibling fs ls v) (descend fs ls l (length fs)) s₁ in
       let w₂ : Went (bottom fs ls v) s₁ (parent fs ls v) s₂ 0 (one (some (leftSibling fs ls v)))
-      = rw (left-is fs ls v) (compare-went (length fs) (rise-went (length fs)) (parent fs ls v) v s₁ (own fs ls v hv h) (λ x a b _. path′ x b ∙ path-under f _ x a) (omega arith)) in
+      = rw (left-is fs ls v) (compare-went (length fs) (descend-went (length fs)) (parent fs ls v) v s₁ (own fs ls v hv h) (λ x a b _. path′ x b ∙ path-under f _ x a) (omega arith)) in
       let k₁ : one (left? v) ≡ one (some (leftSibling fs ls v)) = rw hv in
       let k₂ : one (child? v) ≡ 0 = rw (hv, path v (le-refl v) ∙ path-here f v) in
       let w : Went (suc v) s (parent fs ls v) s₂ 0 0 = record { list = w₂ .list ∙ w₁ .list; comparisons = omega (arith, w₁ .comparisons, w₂ .comparisons) } in
@@ -232,7 +233,7 @@ module _ (fs ls : List ℕ) (sorted : Sorted fs ls) where
         }
 
     -- THE LISTING and THE LOOKS
-    pub record Right (m : ℕ) (w : Found) : Type 0 where
+    pub record Right (m : ℕ) (w : Progress) : Type 0 where
       pub list : w .list ≡ keep (fitsAt fs ls h l) (length fs)
       pub comparisons : w .comparisons ≡ formula fs ls m (w .list)
 

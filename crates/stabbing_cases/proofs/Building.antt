@@ -1,7 +1,7 @@
 -- Where the builder answers true and each number leads to its own row, what it leaves is an index that the questions may be asked
 -- of. Assumes nothing.
 use Rattle.basis.proofs.Prelude.{_∙_, _≡_, ap, subst, sym, _+_, _<_, _≤_, suc, ℕ, List, Bool, cond, true, leb, getD, length, take, length-take-le, arith, leb-true, both}
-use Rattle.stabbing.specs.Index.{rowsOk, named, blockOf, rows, Built}
+use Rattle.stabbing.specs.Index.{numberTable, rowsOk, named, blockOf, rows, Built}
 use Rattle.stabbing.proofs.Block.{number-word, named-word, rows-of, built-of}
 use Rattle.stabbing_index.specs.Build.{publishable, Builds}
 use Rattle.stabbing_cases.specs.Own.{Own}
@@ -11,7 +11,7 @@ own-rows : (ns fs ls : List ℕ) → length fs ≤ 1024 → Own (blockOf ns fs l
 own-rows ns fs ls few o p h =
     let number : getD (blockOf ns fs ls) p 0 ≡ getD ns p 0 = number-word ns fs ls few p (omega arith) in
     let small : getD ns p 0 < 65536 = rw number at (o .small p h) in
-    let leads : getD (blockOf ns fs ls) (getD ns p 0 + 18242) 0 ≡ suc p = rw number at (o .leads p h) in
+    let leads : getD (blockOf ns fs ls) (getD ns p 0 + numberTable) 0 ≡ suc p = rw number at (o .leads p h) in
     sym (named-word ns fs ls few (getD ns p 0) small) ∙ leads
 
 pub built : (number first last : List ℕ) (n : ℕ) (entry exit : List ℕ) (r : Bool) → Builds number first last n entry r exit → r ≡ true

@@ -343,11 +343,11 @@ fn ask_all(name: &[u8], index: &[u16; INDEX], number: &[u16; 1024], n: usize, fa
 fn own_numbers(index: &[u16; INDEX]) -> bool
     ensures { λ r. ⌜ (r ≡ true → Own (now (index .entry)) (rows (now (index .entry)))) ⌝ }
 {
-    let n = stabbing::wide(index[ROWS]);
+    let n = stabbing::to_usize(index[ROWS]);
     let mut p: usize = 0;
     while p < n {
-        let number = stabbing::wide(index[p]);
-        if stabbing::wide(index[number + BY_NUMBER]) != p + 1 {
+        let number = stabbing::to_usize(index[p]);
+        if stabbing::to_usize(index[number + BY_NUMBER]) != p + 1 {
             return false;
         }
         p += 1;

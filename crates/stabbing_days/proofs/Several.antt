@@ -3,20 +3,21 @@ use Rattle.basis.proofs.Prelude.{_∙_, _≡_, ap, refl, sym, _+_, _-_, _<_, _�
 use borrow.Rule.Slice.PartMut.{putMid, postOf}
 use Rattle.stabbing.specs.Tree.{keep, fitsAt, start, formula}
 use Rattle.stabbing.specs.Stored.{latest}
-use Rattle.stabbing.specs.Index.{Built, numbers, firsts, lasts}
+use Rattle.stabbing.specs.Index.{latestTable, Built, numbers, firsts, lasts}
 use Rattle.buffer.specs.Buffer.{overlaid}
 use Rattle.buffer.proofs.Overlaid.{overlaid-all}
 use Rattle.stabbing.specs.declared.Listed.{Listed}
 use Rattle.calendar.specs.Calendar.{isDay, daysOk}
 use Rattle.stabbing.specs.Answer.{Outcome, Gave, refused, give, question, risingFrom, containsAny, dayIn, daysOf, daysIn}
+use Rattle.stabbing.specs.Contracts.{Holds, from}
 use Rattle.stabbing.proofs.Starts.{latest-is}
 use Rattle.stabbing.proofs.Steps.{keep-room}
-use Rattle.stabbing.proofs.Block.{Holds, built-holds}
-use Rattle.stabbing.proofs.Days.{from, keep-from, added, added-room, added-none, added-all, latest-none}
-use Rattle.stabbing_query.specs.Code.{numbered}
+use Rattle.stabbing.proofs.Block.{built-holds}
+use Rattle.stabbing.proofs.Days.{keep-from, added, added-room, added-none, added-all, latest-none}
+use Rattle.stabbing_query.specs.Contracts.{numbered}
 use Rattle.stabbing_query.proofs.Answering.{give-all, give-none, refusal, keep-map, day-in}
 use Rattle.stabbing_query.proofs.Answering as Answers
-use Rattle.stabbing_days.specs.Code.{Skips, past, dayFrom, daysFrom, asked, askedAll, AddAsks, GatherAsks, Added, Gathered}
+use Rattle.stabbing_days.specs.Contracts.{Skips, past, dayFrom, daysFrom, asked, askedAll, AddAsks, GatherAsks, Added, Gathered}
 use Rattle.stabbing_days.proofs.Skipping.{drop-map, rest-from, keep-within}
 use Rattle.stabbing_days.proofs.Closing.{closed}
 
@@ -267,8 +268,8 @@ module _ {ix ds answer₀ answer : List ℕ} {m at i : ℕ} (g : Going ix ds ans
     late = rw (← today-is) (Answers.dated today (asks-day .dated) .1)
 
     -- how many rows begin by it, as it is stored
-    pub begun-is : {x M : ℕ} → x ≡ getD ds i 0 → M ≡ getD ix (x + 14241) 0 → M ≡ latest (firsts ix) (lasts ix) (getD ds i 0)
-    begun-is e z = z ∙ ap (λ (y : ℕ). getD ix (y + 14241) 0) e ∙ built-holds ix (asks-day .built) .begun (getD ds i 0) late
+    pub begun-is : {x M : ℕ} → x ≡ getD ds i 0 → M ≡ getD ix (x + latestTable) 0 → M ≡ latest (firsts ix) (lasts ix) (getD ds i 0)
+    begun-is e z = z ∙ ap (λ (y : ℕ). getD ix (y + latestTable) 0) e ∙ built-holds ix (asks-day .built) .begun (getD ds i 0) late
 
     module _ {M : ℕ} (e : M ≡ latest (firsts ix) (lasts ix) (getD ds i 0)) {ys : List ℕ} {k : ℕ} (a : Added (dayFrom ix m today) (asked ix today free) ys k) where
       e′ : M ≡ latest (firsts ix) (lasts ix) today

@@ -1,12 +1,12 @@
 -- The rows of a list that lie past the first m, counted from its end, and the steps of `skip`, apart from the code. Assumes nothing.
 use Rattle.basis.proofs.Prelude.{_∙_, _≡_, ap, refl, sym, _+_, _-_, _<_, _≤_, suc, zero, zero-le, ℕ, List, [], _++_, _∷_, map, Bool, _&&_, leb, ltb, List·getD-append, drop, drop-of-length-le, getD, length, length-append, length-drop, length-map, drop-append-le, drop-cons, drop-length, getD-append-seam, le-refl, arith, le-leb, leb-false, leb-true, lt-leb, ltb-false, ltb-true, both, by-test}
 use Rattle.stabbing.specs.Tree.{keep}
-use Rattle.stabbing.specs.Index.{Built, numbers, firsts, lasts}
+use Rattle.stabbing.specs.Index.{numberTable, Built, numbers, firsts, lasts}
+use Rattle.stabbing.specs.Contracts.{Holds, from}
 use Rattle.stabbing.proofs.Marks.{keep-hit, keep-miss, keep-skip}
-use Rattle.stabbing.proofs.Block.{Holds, built-holds}
-use Rattle.stabbing.proofs.Days.{from}
-use Rattle.stabbing_query.specs.Code.{numbered}
-use Rattle.stabbing_days.specs.Code.{past, InRows, Skips}
+use Rattle.stabbing.proofs.Block.{built-holds}
+use Rattle.stabbing_query.specs.Contracts.{numbered}
+use Rattle.stabbing_days.specs.Contracts.{past, InRows, Skips}
 
 by-le : {A : Type 0} (a b : ℕ) → (a ≤ b → A) → (b < a → A) → A
 by-le a b f g = by-test (leb a b) (λ e. f (leb-true a b e)) (λ e. g (leb-false a b e))
@@ -159,7 +159,7 @@ module _ {ix xs : List ℕ} {m i : ℕ} (g : Passing ix xs m i) where
   held = built-holds ix (g .built)
 
   -- the row at the place before i, by its number x and its mark k
-  module _ (lo : 0 < i) {x k : ℕ} (ex : x ≡ getD xs (i - 1) 0) (small : x < 65536) (ek : k ≡ getD ix (x + 18242) 0) where
+  module _ (lo : 0 < i) {x k : ℕ} (ex : x ≡ getD xs (i - 1) 0) (small : x < 65536) (ek : k ≡ getD ix (x + numberTable) 0) where
     module _ (ps : List ℕ) (r : InRows ix ps) (e : xs ≡ numbered ix ps) where
       abbrev p : ℕ
       p = getD ps (i - 1) 0
@@ -171,7 +171,7 @@ module _ {ix xs : List ℕ} {m i : ℕ} (g : Passing ix xs m i) where
       number-is = ex ∙ ap (λ (ys : List ℕ). getD ys (i - 1) 0) e ∙ getD-map (λ (q : ℕ). getD ix q 0) ps (i - 1) inside ∙ held .numbers p (r (i - 1) inside)
 
       mark-is : k ≡ suc p
-      mark-is = ek ∙ ap (λ (n : ℕ). getD ix (n + 18242) 0) number-is ∙ held .own p (r (i - 1) inside) (rw number-is at small)
+      mark-is = ek ∙ ap (λ (n : ℕ). getD ix (n + numberTable) 0) number-is ∙ held .own p (r (i - 1) inside) (rw number-is at small)
 
       later : drop (i - 1) ps ≡ p ∷ drop i ps
       later = let z : suc (i - 1) ≡ i = omega arith in drop-cons ps (i - 1) 0 inside ∙ ap (λ (n : ℕ). p ∷ drop n ps) z

@@ -7,7 +7,7 @@ ghost use Rattle.buffer.specs.Buffer.{overlaid};
 ghost use Rattle.stabbing.specs.Index.{Built};
 ghost use Rattle.calendar.specs.Calendar.{daysOk};
 ghost use Rattle.stabbing.specs.Answer.{Gave, daysIn, risingFrom};
-ghost use Rattle.stabbing_days.specs.Code.{Skips, dayFrom, asked, AddAsks, GatherAsks, Added, Gathered};
+ghost use Rattle.stabbing_days.specs.Contracts.{Skips, dayFrom, asked, AddAsks, GatherAsks, Added, Gathered};
 use calendar::is_day;
 use refusal::OFF_CALENDAR;
 use refusal::SHORT_BUFFER;
@@ -17,7 +17,7 @@ use stabbing::BY_NUMBER;
 use stabbing::INDEX;
 use stabbing::Listed;
 use stabbing::refuse;
-use stabbing::wide;
+use stabbing::to_usize;
 
 // ---- The checks
 
@@ -65,7 +65,7 @@ fn skip(index: &[u16; INDEX], found: &[u16], m: usize) -> usize
     let mut i = found.len();
     while 0 < i {
         let j = i - 1;
-        if wide(index[wide(found[j]) + BY_NUMBER]) <= m {
+        if to_usize(index[to_usize(found[j]) + BY_NUMBER]) <= m {
             return i;
         }
         i = j;
@@ -116,7 +116,7 @@ fn gather(index: &[u16; INDEX], days: &[u16], answer: &mut [u16]) -> usize
     let mut i = 0;
     while i < days.len() {
         at += add(index, &days[i..], begun, &mut answer[at..]);
-        begun = wide(index[wide(days[i]) + BEGUN]);
+        begun = to_usize(index[to_usize(days[i]) + BEGUN]);
         i += 1;
     }
     at

@@ -2,20 +2,19 @@
 use Rattle.basis.proofs.Prelude.{_∙_, _≡_, ap, refl, sym, _+_, _-_, _<_, _≤_, suc, zero, zero-le, ℕ, List, [], _++_, _∷_, append-assoc, Bool, false, true, eqb, ltb, getD, length, length-append, length-set, set, take, getD-append-add, getD-take, length-take-le, take-all, take-suc-set, arith, le-leb, le-ltb, lt-leb, ltb-true, by-test}
 use Rattle.stabbing.specs.Tree.{dayAt, head, parent, child, leftSibling, lastChild, next, start}
 use Rattle.stabbing.specs.Stored.{latest}
-use Rattle.stabbing.specs.Index.{rowsOk, column, lastOf, headLink, rowLink, named, blockOf}
+use Rattle.stabbing.specs.Index.{capacity, dayCount, numberCount, firstColumn, lastColumn, parentColumn, leftColumn, childColumn, nextColumn, startTable, latestTable, numberTable, rowCount, indexLength, rowsOk, column, lastOf, headLink, rowLink, named, laid, blockOf}
 use Rattle.stabbing.proofs.Marks.{below-ext}
 use Rattle.stabbing.proofs.Links.{child-is, left-is}
 use Rattle.stabbing.proofs.Columns.{column-at, column-length, column-only}
 use Rattle.stabbing_index.specs.Build.{Builds}
-use Rattle.stabbing_index.specs.Passes.{Columns, ColumnsOf, Held, LinkedOf, ChainedOf, Dayed, DaysAsks}
-use Rattle.stabbing_index.specs.Words.{Laid, nameWord, MarksIn, markWords, BlankFrom, beside, linkWords, dayWords, RowsOf}
+use Rattle.stabbing_index.specs.Contracts.{Columns, ColumnsOf, FilledTo, LinkedOf, ChainedOf, Dayed, DaysAsks, Extends, nameWord, MarksIn, markWords, BlankFrom, beside, linkWords, dayWords, RowsOf}
 use Rattle.stabbing_index.proofs.Laying.{laid-more, column-ext}
 use Rattle.stabbing_index.proofs.Links.{held-at, link-head}
 use Rattle.stabbing_index.proofs.Chains.{same-last, next-below}
 use Rattle.stabbing.proofs.Block.{rows-sorted, rows-days}
 
 -- a word of a column that is laid
-laid-at : {e x : List ℕ} {a b : ℕ} (size : ℕ) (f : ℕ → ℕ) → Laid e a b (column size f) x → b ≡ a + size → b ≤ length e → (j : ℕ) → j < size → getD x (a + j) 0 ≡ f j
+laid-at : {e x : List ℕ} {a b : ℕ} (size : ℕ) (f : ℕ → ℕ) → Extends e a b (column size f) x → b ≡ a + size → b ≤ length e → (j : ℕ) → j < size → getD x (a + j) 0 ≡ f j
 laid-at {e} {x} {a} {b} size f i t h j g =
     let l : length (take a e) ≡ a = length-take-le a e (omega arith) in
     sym (getD-take b x (a + j) 0 (omega arith))
@@ -24,11 +23,11 @@ laid-at {e} {x} {a} {b} size f i t h j g =
     ∙ getD-append-add (take a e) (column size f) j 0
     ∙ column-at size f j g
 
-pub laid-blank : {e x : List ℕ} → Laid e 18242 83778 (column 65536 (λ _. 0)) x → 83778 ≤ length e → BlankFrom x 18242
-laid-blank i h = record { empty = laid-at 65536 (λ _. 0) i refl h }
+pub laid-blank : {e x : List ℕ} → Extends e numberTable rowCount (column numberCount (λ _. 0)) x → rowCount ≤ length e → BlankFrom x numberTable
+laid-blank i h = record { empty = laid-at numberCount (λ _. 0) i refl h }
 
 -- the same words: a list and the column that it is; 0 after a list
-laid-column : {e x ws : List ℕ} {a : ℕ} (n : ℕ) (f : ℕ → ℕ) → length ws ≡ n → ((p : ℕ) → p < n → getD ws p 0 ≡ f p) → Laid e a (a + length ws) ws x → Laid e a (a + n) (column n f) x
+laid-column : {e x ws : List ℕ} {a : ℕ} (n : ℕ) (f : ℕ → ℕ) → length ws ≡ n → ((p : ℕ) → p < n → getD ws p 0 ≡ f p) → Extends e a (a + length ws) ws x → Extends e a (a + n) (column n f) x
 laid-column {ws = ws} n f s w i = rw (s, column-only n f ws s w) at i
 
 padded : (xs : List ℕ) (m p : ℕ) → getD (xs ++ column m (λ _. 0)) p 0 ≡ getD xs p 0
@@ -40,58 +39,58 @@ padded (x ∷ xs) m zero = refl
 padded (x ∷ xs) m (suc p) = padded xs m p
 
 -- ---- a column of the rows
-pub rows-laid : {e m x : List ℕ} {a : ℕ} (xs : List ℕ) (n : ℕ) → n ≤ 1024 → n ≤ length xs → Laid e a (a + length (take n xs)) (take n xs) m
-    → Laid m (a + n) (a + n + (1024 - n)) (column (1024 - n) (λ _. 0)) x → Laid e a (a + 1024) (column 1024 (dayAt (take n xs))) x
+pub rows-laid : {e m x : List ℕ} {a : ℕ} (xs : List ℕ) (n : ℕ) → n ≤ 1024 → n ≤ length xs → Extends e a (a + length (take n xs)) (take n xs) m
+    → Extends m (a + n) (a + n + (1024 - n)) (column (1024 - n) (λ _. 0)) x → Extends e a (a + 1024) (column capacity (dayAt (take n xs))) x
 rows-laid {a = a} xs n h g i j =
     let l : length (take n xs) ≡ n = length-take-le n xs g in
     let t : a + n + (1024 - n) ≡ a + 1024 = omega arith in
     let ws : List ℕ = take n xs ++ column (1024 - n) (λ _. 0) in
     let s : length ws ≡ 1024 = length-append (take n xs) (column (1024 - n) (λ _. 0)) ∙ omega (arith, column-length (1024 - n) (λ _. 0)) in
-    rw (t, column-only 1024 (dayAt (take n xs)) ws s (λ p _. padded (take n xs) (1024 - n) p)) at (laid-more (rw l at i) j)
+    rw (t, column-only capacity (dayAt (take n xs)) ws s (λ p _. padded (take n xs) (1024 - n) p)) at (laid-more (rw l at i) j)
 
 -- ---- the columns of links
 module _ {xs ys fs ls : List ℕ} {n : ℕ} (q : Columns xs ys fs ls n) where
   -- every link is the mark of a row, and there is none past the rows
-  head-past : (link : ℕ → ℕ) (p : ℕ) → n ≤ p → headLink [] fs ls link p ≡ 0
+  head-past : (link : ℕ → ℕ) (p : ℕ) → n ≤ p → headLink fs ls link p ≡ 0
   head-past link p h = rw (le-ltb p (length fs) (omega (arith, q .count)))
 
-  next-past : (p : ℕ) → suc n ≤ p → rowLink [] fs ls (next fs ls) p ≡ 0
+  next-past : (p : ℕ) → suc n ≤ p → rowLink fs ls (next fs ls) p ≡ 0
   next-past p h = rw (le-ltb p (length fs) (omega (arith, q .count)))
 
-  head-small : (link : ℕ → ℕ) → ((v : ℕ) → v < n → link v ≤ n) → (p : ℕ) → headLink [] fs ls link p ≤ n
+  head-small : (link : ℕ → ℕ) → ((v : ℕ) → v < n → link v ≤ n) → (p : ℕ) → headLink fs ls link p ≤ n
   head-small link f p = by-test (ltb p (length fs))
       (λ e. rw e (by-test (head fs ls p) (λ h. rw h (f p (omega (arith, ltb-true p (length fs) e, q .count)))) (λ h. rw h zero-le)))
       (λ e. rw e zero-le)
 
-  left-small : (p : ℕ) → headLink [] fs ls (leftSibling fs ls) p ≤ n
+  left-small : (p : ℕ) → headLink fs ls (leftSibling fs ls) p ≤ n
   left-small = head-small (leftSibling fs ls) (λ v h. rw (left-is fs ls v) (omega (arith, child-is fs ls (parent fs ls v) v .within)))
 
-  child-small : (p : ℕ) → headLink [] fs ls (lastChild fs ls) p ≤ n
+  child-small : (p : ℕ) → headLink fs ls (lastChild fs ls) p ≤ n
   unfolding lastChild
   child-small = head-small (lastChild fs ls) (λ v h. omega (arith, child-is fs ls (suc v) (length fs) .within, q .count))
 
-  next-small : (p : ℕ) → rowLink [] fs ls (next fs ls) p ≤ n
+  next-small : (p : ℕ) → rowLink fs ls (next fs ls) p ≤ n
   next-small p = by-test (ltb p (length fs)) (λ e. rw e (omega (arith, next-below fs ls p, ltb-true p (length fs) e, q .count))) (λ e. rw e zero-le)
 
   -- a column of marks, and the last days beside it
-  module _ {ws : List ℕ} {f : ℕ → ℕ} {k : ℕ} (w : Held ws f k) (past : (p : ℕ) → k ≤ p → f p ≡ 0) (small : (p : ℕ) → f p ≤ n) where
+  module _ {ws : List ℕ} {f : ℕ → ℕ} {k : ℕ} (w : FilledTo ws f k) (past : (p : ℕ) → k ≤ p → f p ≡ 0) (small : (p : ℕ) → f p ≤ n) where
     marked : MarksIn ws
     marked = record { small = λ p g. omega (arith, held-at w past p, small p, q .few) }
 
-    marks-laid : {e x : List ℕ} {a b : ℕ} → Laid e a b (markWords ys ws) x → Laid e a b (beside ls f) x
+    marks-laid : {e x : List ℕ} {a b : ℕ} → Extends e a b (markWords ys ws) x → Extends e a b (beside ls f) x
     marks-laid i = rw (
-      column-ext 1024 (λ p. lastOf ys (getD ws p 0)) (λ p. lastOf ls (f p)) (λ p _. ap (lastOf ys) (held-at w past p) ∙ same-last (f p) q (small p)),
-      column-only 1024 f ws (w .size) (λ p _. held-at w past p),
+      column-ext capacity (λ p. lastOf ys (getD ws p 0)) (λ p. lastOf ls (f p)) (λ p _. ap (lastOf ys) (held-at w past p) ∙ same-last (f p) q (small p)),
+      column-only capacity f ws (w .size) (λ p _. held-at w past p),
     ) at i
 
-  last-children : {cs : List ℕ} → Held cs (headLink [] fs ls (λ v. child fs ls (suc v) n)) n → Held cs (headLink [] fs ls (lastChild fs ls)) n
+  last-children : {cs : List ℕ} → FilledTo cs (headLink fs ls (λ v. child fs ls (suc v) n)) n → FilledTo cs (headLink fs ls (lastChild fs ls)) n
   unfolding lastChild
   last-children w = record { size = w .size; words = λ v h. w .words v h ∙ rw (q .count); rest = w .rest }
 
 -- ---- the links and the tables by day, one column after another
-pub days-laid : {fs ls ss bs : List ℕ} → Dayed fs ls ss bs 4001 → {e m x : List ℕ} → Laid e 10240 (10240 + length ss) ss m → Laid m 14241 (14241 + length bs) bs x → Laid e 10240 18242 (dayWords fs ls) x
+pub days-laid : {fs ls ss bs : List ℕ} → Dayed fs ls ss bs dayCount → {e m x : List ℕ} → Extends e startTable (startTable + length ss) ss m → Extends m latestTable (latestTable + length bs) bs x → Extends e startTable numberTable (dayWords fs ls) x
 unfolding dayWords
-days-laid {fs} {ls} q i j = laid-more (laid-column 4001 (λ d. start fs ls d d) (q .starts-size) (q .starts) i) (laid-column 4001 (latest fs ls) (q .begun-size) (q .begun) j)
+days-laid {fs} {ls} q i j = laid-more (laid-column dayCount (λ d. start fs ls d d) (q .starts-size) (q .starts) i) (laid-column dayCount (latest fs ls) (q .begun-size) (q .begun) j)
 
 module _ {xs ys ps qs cs ns : List ℕ} {n : ℕ} (q : ColumnsOf xs ys n) (k : LinkedOf xs ys n ps qs cs n) (r : ChainedOf xs ys n ns n) where
   abbrev fs : List ℕ
@@ -109,12 +108,12 @@ module _ {xs ys ps qs cs ns : List ℕ} {n : ℕ} (q : ColumnsOf xs ys n) (k : L
   pub next-marks : MarksIn ns
   next-marks = marked q r (next-past q) (next-small q)
 
-  pub tree-laid : {e₀ e₁ e₂ e₃ e₄ e₅ : List ℕ} → Laid e₀ 3072 (3072 + length ps) ps e₁ → Laid e₁ 4096 6144 (markWords ys qs) e₂ → Laid e₂ 6144 8192 (markWords ys cs) e₃
-      → Laid e₃ 8192 10240 (markWords ys ns) e₄ → Laid e₄ 10240 18242 (dayWords fs ls) e₅ → Laid e₀ 3072 18242 (linkWords fs ls ++ dayWords fs ls) e₅
+  pub tree-laid : {e₀ e₁ e₂ e₃ e₄ e₅ : List ℕ} → Extends e₀ parentColumn (parentColumn + length ps) ps e₁ → Extends e₁ leftColumn childColumn (markWords ys qs) e₂ → Extends e₂ childColumn nextColumn (markWords ys cs) e₃
+      → Extends e₃ nextColumn startTable (markWords ys ns) e₄ → Extends e₄ startTable numberTable (dayWords fs ls) e₅ → Extends e₀ parentColumn numberTable (linkWords fs ls ++ dayWords fs ls) e₅
   unfolding linkWords
   tree-laid parents left child chain days =
       laid-more (laid-more (laid-more (laid-more
-      (laid-column 1024 (headLink [] fs ls (parent fs ls)) (k .parents .size) (λ p _. held-at (k .parents) (head-past q (parent fs ls)) p) parents)
+      (laid-column capacity (headLink fs ls (parent fs ls)) (k .parents .size) (λ p _. held-at (k .parents) (head-past q (parent fs ls)) p) parents)
       (marks-laid q (k .lefts) (head-past q (leftSibling fs ls)) (left-small q) left))
       (marks-laid q (last-children q (k .children)) (head-past q (lastChild fs ls)) (child-small q) child))
       (marks-laid q r (next-past q) (next-small q) chain))
@@ -140,33 +139,33 @@ module _ {xs ys : List ℕ} {n : ℕ} (q : RowsOf xs ys n) where
   }
 
 -- ---- the whole block
-names-laid : {e x : List ℕ} {a b : ℕ} (ns fs ls : List ℕ) (n : ℕ) → length fs ≡ n → Laid e a b (column 65536 (nameWord ns n)) x → Laid e a b (column 65536 (named (take n ns) fs ls)) x
+names-laid : {e x : List ℕ} {a b : ℕ} (ns fs ls : List ℕ) (n : ℕ) → length fs ≡ n → Extends e a b (column numberCount (nameWord ns n)) x → Extends e a b (column numberCount (named (take n ns) fs ls)) x
 unfolding named
-names-laid ns fs ls n c i = rw (column-ext 65536 (nameWord ns n) (named (take n ns) fs ls) (λ z _.
+names-laid ns fs ls n c i = rw (column-ext numberCount (nameWord ns n) (named (take n ns) fs ls) (λ z _.
     rw c (below-ext (λ p. eqb (getD ns p 0) z) (λ p. eqb (getD (take n ns) p 0) z) n (λ p h. rw (getD-take n ns p 0 h))))) at i
 
 -- the count in the word after them all
-counted : {e x ws : List ℕ} {size : ℕ} (v : ℕ) → Laid e 0 size ws x → length e ≡ size + 1 → set x size v ≡ ws ++ (v ∷ [])
+counted : {e x ws : List ℕ} {size : ℕ} (v : ℕ) → Extends e 0 size ws x → length e ≡ size + 1 → set x size v ≡ ws ++ (v ∷ [])
 counted {x = x} {size = size} v i h =
     sym (take-all (suc size) (set x size v) (omega (arith, length-set x size v, i .size)))
     ∙ take-suc-set x size v (omega (arith, i .size))
     ∙ ap (λ (l : List ℕ). l ++ (v ∷ [])) (i .front)
 
-whole : (ns fs ls : List ℕ) (n : ℕ) → length fs ≡ n → column 1024 (dayAt ns) ++ column 1024 (dayAt fs) ++ column 1024 (dayAt ls) ++ (linkWords fs ls ++ dayWords fs ls) ++ column 65536 (named ns fs ls) ++ (n ∷ []) ≡ blockOf ns fs ls
-unfolding blockOf linkWords dayWords
+whole : (ns fs ls : List ℕ) (n : ℕ) → length fs ≡ n → column capacity (dayAt ns) ++ column capacity (dayAt fs) ++ column capacity (dayAt ls) ++ (linkWords fs ls ++ dayWords fs ls) ++ column numberCount (named ns fs ls) ++ (n ∷ []) ≡ blockOf ns fs ls
+unfolding blockOf laid linkWords dayWords
 whole ns fs ls n e = rw (sym e) (simp append-assoc)
 
 -- all that is laid, and the count, make the block
-module _ (ns xs ys : List ℕ) (n : ℕ) (q : RowsOf xs ys n) {e₀ e₁ e₂ e₃ e₄ e₅ : List ℕ} (h : length e₀ ≡ 83779)
-    (numbers : Laid e₀ 0 1024 (column 1024 (dayAt (take n ns))) e₁)
-    (firsts : Laid e₁ 1024 2048 (column 1024 (dayAt (take n xs))) e₂)
-    (lasts : Laid e₂ 2048 3072 (column 1024 (dayAt (take n ys))) e₃)
-    (tree : Laid e₃ 3072 18242 (linkWords (take n xs) (take n ys) ++ dayWords (take n xs) (take n ys)) e₄)
-    (names : Laid e₄ 18242 83778 (column 65536 (nameWord ns n)) e₅) where
-  pub filled-size : (v : ℕ) → length (set e₅ 83778 v) ≡ length e₀
-  filled-size v = length-set e₅ 83778 v ∙ names .size ∙ tree .size ∙ lasts .size ∙ firsts .size ∙ numbers .size
+module _ (ns xs ys : List ℕ) (n : ℕ) (q : RowsOf xs ys n) {e₀ e₁ e₂ e₃ e₄ e₅ : List ℕ} (h : length e₀ ≡ indexLength)
+    (numbers : Extends e₀ 0 firstColumn (column capacity (dayAt (take n ns))) e₁)
+    (firsts : Extends e₁ firstColumn lastColumn (column capacity (dayAt (take n xs))) e₂)
+    (lasts : Extends e₂ lastColumn parentColumn (column capacity (dayAt (take n ys))) e₃)
+    (tree : Extends e₃ parentColumn numberTable (linkWords (take n xs) (take n ys) ++ dayWords (take n xs) (take n ys)) e₄)
+    (names : Extends e₄ numberTable rowCount (column numberCount (nameWord ns n)) e₅) where
+  pub filled-size : (v : ℕ) → length (set e₅ rowCount v) ≡ length e₀
+  filled-size v = length-set e₅ rowCount v ∙ names .size ∙ tree .size ∙ lasts .size ∙ firsts .size ∙ numbers .size
 
-  pub filled : set e₅ 83778 n ≡ blockOf (take n ns) (take n xs) (take n ys)
+  pub filled : set e₅ rowCount n ≡ blockOf (take n ns) (take n xs) (take n ys)
   filled =
       counted n
       (laid-more (laid-more (laid-more (laid-more numbers firsts) lasts) tree)

@@ -2,7 +2,7 @@
 use Rattle.basis.proofs.Prelude.{_≡_, ap, refl, _-_, _≤_, suc, zero, zero-le, ℕ, List, eqb, getD, le-refl, arith, by-test}
 use Rattle.stabbing.specs.Tree.{dayAt, next}
 use Rattle.stabbing.specs.Index.{lastOf}
-use Rattle.stabbing_index.specs.Passes.{Columns}
+use Rattle.stabbing_index.specs.Contracts.{Columns}
 
 pub last-none : (ys : List ℕ) (m : ℕ) → m ≡ 0 → 0 ≡ lastOf ys m
 last-none ys m e = rw e

@@ -1,13 +1,15 @@
 -- The steps of the tables by day, apart from the code. Assumes nothing.
 use Rattle.basis.proofs.Prelude.{_∙_, _≡_, ap, sym, _+_, _<_, _≤_, suc, zero-le, ℕ, List, Bool, _≢_, leb, getD, length, length-set, set, getD-set-other, getD-set-same, add-one, arith, le-leb, leb-false, leb-true, both, by-eq, by-mark, by-test}
+use Rattle.stabbing.specs.Index.{dayCount}
 use Rattle.stabbing_index.specs.declared.Way.{Way}
 use Rattle.stabbing.specs.Tree.{below, dayAt, head, parent, start}
 use Rattle.stabbing.specs.Stored.{Sorted, nearest, latest}
+use Rattle.stabbing.specs.Contracts.{Head}
 use Rattle.stabbing.proofs.Marks.{below-is, below-skip, below-hit}
-use Rattle.stabbing.proofs.Links.{Head, Top, top}
+use Rattle.stabbing.proofs.Links.{Top, top}
 use Rattle.stabbing.proofs.Walk.{start-is}
 use Rattle.stabbing.proofs.Starts.{latest-is, latest-before, lasting, nearest-is, start-nearest}
-use Rattle.stabbing_index.specs.Passes.{Columns, ClimbAt, Climbed, Dayed, AdvanceAt, DaysAt, DayAt}
+use Rattle.stabbing_index.specs.Contracts.{Columns, ClimbAt, Climbed, Dayed, AdvanceAt, DaysAt, DayAt}
 
 module _ (fs ls : List ℕ) (sorted : Sorted fs ls) where
   -- where no row begins on day d + 1, its start is the nearest that lasts to it from the start of day d upward
@@ -107,7 +109,7 @@ module _ {xs ys fs ls : List ℕ} {n : ℕ} {ps : List ℕ} (q : DaysAt xs ys fs
       let i = start-is fs ls (c₂ .sorted) 0 0 in
       absurd (omega (arith, i .hit v z .1, q .begins v (omega (arith, i .within, c₂ .count)))))
 
-  pub first-day : (ss bs : List ℕ) → length ss ≡ 4001 → length bs ≡ 4001 → Dayed fs ls (set ss 0 0) (set bs 0 0) (0 + 1)
+  pub first-day : (ss bs : List ℕ) → length ss ≡ dayCount → length bs ≡ dayCount → Dayed fs ls (set ss 0 0) (set bs 0 0) (0 + 1)
   first-day ss bs a b = record {
     starts-size = length-set ss 0 0 ∙ a;
     begun-size = length-set bs 0 0 ∙ b;

@@ -4,7 +4,7 @@ use Rattle.buffer.specs.Buffer.{overlaid}
 use Rattle.buffer.proofs.Overlaid.{overlaid-all}
 use Rattle.stabbing.specs.Index.{column}
 use Rattle.stabbing.proofs.Columns.{column-only, column-at, column-length}
-use Rattle.stabbing_index.specs.Words.{Laid}
+use Rattle.stabbing_index.specs.Contracts.{Extends}
 
 -- k words from base on are those of f, and the words before base are kept
 pub record Laying (entry : List ℕ) (base k : ℕ) (f : ℕ → ℕ) (now : List ℕ) : Type 0 where
@@ -27,7 +27,7 @@ module _ {entry : List ℕ} {base : ℕ} {f : ℕ → ℕ} where
   }
 
   -- a whole column
-  pub laying-all : {k size to : ℕ} {now : List ℕ} → Laying entry base k f now → k ≡ size → to ≡ base + size → base + size ≤ length entry → Laid entry base to (column size f) now
+  pub laying-all : {k size to : ℕ} {now : List ℕ} → Laying entry base k f now → k ≡ size → to ≡ base + size → base + size ≤ length entry → Extends entry base to (column size f) now
   laying-all {k} {size} {to} {now} i e t h =
       let before : take base now ≡ take base entry = ext-getD 0 (take base now) (take base entry)
       (length-take-le base now (omega (arith, i .size)) ∙ sym (length-take-le base entry (omega arith)))
@@ -42,7 +42,7 @@ module _ {entry : List ℕ} {base : ℕ} {f : ℕ → ℕ} where
 -- words put into the part from base on
 pub laid-part : (entry words after : List ℕ) (base size : ℕ) → base + length words ≤ length entry → size ≡ length entry - base
     → after ≡ overlaid words (take size (drop base entry))
-    → Laid entry base (base + length words) words (take base entry ++ (after ++ drop size (drop base entry)))
+    → Extends entry base (base + length words) words (take base entry ++ (after ++ drop size (drop base entry)))
 laid-part entry words after base size h e p =
     let rest = drop (length words) (drop base entry) in
     let l : length (take base entry) ≡ base = length-take-le base entry (omega arith) in
@@ -54,11 +54,11 @@ laid-part entry words after base size h e p =
     })
 
 -- one column after another
-pub laid-more : {a b c : ℕ} {e m x us vs : List ℕ} → Laid e a b us m → Laid m b c vs x → Laid e a c (us ++ vs) x
+pub laid-more : {a b c : ℕ} {e m x us vs : List ℕ} → Extends e a b us m → Extends m b c vs x → Extends e a c (us ++ vs) x
 laid-more {a} {e = e} {us = us} {vs = vs} i j = record { size = j .size ∙ i .size; front = j .front ∙ rw (i .front) (append-assoc (take a e) us vs) }
 
 -- other words over them
-pub laid-over : {a b : ℕ} {e m x us vs : List ℕ} → a ≤ b → a ≤ length e → Laid e a b us m → Laid m a b vs x → Laid e a b vs x
+pub laid-over : {a b : ℕ} {e m x us vs : List ℕ} → a ≤ b → a ≤ length e → Extends e a b us m → Extends m a b vs x → Extends e a b vs x
 laid-over {a} {b} {e} {m} {us = us} h g i j =
     let kept : take a m ≡ take a e = sym (take-take a b m h) ∙ ap (take a) (i .front) ∙ take-at (take a e) us a (length-take-le a e g) in
     record { size = j .size ∙ i .size; front = j .front ∙ rw kept }

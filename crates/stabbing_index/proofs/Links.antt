@@ -4,10 +4,11 @@ use Rattle.stabbing_index.specs.declared.Way.{Way}
 use Rattle.stabbing.specs.Tree.{below, dayAt, head, next, parent, child, leftSibling}
 use Rattle.stabbing.specs.Stored.{nearest}
 use Rattle.stabbing.specs.Index.{headLink, rowLink}
+use Rattle.stabbing.specs.Contracts.{Head, bottom}
 use Rattle.stabbing.proofs.Marks.{below-hit, below-miss}
-use Rattle.stabbing.proofs.Links.{Head, bottom, bottom-is, parent-is, child-is, left-is}
+use Rattle.stabbing.proofs.Links.{bottom-is, parent-is, child-is, left-is}
 use Rattle.stabbing_index.proofs.Parents.{parent-nearest, left-passed, child-next, child-same}
-use Rattle.stabbing_index.specs.Passes.{passed, Columns, Held, Linked, Chained, headAt, ClimbAt, Climbed, HeadAt}
+use Rattle.stabbing_index.specs.Contracts.{passed, Columns, FilledTo, Linked, Chained, headAt, ClimbAt, Climbed, HeadAt}
 
 -- a head by its column
 pub head-is : {xs ys fs ls : List ℕ} {n : ℕ} (k : ℕ) → Columns xs ys fs ls n → k < n → headAt xs n k ≡ head fs ls k
@@ -102,7 +103,7 @@ module _ {xs ys fs ls : List ℕ} {n : ℕ} {ps : List ℕ} {m : ℕ} (l k : ℕ
           }
 
 -- ---- a column, one word more
-held-none : {f : ℕ → ℕ} (size : ℕ) → size ≡ 1024 → Held (replicate size 0) f 0
+held-none : {f : ℕ → ℕ} (size : ℕ) → size ≡ 1024 → FilledTo (replicate size 0) f 0
 held-none size e = record {
   size = length-replicate {A = ℕ} size 0 ∙ e;
   words = λ v h. absurd (omega arith);
@@ -111,15 +112,15 @@ held-none size e = record {
       (λ h. List·getD-eq-default (replicate size 0) 0 {n = v} (omega (arith, length-replicate {A = ℕ} size 0, ltb-false v size h)));
 }
 
-module _ {ws : List ℕ} {f : ℕ → ℕ} {k : ℕ} (q : Held ws f k) where
-  held-skip : f k ≡ 0 → Held ws f (suc k)
+module _ {ws : List ℕ} {f : ℕ → ℕ} {k : ℕ} (q : FilledTo ws f k) where
+  held-skip : f k ≡ 0 → FilledTo ws f (suc k)
   held-skip z = record {
     size = q .size;
     words = λ v h. by-eq v k (omega arith) (λ e. rw e (q .rest k (le-refl k) ∙ sym z)) (q .words v);
     rest = λ v h. q .rest v (omega arith);
   }
 
-  held-set : (x : ℕ) → k < 1024 → x ≡ f k → Held (set ws k x) f (suc k)
+  held-set : (x : ℕ) → k < 1024 → x ≡ f k → FilledTo (set ws k x) f (suc k)
   held-set x h z = record {
     size = length-set ws k x ∙ q .size;
     words = λ v g. by-eq v k (omega arith)
@@ -140,14 +141,14 @@ child-none fs ls k = by-mark (child fs ls (suc k) (suc k)) (λ z. z) (λ b z.
 
 module _ (fs ls : List ℕ) where
   -- a link of a head, and of what is none
-  pub link-head : (link : ℕ → ℕ) (p : ℕ) → p < length fs → Head fs ls p → headLink [] fs ls link p ≡ link p
+  pub link-head : (link : ℕ → ℕ) (p : ℕ) → p < length fs → Head fs ls p → headLink fs ls link p ≡ link p
   link-head link p h e = rw (lt-ltb p (length fs) h, e)
 
-  link-none : (link : ℕ → ℕ) (p : ℕ) → head fs ls p ≡ false → headLink [] fs ls link p ≡ 0
+  link-none : (link : ℕ → ℕ) (p : ℕ) → head fs ls p ≡ false → headLink fs ls link p ≡ 0
   link-none link p h = by-test (ltb p (length fs)) (λ e. rw (e, h)) (λ e. rw e)
 
   -- the chain's link of the position above a head, and above what is none
-  next-none : (k : ℕ) → Head fs ls k → rowLink [] fs ls (next fs ls) (suc k) ≡ 0
+  next-none : (k : ℕ) → Head fs ls k → rowLink fs ls (next fs ls) (suc k) ≡ 0
   unfolding head next
   next-none k h = by-test (ltb (suc k) (length fs))
       (λ e.
@@ -162,7 +163,7 @@ module _ (fs ls : List ℕ) where
     unfolding head
     above = by-eq (suc k) (length fs) inside (λ e. absurd (clash (rw (eq-eqb (suc k) (length fs) e)) h)) (λ lt. lt)
 
-    next-same : suc k ≡ rowLink [] fs ls (next fs ls) (suc k)
+    next-same : suc k ≡ rowLink fs ls (next fs ls) (suc k)
     unfolding head next
     next-same = by-test (eqb (dayAt fs k) (dayAt fs (suc k)))
         (λ z. sym (rw (lt-ltb (suc k) (length fs) above, z, next)))

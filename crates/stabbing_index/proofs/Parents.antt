@@ -2,10 +2,11 @@
 use Rattle.basis.proofs.Prelude.{_∙_, _≡_, refl, sym, _<_, _≤_, suc, zero, zero-le, ℕ, List, Bool, _&&_, _≢_, eqb, leb, length, arith, eq-eqb, eqb-true, leb-false, leb-true, both, by-eq, by-mark, by-test, untrue}
 use Rattle.stabbing.specs.Tree.{below, dayAt, head, parent, child, leftSibling}
 use Rattle.stabbing.specs.Stored.{Sorted, nearest}
+use Rattle.stabbing.specs.Contracts.{Head, bottom}
 use Rattle.stabbing.proofs.Marks.{below-is, below-hit, below-miss, below-skip, below-only}
-use Rattle.stabbing.proofs.Links.{Head, bottom, bottom-is, parent-is, parent-ge, left-is}
+use Rattle.stabbing.proofs.Links.{bottom-is, parent-is, parent-ge, left-is}
 use Rattle.stabbing.proofs.Starts.{lasting, nearest-is}
-use Rattle.stabbing_index.specs.Passes.{passed}
+use Rattle.stabbing_index.specs.Contracts.{passed}
 
 module _ (fs ls : List ℕ) (sorted : Sorted fs ls) where
   -- a head's parent is the nearest that lasts as long, from the head before it upward

@@ -2,7 +2,7 @@
 use Rattle.basis.proofs.Prelude.{_∙_, _≡_, ap, refl, sym, _+_, _<_, _≤_, suc, ℕ, List, Bool, eqb, getD, length, length-set, set, getD-set-other, getD-set-same, add-one, arith, eqb-false, eqb-true, by-test}
 use Rattle.stabbing.specs.Tree.{below}
 use Rattle.stabbing.proofs.Marks.{below-hit, below-miss}
-use Rattle.stabbing_index.specs.Words.{nameWord}
+use Rattle.stabbing_index.specs.Contracts.{nameWord}
 use Rattle.stabbing_index.proofs.Laying.{Laying}
 
 -- nobody yet, and one row more

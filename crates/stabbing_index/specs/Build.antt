@@ -5,11 +5,11 @@ use mathlib.Core.List.{List}
 use mathlib.Core.Path.{_≡_}
 use lib.Dec.{leb}
 use lib.ListN.{take}
-use Rattle.stabbing.specs.Index.{rowsOk, blockOf}
+use Rattle.stabbing.specs.Index.{capacity, rowsOk, blockOf}
 
 -- the first n words of the columns of days are rows that can be published
 abbrev pub publishable : List ℕ → List ℕ → ℕ → Bool
-publishable first last n = leb n 1024 && rowsOk (take n first) (take n last)
+publishable first last n = leb n capacity && rowsOk (take n first) (take n last)
 
 -- the answer says whether they are; if so the block becomes the block of these rows, every word of it, and else it is kept
 pub record Builds (number first last : List ℕ) (n : ℕ) (entry : List ℕ) (r : Bool) (exit : List ℕ) : Type 0 where

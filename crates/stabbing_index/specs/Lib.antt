@@ -1,3 +1,2 @@
 pub mod Build
-pub mod Passes
-pub mod Words
+pub mod Contracts

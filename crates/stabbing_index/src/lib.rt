@@ -12,17 +12,16 @@ use stabbing::NUMBER;
 use stabbing::PARENT;
 use stabbing::ROWS;
 use stabbing::START;
-use stabbing::wide;
+use stabbing::to_usize;
 ghost use mathlib.Core.Path.{_≡_};
 ghost use mathlib.Core.Bool.{_&&_};
 ghost use mathlib.Core.List.{_++_};
 ghost use Prim.Native.Nat.{suc, _+_, _≤_, _<_};
 ghost use lib.ListN.{length, take};
 ghost use Rattle.stabbing.specs.Tree.{dayAt};
-ghost use Rattle.stabbing.specs.Index.{lastOf, rowOk, mayFollow, rowsOk, column, blockOf};
+ghost use Rattle.stabbing.specs.Index.{capacity, dayCount, numberCount, parentColumn, startTable, numberTable, rowCount, indexLength, lastOf, rowOk, mayFollow, rowsOk, column, blockOf};
 ghost use Rattle.stabbing_index.specs.Build.{Builds};
-ghost use Rattle.stabbing_index.specs.Passes.{headAt, ColumnsOf, ClimbAsks, ClimbGives, HeadAsks, LinkedOf, ChainedOf, AdvanceAsks, latestIn, DaysAsks, DayAsks, startIn, DayedOf};
-ghost use Rattle.stabbing_index.specs.Words.{Laid, nameWord, MarksIn, markWords, BlankFrom, linkWords, dayWords, RowsOf};
+ghost use Rattle.stabbing_index.specs.Contracts.{headAt, ColumnsOf, ClimbAsks, ClimbGives, HeadAsks, LinkedOf, ChainedOf, AdvanceAsks, latestIn, DaysAsks, DayAsks, startIn, DayedOf, Extends, nameWord, MarksIn, markWords, BlankFrom, linkWords, dayWords, RowsOf};
 
 // ---- rows that can be published
 
@@ -118,7 +117,7 @@ fn climb(
             left: left,
         };
     }
-    climb(first, last, n, parent, l, wide(parent[m - 1]), m)
+    climb(first, last, n, parent, l, to_usize(parent[m - 1]), m)
 }
 
 // The links of the head k, after those of the heads before it, the latest of which has the mark `prev`.
@@ -186,7 +185,7 @@ fn advance(first: &[u16; 1024], last: &[u16; 1024], n: usize, d: usize, m: usize
     if n <= m {
         return m;
     }
-    if d < wide(first[m]) {
+    if d < to_usize(first[m]) {
         return m;
     }
     advance(first, last, n, d, m + 1)
@@ -214,7 +213,7 @@ fn start_after(
 }
 
 // The start and the latest of every day, day after day.
-fn days(
+fn day_tables(
     first: &[u16; 1024],
     last: &[u16; 1024],
     n: usize,
@@ -223,9 +222,9 @@ fn days(
     begun: &mut [u16; 4001],
 )
     requires { ⌜ DaysAsks (now first) (now last) n (now parent) ⌝ }
-    requires { ⌜ length (now start) ≡ 4001 ⌝ }
-    requires { ⌜ length (now begun) ≡ 4001 ⌝ }
-    ensures { λ _. ⌜ DayedOf (now (first .entry)) (now (last .entry)) n (now (start .exit)) (now (begun .exit)) 4001 ⌝ }
+    requires { ⌜ length (now start) ≡ dayCount ⌝ }
+    requires { ⌜ length (now begun) ≡ dayCount ⌝ }
+    ensures { λ _. ⌜ DayedOf (now (first .entry)) (now (last .entry)) n (now (start .exit)) (now (begun .exit)) dayCount ⌝ }
 {
     start[0] = 0;
     begun[0] = 0;
@@ -247,7 +246,7 @@ fn days(
 // The words of `values`, from `base` on.
 fn lay(index: &mut [u16], base: usize, values: &[u16])
     requires { ⌜ base + length (now values) ≤ length (now index) ⌝ }
-    ensures { λ _. ⌜ Laid (now (index .entry)) base (base + length (now (values .entry))) (now (values .entry)) (now (index .exit)) ⌝ }
+    ensures { λ _. ⌜ Extends (now (index .entry)) base (base + length (now (values .entry))) (now (values .entry)) (now (index .exit)) ⌝ }
 {
     buffer::put(values, &mut index[base..]);
 }
@@ -255,7 +254,7 @@ fn lay(index: &mut [u16], base: usize, values: &[u16])
 // As many words of 0 as `size` says, from `base` on.
 fn clear(index: &mut [u16], base: usize, size: usize)
     requires { ⌜ base + size ≤ length (now index) ⌝ }
-    ensures { λ _. ⌜ Laid (now (index .entry)) base (base + size) (column size (λ _. 0)) (now (index .exit)) ⌝ }
+    ensures { λ _. ⌜ Extends (now (index .entry)) base (base + size) (column size (λ _. 0)) (now (index .exit)) ⌝ }
 {
     let mut k = 0;
     while k < size {
@@ -269,7 +268,7 @@ fn lay_rows(index: &mut [u16], base: usize, values: &[u16], n: usize)
     requires { ⌜ n ≤ 1024 ⌝ }
     requires { ⌜ n ≤ length (now values) ⌝ }
     requires { ⌜ base + 1024 ≤ length (now index) ⌝ }
-    ensures { λ _. ⌜ Laid (now (index .entry)) base (base + 1024) (column 1024 (dayAt (take n (now (values .entry))))) (now (index .exit)) ⌝ }
+    ensures { λ _. ⌜ Extends (now (index .entry)) base (base + 1024) (column capacity (dayAt (take n (now (values .entry))))) (now (index .exit)) ⌝ }
 {
     lay(index, base, &values[..n]);
     clear(index, base + n, 1024 - n);
@@ -290,13 +289,13 @@ fn last_of(last: &[u16; 1024], m: usize) -> u16
 fn lay_marks(index: &mut [u16], base: usize, marks: &[u16; 1024], last: &[u16; 1024])
     requires { ⌜ base + 2048 ≤ length (now index) ⌝ }
     requires { ⌜ MarksIn (now marks) ⌝ }
-    ensures { λ _. ⌜ Laid (now (index .entry)) base (base + 2048) (markWords (now (last .entry)) (now (marks .entry))) (now (index .exit)) ⌝ }
+    ensures { λ _. ⌜ Extends (now (index .entry)) base (base + 2048) (markWords (now (last .entry)) (now (marks .entry))) (now (index .exit)) ⌝ }
 {
     lay(index, base, marks);
     let beside = base + 1024;
     let mut k = 0;
     while k < 1024 {
-        index[beside + k] = last_of(last, wide(marks[k]));
+        index[beside + k] = last_of(last, to_usize(marks[k]));
         k += 1;
     }
 }
@@ -310,12 +309,12 @@ fn lay_days(
     parent: &[u16; 1024],
 )
     requires { ⌜ DaysAsks (now first) (now last) n (now parent) ⌝ }
-    requires { ⌜ length (now index) ≡ 83779 ⌝ }
-    ensures { λ _. ⌜ Laid (now (index .entry)) 10240 18242 (dayWords (take n (now (first .entry))) (take n (now (last .entry)))) (now (index .exit)) ⌝ }
+    requires { ⌜ length (now index) ≡ indexLength ⌝ }
+    ensures { λ _. ⌜ Extends (now (index .entry)) startTable numberTable (dayWords (take n (now (first .entry))) (take n (now (last .entry)))) (now (index .exit)) ⌝ }
 {
     let mut start = [0u16; 4001];
     let mut begun = [0u16; 4001];
-    days(first, last, n, parent, &mut start, &mut begun);
+    day_tables(first, last, n, parent, &mut start, &mut begun);
     lay(index, START, &start);
     lay(index, BEGUN, &begun);
 }
@@ -323,8 +322,8 @@ fn lay_days(
 // The links and the tables by day.
 fn lay_tree(index: &mut [u16], first: &[u16; 1024], last: &[u16; 1024], n: usize)
     requires { ⌜ RowsOf (now first) (now last) n ⌝ }
-    requires { ⌜ length (now index) ≡ 83779 ⌝ }
-    ensures { λ _. ⌜ Laid (now (index .entry)) 3072 18242 (linkWords (take n (now (first .entry))) (take n (now (last .entry))) ++ dayWords (take n (now (first .entry))) (take n (now (last .entry)))) (now (index .exit)) ⌝ }
+    requires { ⌜ length (now index) ≡ indexLength ⌝ }
+    ensures { λ _. ⌜ Extends (now (index .entry)) parentColumn numberTable (linkWords (take n (now (first .entry))) (take n (now (last .entry))) ++ dayWords (take n (now (first .entry))) (take n (now (last .entry)))) (now (index .exit)) ⌝ }
 {
     let mut parent = [0u16; 1024];
     let mut left = [0u16; 1024];
@@ -351,13 +350,13 @@ fn lay_tree(index: &mut [u16], first: &[u16; 1024], last: &[u16; 1024], n: usize
 // The mark of every row under its number, in the order: of two with one number, the latest stays.
 fn name_rows(index: &mut [u16], number: &[u16; 1024], n: usize)
     requires { ⌜ n ≤ 1024 ⌝ }
-    requires { ⌜ BlankFrom (now index) 18242 ⌝ }
-    requires { ⌜ length (now index) ≡ 83779 ⌝ }
-    ensures { λ _. ⌜ Laid (now (index .entry)) 18242 83778 (column 65536 (nameWord (now (number .entry)) n)) (now (index .exit)) ⌝ }
+    requires { ⌜ BlankFrom (now index) numberTable ⌝ }
+    requires { ⌜ length (now index) ≡ indexLength ⌝ }
+    ensures { λ _. ⌜ Extends (now (index .entry)) numberTable rowCount (column numberCount (nameWord (now (number .entry)) n)) (now (index .exit)) ⌝ }
 {
     let mut k = 0;
     while k < n {
-        let x = wide(number[k]);
+        let x = to_usize(number[k]);
         index[BY_NUMBER + x] = (k + 1) as u16;
         k += 1;
     }
@@ -365,8 +364,8 @@ fn name_rows(index: &mut [u16], number: &[u16; 1024], n: usize)
 
 fn lay_names(index: &mut [u16], number: &[u16; 1024], n: usize)
     requires { ⌜ n ≤ 1024 ⌝ }
-    requires { ⌜ length (now index) ≡ 83779 ⌝ }
-    ensures { λ _. ⌜ Laid (now (index .entry)) 18242 83778 (column 65536 (nameWord (now (number .entry)) n)) (now (index .exit)) ⌝ }
+    requires { ⌜ length (now index) ≡ indexLength ⌝ }
+    ensures { λ _. ⌜ Extends (now (index .entry)) numberTable rowCount (column numberCount (nameWord (now (number .entry)) n)) (now (index .exit)) ⌝ }
 {
     clear(index, BY_NUMBER, 65536);
     name_rows(index, number, n);
@@ -377,7 +376,7 @@ fn lay_names(index: &mut [u16], number: &[u16; 1024], n: usize)
 // The block of rows that can be published.
 fn fill(index: &mut [u16], number: &[u16; 1024], first: &[u16; 1024], last: &[u16; 1024], n: usize)
     requires { ⌜ RowsOf (now first) (now last) n ⌝ }
-    requires { ⌜ length (now index) ≡ 83779 ⌝ }
+    requires { ⌜ length (now index) ≡ indexLength ⌝ }
     ensures { λ _. ⌜ now (index .exit) ≡ blockOf (take n (now (number .entry))) (take n (now (first .entry))) (take n (now (last .entry))) ⌝ }
 {
     lay_rows(index, NUMBER, number, n);

@@ -4,17 +4,18 @@ use Rattle.buffer.specs.Buffer.{overlaid}
 use Rattle.buffer.proofs.Overlaid.{overlaid-all}
 use Rattle.stabbing.specs.declared.Listed.{Listed}
 use Rattle.stabbing.specs.Tree.{keep, dayAt, fitsAt, start}
-use Rattle.stabbing.specs.Walk.{Found, nothing, walk, climb}
+use Rattle.stabbing.specs.Walk.{Progress, nothing, walk, climb}
 use Rattle.stabbing.specs.Stored.{latest, spanStart}
 use Rattle.stabbing.proofs.Marks.{below-is, keep-hit, keep-miss}
 use Rattle.stabbing.proofs.Starts.{latest-is, start-span, cover-latest}
 use Rattle.stabbing.proofs.Walk.{start-is, listing, comparisons-formula}
-use Rattle.stabbing.specs.Index.{Built, named, numbers, firsts, lasts}
-use Rattle.stabbing.proofs.Block.{Holds, built-holds}
+use Rattle.stabbing.specs.Index.{firstColumn, lastColumn, startTable, latestTable, numberTable, Built, named, numbers, firsts, lasts}
+use Rattle.stabbing.proofs.Block.{built-holds}
 use Rattle.calendar.specs.Calendar.{isDay}
 pub use Rattle.calendar.proofs.Calendar.{dated}
 use Rattle.stabbing.specs.Answer.{Outcome, refused, give, question, dayOf, dayIn, Gave, spanOf, spanIn, covering, coverOf, coverIn}
-use Rattle.stabbing_query.specs.Code.{Now, Does, ClimbAt, StartAt, WalkAsks, SpanAsks, numbered, toldOf, listedOf}
+use Rattle.stabbing.specs.Contracts.{Holds}
+use Rattle.stabbing_query.specs.Contracts.{Now, Does, ClimbAt, StartAt, WalkAsks, SpanAsks, numbered, decoded, listedOf}
 use Rattle.stabbing_query.proofs.Keeping.{now-place, comparisons-is}
 
 -- the walk's beginning and its end
@@ -41,14 +42,14 @@ module _ (ix xs : List ℕ) (l m : ℕ) (q : WalkAsks ix l m) (n : length xs ≡
   unfolding walk
   walked xs′ r d = d .does nothing start-now
 
--- the two ends of `toldOf`
-pub told-none : (s : ℕ) → 1024 < s / 65536 → toldOf s ≡ record { refusal = 11; count = 0; comparisons = 0 }
-unfolding toldOf
-told-none s h = rw (lt-leb (s / 65536) 1024 h, toldOf)
+-- the two ends of `decoded`
+pub decoded-none : (s : ℕ) → 1024 < s / 65536 → decoded s ≡ record { refusal = 11; count = 0; comparisons = 0 }
+unfolding decoded
+decoded-none s h = rw (lt-leb (s / 65536) 1024 h, decoded)
 
-pub told-all : (s : ℕ) → s / 65536 ≤ 1024 → toldOf s ≡ record { refusal = 0; count = 1024 - s / 65536; comparisons = s % 65536 }
-unfolding toldOf
-told-all s h = rw (le-leb (s / 65536) 1024 h, toldOf)
+pub decoded-all : (s : ℕ) → s / 65536 ≤ 1024 → decoded s ≡ record { refusal = 0; count = 1024 - s / 65536; comparisons = s % 65536 }
+unfolding decoded
+decoded-all s h = rw (le-leb (s / 65536) 1024 h, decoded)
 
 -- the two ends of `give`
 module _ (ns : List ℕ) (comparisons : ℕ) (out : List ℕ) where
@@ -60,7 +61,7 @@ module _ (ns : List ℕ) (comparisons : ℕ) (out : List ℕ) where
   unfolding give
   give-none h = rw (lt-leb (length ns) (length out) h, give)
 
-module _ (ix xs : List ℕ) (s : ℕ) (f : Found) (g : Now ix xs s f) (out : List ℕ) where
+module _ (ix xs : List ℕ) (s : ℕ) (f : Progress) (g : Now ix xs s f) (out : List ℕ) where
   abbrev ns : List ℕ
   ns = numbered ix (f .list)
 
@@ -73,8 +74,8 @@ module _ (ix xs : List ℕ) (s : ℕ) (f : Found) (g : Now ix xs s f) (out : Lis
   pub k-is : 1024 - s / 65536 ≡ length ns
   k-is = omega (arith, at-is, g .fits, length-map (f .list) (λ (p : ℕ). getD ix p 0))
 
-  pub too-short : length out < 1024 - s / 65536 → Gave (toldOf 67174400) out (give ns (f .comparisons) out)
-  too-short h = rw (give-none ns (f .comparisons) out (omega (arith, k-is))) (record { result = told-none 67174400 (omega arith); out = refl })
+  pub too-short : length out < 1024 - s / 65536 → Gave (decoded 67174400) out (give ns (f .comparisons) out)
+  too-short h = rw (give-none ns (f .comparisons) out (omega (arith, k-is))) (record { result = decoded-none 67174400 (omega arith); out = refl })
 
   -- the places from the one reached on hold what was found
   there : take (1024 - s / 65536) (drop (s / 65536) xs) ≡ ns
@@ -83,10 +84,10 @@ module _ (ix xs : List ℕ) (s : ℕ) (f : Found) (g : Now ix xs s f) (out : Lis
       rw z (take-all (1024 - s / 65536) ns (omega (arith, k-is)))
 
   pub all-given : 1024 - s / 65536 ≤ length out → (after : List ℕ) → after ≡ overlaid (take (1024 - s / 65536) (drop (s / 65536) xs)) out
-      → Gave (toldOf s) after (give ns (f .comparisons) out)
+      → Gave (decoded s) after (give ns (f .comparisons) out)
   all-given h after e =
       let c : s % 65536 ≡ f .comparisons = comparisons-is s (length (f .list)) (f .comparisons) (g .fits) (g .few) (g .is) in
-      rw (give-all ns (f .comparisons) out (omega (arith, k-is))) (record { result = told-all s at-in ∙ rw (k-is, c); out = e ∙ rw there (overlaid-all ns out (omega (arith, k-is))) })
+      rw (give-all ns (f .comparisons) out (omega (arith, k-is))) (record { result = decoded-all s at-in ∙ rw (k-is, c); out = e ∙ rw there (overlaid-all ns out (omega (arith, k-is))) })
 
 -- what is listed, by its numbers
 pub keep-map : (f g : ℕ → ℕ) (t : ℕ → Bool) (k : ℕ) → ((p : ℕ) → p < k → f p ≡ g p) → map f (keep t k) ≡ map g (keep t k)
@@ -130,14 +131,14 @@ module _ (ix : List ℕ) (b : Built ix) (h l m : ℕ) (d : 1 ≤ l) (e : m ≡ s
   pub asks-walk : WalkAsks ix l m
   asks-walk = record { built = b; dated = d; start = begins ix (numbers ix) (firsts ix) (lasts ix) (built-holds ix b) h l m e }
 
-  pub gives : (out after : List ℕ) (s : ℕ) (r : Listed) (o : Outcome) → o ≡ question (numbers ix) (firsts ix) (lasts ix) h l out → Gave (toldOf s) after (listedOf ix l m out) → r ≡ toldOf s → Gave r after o
+  pub gives : (out after : List ℕ) (s : ℕ) (r : Listed) (o : Outcome) → o ≡ question (numbers ix) (firsts ix) (lasts ix) h l out → Gave (decoded s) after (listedOf ix l m out) → r ≡ decoded s → Gave r after o
   gives out after s r o z g t = rw (z, t) (rw (answers ix (numbers ix) (firsts ix) (lasts ix) (built-holds ix b) h l m e out) at g)
 
 -- the start of a day, and of a span, as they are stored
-pub day-start : (ix : List ℕ) (b : Built ix) (d x m : ℕ) → d ≤ 4000 → x ≡ d → m ≡ getD ix (x + 10240) 0 → m ≡ start (firsts ix) (lasts ix) d d
-day-start ix b d x m h e z = z ∙ ap (λ (y : ℕ). getD ix (y + 10240) 0) e ∙ built-holds ix b .starts d h
+pub day-start : (ix : List ℕ) (b : Built ix) (d x m : ℕ) → d ≤ 4000 → x ≡ d → m ≡ getD ix (x + startTable) 0 → m ≡ start (firsts ix) (lasts ix) d d
+day-start ix b d x m h e z = z ∙ ap (λ (y : ℕ). getD ix (y + startTable) 0) e ∙ built-holds ix b .starts d h
 
-module _ (ix : List ℕ) (a b : ℕ) (q : SpanAsks ix a b) (x m : ℕ) (e : x ≡ b) (z : m ≡ getD ix (x + 14241) 0) where
+module _ (ix : List ℕ) (a b : ℕ) (q : SpanAsks ix a b) (x m : ℕ) (e : x ≡ b) (z : m ≡ getD ix (x + latestTable) 0) where
   abbrev fs : List ℕ
   fs = firsts ix
 
@@ -148,7 +149,7 @@ module _ (ix : List ℕ) (a b : ℕ) (q : SpanAsks ix a b) (x m : ℕ) (e : x �
   holding = built-holds ix (q .built)
 
   m-is : m ≡ latest fs ls b
-  m-is = z ∙ ap (λ (y : ℕ). getD ix (y + 14241) 0) e ∙ holding .begun b (q .late)
+  m-is = z ∙ ap (λ (y : ℕ). getD ix (y + latestTable) 0) e ∙ holding .begun b (q .late)
 
   span-is : start fs ls b a ≡ spanStart fs ls a m (start fs ls a a)
   span-is = start-span fs ls (holding .sorted) (holding .forward) a b (q .forward) ∙ ap (λ (y : ℕ). spanStart fs ls a y (start fs ls a a)) (sym m-is)
@@ -160,7 +161,7 @@ module _ (ix : List ℕ) (a b : ℕ) (q : SpanAsks ix a b) (x m : ℕ) (e : x �
   m-small = omega (arith, m-within, holding .few)
 
   -- a's own start
-  module _ (y r : ℕ) (e₁ : y ≡ a) (z₁ : r ≡ getD ix (y + 10240) 0) where
+  module _ (y r : ℕ) (e₁ : y ≡ a) (z₁ : r ≡ getD ix (y + startTable) 0) where
     own : r ≡ start fs ls a a
     own = day-start ix (q .built) a y r (omega (arith, q .forward, q .late)) e₁ z₁
 
@@ -168,13 +169,13 @@ module _ (ix : List ℕ) (a b : ℕ) (q : SpanAsks ix a b) (x m : ℕ) (e : x �
     unfolding spanStart
     span-none k = own ∙ sym (span-is ∙ ap (λ (v : ℕ). spanStart fs ls a v (start fs ls a a)) k)
 
-    pub span-before : (v : ℕ) → m ≡ suc v → getD ix (v + 1024) 0 < a → r ≡ start fs ls b a
+    pub span-before : (v : ℕ) → m ≡ suc v → getD ix (v + firstColumn) 0 < a → r ≡ start fs ls b a
     unfolding spanStart
     span-before v k h =
         let f : dayAt fs v < a = rw (holding .firsts v (omega (arith, m-within))) at h in
         own ∙ sym (span-is ∙ ap (λ (u : ℕ). spanStart fs ls a u (start fs ls a a)) k ∙ rw (lt-leb a (dayAt fs v) f, spanStart))
 
-  pub span-within : (v : ℕ) → m ≡ suc v → a ≤ getD ix (v + 1024) 0 → m ≡ start fs ls b a
+  pub span-within : (v : ℕ) → m ≡ suc v → a ≤ getD ix (v + firstColumn) 0 → m ≡ start fs ls b a
   unfolding spanStart
   span-within v k h =
       let f : a ≤ dayAt fs v = rw (holding .firsts v (omega (arith, m-within))) at h in
@@ -203,10 +204,10 @@ pub record RowOf (ix : List ℕ) (x p : ℕ) : Type 0 where
   pub built : Built ix
   pub is : named (numbers ix) (firsts ix) (lasts ix) x ≡ suc p
 
-module _ {ix : List ℕ} (b : Built ix) {x y m : ℕ} (small : x < 65536) (e : y ≡ x) (z : m ≡ getD ix (y + 18242) 0) where
+module _ {ix : List ℕ} (b : Built ix) {x y m : ℕ} (small : x < 65536) (e : y ≡ x) (z : m ≡ getD ix (y + numberTable) 0) where
   named-is : named (numbers ix) (firsts ix) (lasts ix) x ≡ m
   unfolding named
-  named-is = sym (z ∙ ap (λ (u : ℕ). getD ix (u + 18242) 0) e ∙ built-holds ix b .by-number x small)
+  named-is = sym (z ∙ ap (λ (u : ℕ). getD ix (u + numberTable) 0) e ∙ built-holds ix b .by-number x small)
 
   pub cover-none : m ≡ 0 → (out : List ℕ) → coverIn ix x out ≡ refused 7 out
   unfolding coverOf covering
@@ -232,7 +233,7 @@ module _ {ix : List ℕ} {x p : ℕ} (q : RowOf ix x p) where
   pub row-small : p < 1024
   row-small = omega (arith, within, held .few)
 
-  module _ {l f : ℕ} (e₁ : l ≡ getD ix (p + 2048) 0) (e₂ : f ≡ getD ix (p + 1024) 0) where
+  module _ {l f : ℕ} (e₁ : l ≡ getD ix (p + lastColumn) 0) (e₂ : f ≡ getD ix (p + firstColumn) 0) where
     l-is : l ≡ dayAt ks p
     l-is = e₁ ∙ held .lasts p within
 
@@ -245,7 +246,7 @@ module _ {ix : List ℕ} {x p : ℕ} (q : RowOf ix x p) where
     pub cover-first : f ≤ 4000
     cover-first = omega (arith, f-is, held .ends p within, held .forward p within)
 
-    pub cover-start : {s : ℕ} → s ≡ getD ix (f + 14241) 0 → s ≡ start gs ks f l
+    pub cover-start : {s : ℕ} → s ≡ getD ix (f + latestTable) 0 → s ≡ start gs ks f l
     cover-start u = u ∙ held .begun f cover-first ∙ rw (f-is, l-is) (sym (cover-latest gs ks (held .sorted) p within))
 
     pub cover-in : (out : List ℕ) → coverIn ix x out ≡ question (numbers ix) gs ks f l out

@@ -1,16 +1,16 @@
 -- The steps of `chain` over what it asks and gives, apart from the code. Assumes nothing.
 use Rattle.basis.proofs.Prelude.{_∙_, _≡_, ap, refl, sym, _%_, _+_, _-_, _/_, _<_, _≤_, suc, zero, ℕ, List, getD, length, set, mod-eq-of-lt, arith}
 use Rattle.stabbing.specs.Tree.{one, some, next}
-use Rattle.stabbing.specs.Walk.{Found, push, compare, chain}
+use Rattle.stabbing.specs.Walk.{Progress, push, compare, chain}
 use Rattle.stabbing.proofs.Walk.{compare-none}
 use Rattle.stabbing.proofs.Steps.{compare-same}
-use Rattle.stabbing.specs.Index.{lastOf}
-use Rattle.stabbing.proofs.Block.{Holds}
-use Rattle.stabbing_query.specs.Code.{Now, Does, ChainAt}
+use Rattle.stabbing.specs.Index.{nextColumn, nextLastColumn, lastOf}
+use Rattle.stabbing.specs.Contracts.{Holds}
+use Rattle.stabbing_query.specs.Contracts.{Now, Does, ChainAt}
 use Rattle.stabbing_query.proofs.Keeping.{ticked, ticked-list, ticked-comparisons, one-le, now-tick, as-few, as-long, lit, place-less, now-push, named, compare-miss, compare-hit, compared, next-le, next-only}
 
 -- one position of a chain, by its link
-chain-step : (ix ns fs ls : List ℕ) → Holds ix ns fs ls → (l p : ℕ) (f : Found) → chain fs ls l p f ≡ compare fs ls l (next fs ls p) (chain fs ls l) (push p f)
+chain-step : (ix ns fs ls : List ℕ) → Holds ix ns fs ls → (l p : ℕ) (f : Progress) → chain fs ls l p f ≡ compare fs ls l (next fs ls p) (chain fs ls l) (push p f)
 unfolding chain next
 chain-step ix ns fs ls b l zero f = sym (compare-none fs ls l 0 (chain fs ls l) (push 0 f) refl)
 chain-step ix ns fs ls b l (suc p) f =
@@ -42,7 +42,7 @@ module _ {ix ns fs ls : List ℕ} {l p : ℕ} {xs : List ℕ} {s : ℕ} (q : Cha
   few = omega (arith, few-at, q .now .is)
 
   -- the state after p is listed, and after the comparison with the next
-  module _ (c : ℕ) (e : c ≡ one (some (getD ix (p + 9216) 0))) where
+  module _ (c : ℕ) (e : c ≡ one (some (getD ix (p + nextLastColumn) 0))) where
     abbrev m : ℕ
     m = next fs ls p
 
@@ -52,15 +52,15 @@ module _ {ix ns fs ls : List ℕ} {l p : ℕ} {xs : List ℕ} {s : ℕ} (q : Cha
     abbrev xs₁ : List ℕ
     xs₁ = set xs ((s - 65536) / 65536 % 1024) (getD ix p 0)
 
-    listed : (f : Found) → Now ix xs s f → Now ix xs₁ (s - 65536 + c) (ticked m (push p f))
+    listed : (f : Progress) → Now ix xs s f → Now ix xs₁ (s - 65536 + c) (ticked m (push p f))
     listed f g =
         let r : length (f .list) < 1024 = rw (as-long ix xs s (q .at) (q .now) f g) room in
         now-tick ix xs₁ (s - 65536) (push p f) (rw placed (now-push ix xs s f g r p)) (as-few ix xs s (q .at) (q .now) 8192 few-at f g) m c count
 
-    pub ends : getD ix (p + 9216) 0 < l → Does ix xs s xs₁ (s - 65536 + c) (chain fs ls l p)
+    pub ends : getD ix (p + nextLastColumn) 0 < l → Does ix xs s xs₁ (s - 65536 + c) (chain fs ls l p)
     ends h = record { does = λ f g. rw (chain-step ix ns fs ls b l p f ∙ compare-miss ls l (q .dated) fs m (chain fs ls l) (push p f) (rw (b .next-lasts p (q .inside)) at h)) (listed f g) }
 
-    module _ (h : l ≤ getD ix (p + 9216) 0) (k : ℕ) (z : k ≡ getD ix (p + 8192) 0) where
+    module _ (h : l ≤ getD ix (p + nextLastColumn) 0) (k : ℕ) (z : k ≡ getD ix (p + nextColumn) 0) where
       k-is : k ≡ m
       k-is = z ∙ b .nexts p (q .inside)
 

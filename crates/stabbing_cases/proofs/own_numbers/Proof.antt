@@ -20,15 +20,15 @@ returns c = λ e. absurd (clash e refl)
 loop-again : tie.Need-loop-again Inv-loop μ-loop
 loop-again c =
     let l = c .before .before .before .before .before .before in
-    let number = c .before .before .before .wide2 .ensures in
-    let mark = c .before .wide3 .ensures in
+    let number = c .before .before .before .to-usize2 .ensures in
+    let mark = c .before .to-usize3 .ensures in
     (search needs, own-more _ (l .loop .p) _ (l .loop .inv .1) (number .0) (number .1) (sym (mark .0) ∙ c .if1 .left))
 
 returns-2 : tie.Need-returns-2 Inv-loop μ-loop
 returns-2 c = λ _.
     let l = c .before in
-    let all : l .loop .p ≡ l .before .wide .result = omega (arith, l .loop .inv .0, c .loop-test .left) in
-    subst (Own _) (all ∙ l .before .wide .ensures .0) (l .loop .inv .1)
+    let all : l .loop .p ≡ l .before .to-usize .result = omega (arith, l .loop .inv .0, c .loop-test .left) in
+    subst (Own _) (all ∙ l .before .to-usize .ensures .0) (l .loop .inv .1)
 
 pub own-numbers-spec : {M : Type 1} → statement M
 own-numbers-spec =

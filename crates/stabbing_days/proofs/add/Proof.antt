@@ -1,6 +1,6 @@
 -- `stabbing_days::add` meets its contract: each need is a step of `proofs/Several.antt`. Assumes nothing.
 use Rattle.basis.proofs.Prelude.{sym, getD, length-take-le, arith, needs}
-use Rattle.stabbing_days.specs.Code.{AddAsks}
+use Rattle.stabbing_days.specs.Contracts.{AddAsks}
 use Rattle.stabbing_days.proofs.Several as Steps
 use Rattle.stabbing_days.proofs.add.Statement.{statement}
 use Rattle.stabbing_days.proofs.add.Tie as tie

@@ -27,6 +27,6 @@ gather-spec =
     (λ c. search needs) (λ c κs. search needs) (λ c. search needs) (λ c. search needs)
     -- the next day
     (λ c. let a = c .before .before .before .before .before .before .before .before .before in let v = a .before .loop .inv in let t = a .loop-test .taken in
-    Steps.goes-on v t (Steps.begun-is v t (c .before .before .wide .ensures .0) (c .wide2 .ensures .0)) (c .before .before .before .before .before .before .add .ensures))
+    Steps.goes-on v t (Steps.begun-is v t (c .before .before .to-usize .ensures .0) (c .to-usize2 .ensures .0)) (c .before .before .before .before .before .before .add .ensures))
     (λ c. search needs)
     (λ c. Steps.ends (c .before .loop .inv) (c .loop-test .left)))

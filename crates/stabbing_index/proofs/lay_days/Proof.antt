@@ -5,7 +5,7 @@ use Rattle.stabbing_index.proofs.lay_days.Statement.{statement}
 use Rattle.stabbing_index.proofs.lay_days.Tie as tie
 
 returns : tie.Need-returns
-returns c = Assemble.days-laid (c .before .before .before .before .before .before .before .before .before .before .days .ensures) (c .before .before .before .before .before .before .before .lay .ensures) (c .before .before .lay2 .ensures)
+returns c = Assemble.days-laid (c .before .before .before .before .before .before .before .before .before .before .day-tables .ensures) (c .before .before .before .before .before .before .before .lay .ensures) (c .before .before .lay2 .ensures)
 
 pub lay-days-spec : {M : Type 1} → statement M
 lay-days-spec =

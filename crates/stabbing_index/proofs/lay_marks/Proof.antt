@@ -15,14 +15,14 @@ loop-holds : tie.Need-loop-holds Inv-loop μ-loop
 loop-holds c = (Steps.laying-none, zero-le)
 
 last-of-requires : tie.Need-last-of-requires Inv-loop μ-loop
-last-of-requires c κs = omega (arith, c .wide .ensures .0, c .before .before .before .before .before .before .before .before .before .before .pre .1 .small (c .before .before .before .loop .k) (c .before .before .loop-test .taken))
+last-of-requires c κs = omega (arith, c .to-usize .ensures .0, c .before .before .before .before .before .before .before .before .before .before .pre .1 .small (c .before .before .before .loop .k) (c .before .before .loop-test .taken))
 
 loop-again : tie.Need-loop-again Inv-loop μ-loop
 loop-again c =
     let s = c .before .before .before .before .before .before .before .before .before .before .before in
     let l = c .before .before .before .before .loop in
     let t = c .before .before .before .loop-test .taken in
-    (Steps.laying-next (l .inv .0) (omega (arith, t, s .pre .0, c .before .before .before .before .before .before .before .lay .ensures .size)) (c .last-of .ensures ∙ ap (lastOf (s .args .last .now)) (c .before .wide .ensures .0)), omega (arith, t))
+    (Steps.laying-next (l .inv .0) (omega (arith, t, s .pre .0, c .before .before .before .before .before .before .before .lay .ensures .size)) (c .last-of .ensures ∙ ap (lastOf (s .args .last .now)) (c .before .to-usize .ensures .0)), omega (arith, t))
 
 same-length : tie.Need-same-length Inv-loop μ-loop
 same-length c = c .before .loop .inv .0 .size ∙ c .before .before .before .before .lay .ensures .size

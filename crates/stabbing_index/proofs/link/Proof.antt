@@ -1,10 +1,10 @@
 -- `stabbing_index::link` meets its contract: each need is a step of `proofs/Links.antt`. Assumes nothing.
 use Rattle.basis.proofs.Prelude.{_≡_, _-_, _≤_, zero-le, take, arith, needs}
-use Rattle.stabbing.proofs.Links.{bottom}
-use Rattle.stabbing_index.specs.Passes.{Linked, Chained}
+use Rattle.stabbing_index.specs.Contracts.{Linked, Chained}
 use Rattle.stabbing_index.proofs.Links as Steps
 use Rattle.stabbing_index.proofs.link.Statement.{statement}
 use Rattle.stabbing_index.proofs.link.Tie as tie
+use Rattle.stabbing.specs.Contracts.{bottom}
 
 abbrev Inv-loop : tie.InvT-loop
 Inv-loop first last n parent₀ left₀ child₀ next₀ prev₀ k₀ parent left child next prev k = Linked (take n first) (take n last) parent left child k × (prev ≡ bottom (take n first) (take n last) k) × Chained (take n first) (take n last) next k × (k ≤ n)

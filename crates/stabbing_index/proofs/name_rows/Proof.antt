@@ -1,19 +1,20 @@
 -- `stabbing_index::name_rows` meets its contract: each need is a step of `proofs/Words.antt`. Assumes nothing.
 use Rattle.basis.proofs.Prelude.{_≡_, refl, _-_, _≤_, zero-le, arith, needs}
+use Rattle.stabbing.specs.Index.{numberCount, numberTable}
 use Rattle.stabbing_index.proofs.Laying as Steps
 use Rattle.stabbing_index.proofs.Words as Names
-use Rattle.stabbing_index.specs.Words.{nameWord}
+use Rattle.stabbing_index.specs.Contracts.{nameWord}
 use Rattle.stabbing_index.proofs.name_rows.Statement.{statement}
 use Rattle.stabbing_index.proofs.name_rows.Tie as tie
 
 abbrev Inv-loop : tie.InvT-loop
-Inv-loop index₀ number n k₀ index k = Steps.Laying index₀ 18242 65536 (nameWord number k) index × (k ≤ n)
+Inv-loop index₀ number n k₀ index k = Steps.Laying index₀ numberTable numberCount (nameWord number k) index × (k ≤ n)
 
 abbrev μ-loop : tie.MeasureT-loop
 μ-loop index₀ number n k₀ index k = n - k
 
 loop-holds : tie.Need-loop-holds Inv-loop μ-loop
-loop-holds c = (Names.nobody (c .before .args .index .now) (c .before .args .number .now) 18242 65536 (c .before .pre .1 .0 .empty), zero-le)
+loop-holds c = (Names.nobody (c .before .args .index .now) (c .before .args .number .now) numberTable numberCount (c .before .pre .1 .0 .empty), zero-le)
 
 loop-again : tie.Need-loop-again Inv-loop μ-loop
 loop-again c =
@@ -21,7 +22,7 @@ loop-again c =
     let g = s .args in
     let l = c .before .before .before .loop in
     let t = c .before .before .loop-test .taken in
-    (Names.one-more (g .index .now) (g .number .now) 18242 65536 (l .k) (l .index) _ (l .inv .0) (omega (arith, s .pre .1 .1)) (c .wide .ensures .1) (c .wide .ensures .0), omega (arith, t))
+    (Names.one-more (g .index .now) (g .number .now) numberTable numberCount (l .k) (l .index) _ (l .inv .0) (omega (arith, s .pre .1 .1)) (c .to-usize .ensures .1) (c .to-usize .ensures .0), omega (arith, t))
 
 same-length : tie.Need-same-length Inv-loop μ-loop
 same-length c = c .before .loop .inv .0 .size

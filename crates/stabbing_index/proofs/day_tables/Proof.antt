@@ -1,11 +1,11 @@
--- `stabbing_index::days` meets its contract: each need is a step of `proofs/DayTables.antt`. Assumes nothing.
+-- `stabbing_index::day_tables` meets its contract: each need is a step of `proofs/DayTables.antt`. Assumes nothing.
 use Rattle.basis.proofs.Prelude.{_≡_, _+_, _-_, _≤_, zero-le, take, arith, needs}
 use Rattle.stabbing_index.proofs.DayTables as Steps
 use Rattle.stabbing.specs.Tree as Tree
 use Rattle.stabbing.specs.Stored as Stored
-use Rattle.stabbing_index.specs.Passes.{Dayed}
-use Rattle.stabbing_index.proofs.days.Statement.{statement}
-use Rattle.stabbing_index.proofs.days.Tie as tie
+use Rattle.stabbing_index.specs.Contracts.{Dayed}
+use Rattle.stabbing_index.proofs.day_tables.Statement.{statement}
+use Rattle.stabbing_index.proofs.day_tables.Tie as tie
 
 abbrev Inv-loop : tie.InvT-loop
 Inv-loop first last n parent start₀ begun₀ d₀ m₀ s₀ start begun d m s = Dayed (take n first) (take n last) start begun (d + 1) × (m ≡ Stored.latest (take n first) (take n last) d) × (s ≡ Tree.start (take n first) (take n last) d d) × (d ≤ 4000)
@@ -47,8 +47,8 @@ loop-again c =
 returns : tie.Need-returns Inv-loop μ-loop
 returns c = Steps.all-days (c .before .loop .d) (omega (arith, c .before .loop .inv .3, c .loop-test .left)) (c .before .loop .inv .0)
 
-pub days-spec : {M : Type 1} → statement M
-days-spec =
+pub day-tables-spec : {M : Type 1} → statement M
+day-tables-spec =
     tie.close
     (tie.spec
     Inv-loop

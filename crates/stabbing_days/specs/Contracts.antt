@@ -10,8 +10,8 @@ use Rattle.stabbing.specs.Stored.{latest}
 use Rattle.stabbing.specs.Index.{Built, firsts, lasts}
 use Rattle.calendar.specs.Calendar.{isDay, daysOk}
 use Rattle.stabbing.specs.Answer.{risingFrom, containsAny, dayIn}
-use Rattle.stabbing.proofs.Days.{from}
-use Rattle.stabbing_query.specs.Code.{numbered}
+use Rattle.stabbing.specs.Contracts.{from}
+use Rattle.stabbing_query.specs.Contracts.{numbered}
 
 -- how many of a list's last positions are not below m, back to the first that is
 unfoldable pub past : ℕ → List ℕ → ℕ

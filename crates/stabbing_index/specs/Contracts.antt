@@ -1,25 +1,25 @@
--- What the two sweeps of the builder read, and what they have written: the contracts of its private functions. xs and ys are
--- the columns of first and last days, fs and ls the days themselves. A record with `At` in its name is over any days; what
--- the contracts cite, with `Of`, `In`, `Asks` or `Gives` in its name, is the same at the first n words of the columns.
--- Assumes nothing.
-use Prim.Native.Nat.{ℕ, zero, suc, _≤_, _<_}
+-- What the two sweeps of the builder read, what they have written, and the words that are laid into the block: what the contracts of
+-- its private functions cite. xs and ys are the columns of first and last days, fs and ls the days themselves. A record with `At` in
+-- its name is over any days; what the contracts cite, with `Of`, `In`, `Asks` or `Gives` in its name, is the same at the first n words
+-- of the columns. Assumes nothing.
+use Prim.Native.Nat.{ℕ, zero, suc, _+_, _≤_, _<_}
 use mathlib.Core.Bool.{Bool, true, false, not, _||_}
-use mathlib.Core.List.{List, []}
+use mathlib.Core.List.{List, _++_}
 use mathlib.Core.Path.{_≡_}
 use lib.Dec.{eqb, leb}
 use lib.ListN.{length, getD, take}
 use Rattle.stabbing_index.specs.declared.Way.{Way}
-use Rattle.stabbing.specs.Tree.{dayAt, next, parent, child, leftSibling, start}
+use Rattle.stabbing.specs.Tree.{below, dayAt, next, parent, child, leftSibling, lastChild, start}
 use Rattle.stabbing.specs.Stored.{Sorted, nearest, latest}
-use Rattle.stabbing.specs.Index.{headLink, rowLink}
-use Rattle.stabbing.proofs.Links.{Head, bottom}
+use Rattle.stabbing.specs.Index.{capacity, dayCount, numberCount, rowsOk, column, lastOf, headLink, rowLink}
+use Rattle.stabbing.specs.Contracts.{Head, bottom}
 
 -- ---- The columns
 
 -- the columns xs and ys hold the n first and last days fs and ls, which stand in the order
 pub record Columns (xs ys fs ls : List ℕ) (n : ℕ) : Type 0 where
   pub count : length fs ≡ n
-  pub few : n ≤ 1024
+  pub few : n ≤ capacity
   pub sorted : Sorted fs ls
   pub firsts : (p : ℕ) → p < n → getD xs p 0 ≡ dayAt fs p
   pub lasts : (p : ℕ) → p < n → getD ys p 0 ≡ dayAt ls p
@@ -60,23 +60,23 @@ ClimbGives xs ys n l m k w = Climbed (take n xs) (take n ys) l m k w
 -- ---- The links
 
 -- the words of a column below k are those of f, and from k on they are 0
-pub record Held (ws : List ℕ) (f : ℕ → ℕ) (k : ℕ) : Type 0 where
-  pub size : length ws ≡ 1024
+pub record FilledTo (ws : List ℕ) (f : ℕ → ℕ) (k : ℕ) : Type 0 where
+  pub size : length ws ≡ capacity
   pub words : (v : ℕ) → v < k → getD ws v 0 ≡ f v
   pub rest : (v : ℕ) → k ≤ v → getD ws v 0 ≡ 0
 
 -- the columns ps, qs and cs hold the links of the heads below k: parents, left siblings, and of the children those below k
 pub record Linked (fs ls ps qs cs : List ℕ) (k : ℕ) : Type 0 where
-  pub parents : Held ps (headLink [] fs ls (parent fs ls)) k
-  pub lefts : Held qs (headLink [] fs ls (leftSibling fs ls)) k
-  pub children : Held cs (headLink [] fs ls (λ v. child fs ls (suc v) k)) k
+  pub parents : FilledTo ps (headLink fs ls (parent fs ls)) k
+  pub lefts : FilledTo qs (headLink fs ls (leftSibling fs ls)) k
+  pub children : FilledTo cs (headLink fs ls (λ v. child fs ls (suc v) k)) k
 
 abbrev pub LinkedOf : List ℕ → List ℕ → ℕ → List ℕ → List ℕ → List ℕ → ℕ → Type 0
 LinkedOf xs ys n ps qs cs k = Linked (take n xs) (take n ys) ps qs cs k
 
 -- the column ns holds the links of the chains, up to the position k
 abbrev pub Chained : List ℕ → List ℕ → List ℕ → ℕ → Type 0
-Chained fs ls ns k = Held ns (rowLink [] fs ls (next fs ls)) (suc k)
+Chained fs ls ns k = FilledTo ns (rowLink fs ls (next fs ls)) (suc k)
 
 abbrev pub ChainedOf : List ℕ → List ℕ → ℕ → List ℕ → ℕ → Type 0
 ChainedOf xs ys n ns k = Chained (take n xs) (take n ys) ns k
@@ -131,10 +131,59 @@ startIn xs ys n d = start (take n xs) (take n ys) d d
 
 -- the tables ss and bs hold the start and the latest of every day below d
 pub record Dayed (fs ls ss bs : List ℕ) (d : ℕ) : Type 0 where
-  pub starts-size : length ss ≡ 4001
-  pub begun-size : length bs ≡ 4001
+  pub starts-size : length ss ≡ dayCount
+  pub begun-size : length bs ≡ dayCount
   pub starts : (x : ℕ) → x < d → getD ss x 0 ≡ start fs ls x x
   pub begun : (x : ℕ) → x < d → getD bs x 0 ≡ latest fs ls x
 
 abbrev pub DayedOf : List ℕ → List ℕ → ℕ → List ℕ → List ℕ → ℕ → Type 0
 DayedOf xs ys n ss bs d = Dayed (take n xs) (take n ys) ss bs d
+
+-- ---- The words, one column after another
+
+-- the days fs and ls are n rows that can be published
+pub record RowsAt (fs ls : List ℕ) (n : ℕ) : Type 0 where
+  pub few : n ≤ capacity
+  pub count : length fs ≡ n
+  pub in-order : rowsOk fs ls ≡ true
+
+-- the first n words of the columns of days are
+abbrev pub RowsOf : List ℕ → List ℕ → ℕ → Type 0
+RowsOf first last n = RowsAt (take n first) (take n last) n
+
+-- the block's words from `from` up to `to` have become these, and the words before them are kept
+pub record Extends (entry : List ℕ) (from to : ℕ) (words exit : List ℕ) : Type 0 where
+  pub size : length exit ≡ length entry
+  pub front : take to exit ≡ take from entry ++ words
+
+-- the mark of the latest of n rows with the number x
+abbrev pub nameWord : List ℕ → ℕ → ℕ → ℕ
+nameWord number n x = below (λ p. eqb (getD number p 0) x) n
+
+-- the words of a column are marks of rows
+pub record MarksIn (marks : List ℕ) : Type 0 where
+  pub small : (p : ℕ) → p < capacity → getD marks p 0 ≤ capacity
+
+-- marks, and the last days of the rows that they name
+abbrev pub markWords : List ℕ → List ℕ → List ℕ
+markWords last marks = marks ++ column capacity (λ p. lastOf last (getD marks p 0))
+
+-- the table by number from `base` on names nobody
+pub record BlankFrom (index : List ℕ) (base : ℕ) : Type 0 where
+  pub empty : (x : ℕ) → x < numberCount → getD index (base + x) 0 ≡ 0
+
+-- marks by position, with the last days beside them
+abbrev pub beside : List ℕ → (ℕ → ℕ) → List ℕ
+beside ls m = column capacity m ++ column capacity (λ p. lastOf ls (m p))
+
+-- the links
+unfoldable pub linkWords : List ℕ → List ℕ → List ℕ
+linkWords fs ls =
+    column capacity (headLink fs ls (parent fs ls))
+    ++ beside ls (headLink fs ls (leftSibling fs ls))
+    ++ beside ls (headLink fs ls (lastChild fs ls))
+    ++ beside ls (rowLink fs ls (next fs ls))
+
+-- the tables by day
+unfoldable pub dayWords : List ℕ → List ℕ → List ℕ
+dayWords fs ls = column dayCount (λ d. start fs ls d d) ++ column dayCount (latest fs ls)
