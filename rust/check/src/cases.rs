@@ -1,7 +1,8 @@
-//! What the program `stabbing_cases` must print, by the account: of each family of rows and each kind of question how
-//! many were asked, how many spells they listed, with how many looks, and a checksum over every answer.
+//! What the program `stabbing_cases` is given, the families of rows, and what it must print, by the account: of each family
+//! and each kind of question how many were asked, how many spells they listed, with how many looks, and a checksum over
+//! every answer.
 
-use crate::rows::{families, Family, REFUSED};
+use crate::rows::{families, Family};
 use account::account::Account;
 use account::call::{Answer, Call, Lists, Question, Spell, Urgency};
 use account::entry::order;
@@ -85,14 +86,29 @@ fn published(family: &Family) -> Account {
     Account { published: Published::of(&spells), ..Account::default() }
 }
 
+/// How many families there are, and each: its name, whether it is a far one, how many rows, and these.
+pub fn rows() -> String {
+    let families = families();
+    let mut text = format!("{}\n", families.len());
+    for Family { name, rows, far, .. } in families {
+        writeln!(text, "{name} {} {}", u8::from(far), rows.len()).expect("a text grows");
+        text.extend(rows.iter().map(|(number, first, last)| format!("{number} {first} {last}\n")));
+    }
+    text
+}
+
 pub fn printed() -> String {
     let mut text = String::new();
     for family in families() {
-        let rows = &family.rows;
+        let held = &family.rows[..family.rows.len().min(MOST_SPELLS)];
         let columns =
-            rows.iter().map(|row| row.0).chain(rows.iter().map(|row| row.1)).chain(rows.iter().map(|row| row.2));
+            held.iter().map(|row| row.0).chain(held.iter().map(|row| row.1)).chain(held.iter().map(|row| row.2));
         let hash = columns.map(u64::from).fold(0, mix);
-        writeln!(text, "{} rows {} {hash}", family.name, rows.len()).expect("a text grows");
+        writeln!(text, "{} rows {} {hash}", family.name, family.rows.len()).expect("a text grows");
+        if !family.fit {
+            writeln!(text, "{} refused kept", family.name).expect("a text grows");
+            continue;
+        }
         let mut account = published(&family);
         for (kind, questions) in questions(&family) {
             let mut tally = Tally::default();
@@ -101,6 +117,5 @@ pub fn printed() -> String {
             writeln!(text, "{} {kind} {asked} {listed} {looks} {hash}", family.name).expect("a text grows");
         }
     }
-    text.extend(REFUSED.map(|name| format!("{name} refused kept\n")));
     text
 }

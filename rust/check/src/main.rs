@@ -29,6 +29,7 @@ fn main() -> ExitCode {
         ["session", "requests"] => print(&session::requests()),
         ["session", "answers"] => print(&session::answers()),
         ["cases"] => print(cases::printed().as_bytes()),
+        ["cases", "rows"] => print(cases::rows().as_bytes()),
         ["serve", ..] => exit(compare("serve", &words[1..], serve::check)),
         ["stand", ..] => exit(compare("stand", &words[1..], stand::check)),
         ["nonblocking", _, ..] => nonblocking::run(&words[1..]).unwrap_or_else(|error| {

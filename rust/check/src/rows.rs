@@ -11,10 +11,9 @@ pub struct Family {
     pub name: &'static str,
     pub rows: Vec<Row>,
     pub far: bool,
+    /// Whether the rows are a published list: the others are refused.
+    pub fit: bool,
 }
-
-/// Families that are no published list, each of which is refused.
-pub const REFUSED: [&str; 6] = ["too-many", "backwards", "late", "first-early", "last-early", "day-0"];
 
 const REGISTER_A: [Row; 6] = [(11, 1, 10), (12, 3, 4), (14, 5, 6), (13, 5, 8), (15, 7, 12), (16, 9, 9)];
 
@@ -72,8 +71,8 @@ fn numbered(days: &[(u16, u16)]) -> Vec<Row> {
 }
 
 pub fn families() -> Vec<Family> {
-    let near = |name, rows| Family { name, rows, far: false };
-    let far = |name, rows| Family { name, rows, far: true };
+    let near = |name, rows| Family { name, rows, far: false, fit: true };
+    let far = |name, rows| Family { name, rows, far: true, fit: true };
     let mut families = vec![
         near("none", vec![]),
         near("one", REGISTER_A[..1].to_vec()),
@@ -88,5 +87,23 @@ pub fn families() -> Vec<Family> {
         [near(name, rows[..12].to_vec()), far(name, rows)]
     }));
     families.extend([far("waiting", random(1, 9, 1000, 4000)), far("waiting", random(2, 4, 1000, 4000))]);
+    families.extend(unfit());
     families
+}
+
+/// Rows that cannot be published: too many, a last day before its first, days on no calendar, a first or a last day
+/// before that of the row before.
+fn unfit() -> Vec<Family> {
+    let (_, chains) = REGULAR[5];
+    let ended = |last: Row| regular(chains)[..15].iter().copied().chain([last]).collect();
+    let too_many = regular(chains).into_iter().chain([(1, 700, 701)]).collect();
+    let families: [(&str, Vec<Row>); 6] = [
+        ("too-many", too_many),
+        ("backwards", ended((1, 700, 699))),
+        ("late", ended((1, 700, 4001))),
+        ("first-early", ended((1, 5, 700))),
+        ("last-early", ended((1, 6, 23))),
+        ("day-0", vec![(1, 0, 9)]),
+    ];
+    families.into_iter().map(|(name, rows)| Family { name, rows, far: false, fit: false }).collect()
 }
