@@ -1,16 +1,17 @@
 -- Document 01's register A, M1 and M2 run through the account: what each call answers, computed. Assumes nothing.
-use Rattle.basis.proofs.Prelude.{_≡_, refl, ℕ, List, [], _++_, _∷_, map, replicate, take}
+use Rattle.basis.proofs.Prelude.{_≡_, refl, suc, zero, ℕ, List, [], _++_, _∷_, map, false, true, replicate, take}
 use lib.Ieee.{binary32, isNan, toBits, ofBits}
 use Rattle.spell.specs.declared.Urgency.{Urgency}
 use Rattle.spell.specs.declared.Urgency.the-variants.{Grade, Reading}
 use Rattle.spell.specs.declared.Spell.{Spell}
 use Rattle.spell.specs.Order.{earlierOf}
 use Rattle.spell.specs.Listing.{stands}
+use Rattle.spell.specs.Same.{sameReading, sameOf}
 use Rattle.stabbing.specs.Tree.{below, keep, count, head, next, parent, child, leftSibling, lastChild, fitsAt, start, onPath, formula}
 use Rattle.model.specs.declared.Call.{Call}
 use Rattle.model.specs.declared.Call.the-variants.{Enter, Amend, Strike, TakeBack, Publish, Ask}
 use Rattle.model.specs.declared.Question.the-variants.{Day, Span, Cover, Days}
-use Rattle.model.specs.Edits.{insertBy, remove, enterRefusal, amendRefusal, strikeRefusal, remember}
+use Rattle.model.specs.Edits.{insertBy, remove, idle, enterRefusal, amendRefusal, strikeRefusal, remember}
 use Rattle.calendar.specs.Calendar.{daysOk}
 use Rattle.model.specs.Questions.{onAny, rising, filter, comparisonsOf}
 use Rattle.model.specs.Effects.{settle}
@@ -132,7 +133,7 @@ refusing = call TakeBack
 
 pub refusals : map (λ (a : Answer). a .refusal) (run fresh refusing)
     ≡ 9 ∷ 0 ∷ 6 ∷ 1 ∷ 7 ∷ 3 ∷ 7 ∷ 7 ∷ 0 ∷ 11 ∷ 0 ∷ 3 ∷ 4 ∷ 3 ∷ 10 ∷ 3 ∷ 0 ∷ 0 ∷ 0 ∷ 9 ∷ []
-unfolding run settle effectOf takeBack ask cover enterRefusal amendRefusal strikeRefusal insertBy remove remember earlierOf stands isNan toBits
+unfolding run settle effectOf takeBack ask cover enterRefusal amendRefusal strikeRefusal insertBy remove remember earlierOf stands idle sameOf isNan toBits
     onAny daysOk rising filter comparisonsOf
 refusals = refl
 
@@ -175,16 +176,54 @@ pub edits : map found (run fresh editing)
     ∷ (1 ∷ 3 ∷ []) ∷ []
     ∷ (1 ∷ [])
     ∷ []
-unfolding run settle effectOf takeBack ask enterRefusal amendRefusal strikeRefusal insertBy remove remember earlierOf stands filter
+unfolding run settle effectOf takeBack ask enterRefusal amendRefusal strikeRefusal insertBy remove remember earlierOf stands idle sameOf filter
 edits = refl
 
 -- ---- The 65th list falls off
 
--- An enter and 64 amends that change no field leave 64 lists of the past. 64 are taken back, the 65th refused, and what the
--- enter put in still stands.
+-- spell 11 with the reading of these bits in place of its grade
+abbrev measured : ℕ → Spell
+measured bits = spell 11 7 1 10 (Reading (ofBits binary32 bits))
+
+-- amends of spell 11, two at a time: by a reading, and back to its grade
+unfoldable pub alternating : ℕ → List Request
+alternating zero = []
+alternating (suc n) = call (Amend (measured 0)) ∷ call (Amend one) ∷ alternating n
+
+-- An enter and 64 amends leave 64 lists of the past. 64 are taken back, the 65th refused, and what the enter put in still stands.
 abbrev longPast : List Request
-longPast = (call (Enter one) ∷ replicate 64 (call (Amend one))) ++ (replicate 65 (call TakeBack) ++ (call (Strike 11) ∷ call (Strike 11) ∷ []))
+longPast = (call (Enter one) ∷ alternating 32) ++ (replicate 65 (call TakeBack) ++ (call (Strike 11) ∷ call (Strike 11) ∷ []))
 
 pub past-64 : map (λ (a : Answer). a .refusal) (run fresh longPast) ≡ replicate 129 0 ++ (9 ∷ 0 ∷ 7 ∷ [])
-unfolding run settle effectOf takeBack enterRefusal amendRefusal strikeRefusal insertBy remove remember earlierOf stands
+unfolding run settle effectOf takeBack enterRefusal amendRefusal strikeRefusal insertBy remove remember earlierOf stands idle sameOf alternating isNan toBits ofBits
 past-64 = refl
+
+-- ---- Saving a form twice
+
+-- An enter, and two amends, the second of the reading's lowest bit alone; then 64 idle ones. Minus zero and a NaN are refused. All three
+-- edits are taken back; after the first of them the former reading stands, by which an amend is idle.
+abbrev saving : List Request
+saving = call (Enter one)
+    ∷ call (Amend (measured 0x3F80_0000))
+    ∷ replicate 65 (call (Amend (measured 0x3F80_0001)))
+    ++ (call (Amend (measured 0x8000_0000))
+    ∷ call (Amend (measured 0x7FC0_0000))
+    ∷ call TakeBack
+    ∷ call (Amend (measured 0x3F80_0000))
+    ∷ call TakeBack
+    ∷ call TakeBack
+    ∷ call TakeBack
+    ∷ [])
+
+pub saves : map (λ (a : Answer). a .refusal) (run fresh saving) ≡ replicate 67 0 ++ (5 ∷ 5 ∷ 0 ∷ 0 ∷ 0 ∷ 0 ∷ 9 ∷ [])
+unfolding run settle effectOf takeBack enterRefusal amendRefusal insertBy remove remember earlierOf stands idle sameOf sameReading isNan toBits ofBits
+saves = refl
+
+-- What is idle: the spell that stands, and none that differs in one field.
+pub idles : map (idle (one ∷ spell 12 8 3 4 (Reading (ofBits binary32 0x3F80_0000)) ∷ []))
+    (one ∷ spell 12 8 3 4 (Reading (ofBits binary32 0x3F80_0000))
+    ∷ spell 13 7 1 10 (Grade 2) ∷ spell 11 8 1 10 (Grade 2) ∷ spell 11 7 2 10 (Grade 2) ∷ spell 11 7 1 11 (Grade 2) ∷ spell 11 7 1 10 (Grade 3)
+    ∷ measured 0 ∷ spell 12 8 3 4 (Reading (ofBits binary32 0x3F80_0001)) ∷ spell 12 8 3 4 (Grade 2) ∷ [])
+    ≡ true ∷ true ∷ replicate 8 false
+unfolding idle sameOf sameReading isNan toBits ofBits
+idles = refl

@@ -1,5 +1,5 @@
 -- What the edits do, each claim one of every state. Assumes nothing.
-use Rattle.basis.proofs.Prelude.{_∙_, _≡_, ap, refl, sym, _≤_, ℕ, List, List·Memᴰ, _++_, _∷_, false, true, _↔_, _⊎_, inl, inr, drop, length, take, le-leb}
+use Rattle.basis.proofs.Prelude.{_∙_, _≡_, ap, refl, sym, _≤_, ℕ, List, List·Memᴰ, _++_, _∷_, false, true, _↔_, _⊎_, inl, inr, drop, length, take, le-leb, by-cases}
 use Rattle.refusal.specs.Table.{accepted, duplicateNumber, unknownNumber, full}
 use Rattle.spell.specs.declared.Spell.{Spell}
 use Rattle.spell.specs.Entry.{refusalOf}
@@ -8,14 +8,15 @@ use Rattle.spell.specs.Listing.{stands, distinct}
 use Rattle.register.specs.Text.{writeAll}
 use Rattle.model.specs.declared.Call.the-variants.{Enter, Amend, Strike, TakeBack, Publish, Write, Ask}
 use Rattle.model.specs.declared.Question.the-variants.{Day}
-use Rattle.model.specs.Edits.{insert, remove, replace, enterRefusal, amendRefusal, strikeRefusal, remember}
+use Rattle.model.specs.Edits.{insert, remove, replace, idle, enterRefusal, amendRefusal, strikeRefusal, remember}
 use Rattle.model.specs.Questions.{onDay, listed}
-use Rattle.model.specs.Effects.{State, withStanding, Request, After, refuse, settle}
+use Rattle.model.specs.Effects.{State, withStanding, Request, After, Effect, refuse, settle}
 use Rattle.buffer.specs.Buffer.{over}
 use Rattle.model.specs.Model.{edit, effectOf, stepOf}
 use Rattle.model.specs.Reached.{Passes}
 use Rattle.model.proofs.Checks.{stops, passes, Enters, enter-accepted, Amends, amend-accepted, strike-accepted}
 use Rattle.model.proofs.Edits.{in-insert, in-remove}
+use Rattle.model.proofs.Idle.{idle-stands}
 use Rattle.model.proofs.Effects.{become-does}
 use Rattle.model.proofs.Rules.{back-takes, write-writes}
 use Rattle.model.proofs.Claims.{day-lists}
@@ -32,10 +33,16 @@ module _ (m : State) (q : Request) where
   unfolding effectOf
   enter-when s = rw (edit-answer (enterRefusal (m .standing) s) (insert s (m .standing))) (enter-accepted (m .standing) s)
 
+  amend-answer : (s : Spell) → stepOf (Amend s) m q .answer .refusal ≡ amendRefusal (m .standing) s
+  unfolding effectOf settle
+  amend-answer s =
+      let n : ℕ = amendRefusal (m .standing) s in
+      let F : Effect → Type 0 = λ e. settle e m q .answer .refusal ≡ n in
+      by-cases F (idle (m .standing) s) (λ _. become-does F m n (m .standing) (m .past) (λ e. sym e) (λ _. refl)) (λ _. edit-answer n (replace s (m .standing)))
+
   -- AMEND exactly where the spell passes and its number stands
   pub amend-when : (s : Spell) → stepOf (Amend s) m q .answer .refusal ≡ accepted ↔ Amends (m .standing) s
-  unfolding effectOf
-  amend-when s = rw (edit-answer (amendRefusal (m .standing) s) (replace s (m .standing))) (amend-accepted (m .standing) s)
+  amend-when s = rw (amend-answer s) (amend-accepted (m .standing) s)
 
   -- STRIKE exactly where the number stands
   pub strike-when : (k : ℕ) → stepOf (Strike k) m q .answer .refusal ≡ accepted ↔ (stands (m .standing) k ≡ true)
@@ -58,12 +65,12 @@ module _ (m : State) (q : Request) where
       edit-answer (enterRefusal (m .standing) s) (insert s (m .standing)) ∙ sym (passes (refusalOf s) _ fine) ∙ rw (free, le-leb 1024 (length (m .standing)) many)
 
   pub amend-bad : (s : Spell) → (Passes s → ⊥) → stepOf (Amend s) m q .answer .refusal ≡ refusalOf s
-  unfolding effectOf amendRefusal
-  amend-bad s bad = edit-answer (amendRefusal (m .standing) s) (replace s (m .standing)) ∙ sym (stops (refusalOf s) _ bad)
+  unfolding amendRefusal
+  amend-bad s bad = amend-answer s ∙ sym (stops (refusalOf s) _ bad)
 
   pub amend-unknown : (s : Spell) → Passes s → stands (m .standing) (s .number) ≡ false → stepOf (Amend s) m q .answer .refusal ≡ unknownNumber
-  unfolding effectOf amendRefusal
-  amend-unknown s fine free = edit-answer (amendRefusal (m .standing) s) (replace s (m .standing)) ∙ sym (passes (refusalOf s) _ fine) ∙ rw free
+  unfolding amendRefusal
+  amend-unknown s fine free = amend-answer s ∙ sym (passes (refusalOf s) _ fine) ∙ rw free
 
   pub strike-unknown : (k : ℕ) → stands (m .standing) k ≡ false → stepOf (Strike k) m q .answer .refusal ≡ unknownNumber
   unfolding effectOf strikeRefusal
@@ -99,18 +106,25 @@ module _ (m : State) (q : Request) where
     unfolding effectOf
     strike-removes k = edited (strikeRefusal (m .standing) k) (remove k (m .standing)) (in-remove k (m .standing) unique)
 
-    -- AMEND puts the given spell in the place of the one of its number, and keeps the others
-    pub amend-replaces : (s : Spell) → stepOf (Amend s) m q .answer .refusal ≡ accepted
+    -- AMEND by another spell than the standing one puts it in the place of that of its number, and keeps the others
+    pub amend-replaces : (s : Spell) → idle (m .standing) s ≡ false → stepOf (Amend s) m q .answer .refusal ≡ accepted
         → Edited (λ x. (x ≡ s) ⊎ (List·Memᴰ x (m .standing) × (x .number ≡ s .number → ⊥))) (stepOf (Amend s) m q .state)
     unfolding effectOf
-    amend-replaces s =
+    amend-replaces s real =
         let less = remove (s .number) (m .standing) in
-        edited (amendRefusal (m .standing) s) (replace s (m .standing)) (λ x.
+        rw real (edited (amendRefusal (m .standing) s) (replace s (m .standing)) (λ x.
         let put = in-insert earlierOf s less x in
         let kept = in-remove (s .number) (m .standing) unique x in (
           λ i. elim (put .0 i) [ inl e ↦ inl e | inr j ↦ inr (kept .0 j) ],
           λ i. put .1 (elim i [ inl e ↦ inl e | inr j ↦ inr (kept .1 j) ]),
-        ))
+        )))
+
+  -- AN IDLE AMEND, by a spell that equals the standing one in all fields, answers 0 and leaves the whole state as it is
+  pub idle-keeps : (s : Spell) → Passes s → idle (m .standing) s ≡ true → stepOf (Amend s) m q ≡ refuse accepted m q
+  unfolding effectOf settle
+  idle-keeps s fine same =
+      let n : amendRefusal (m .standing) s ≡ accepted = amend-accepted (m .standing) s .1 (record { passes = fine; there = idle-stands (m .standing) s same }) in
+      rw (same, n)
 
   -- A TAKE BACK after an accepted edit gives the former standing list, and leaves the published list
   pub edit-taken-back : {In : Spell → Type 0} {x : State} → Edited In x → (r : Request)
@@ -119,8 +133,8 @@ module _ (m : State) (q : Request) where
 
 -- ---- What is amended after a publish is written, and not yet asked
 
-module _ (m : State) (p e : Request) (s : Spell) where
-  -- the state after a publish and an amend
+module _ (m : State) (p e : Request) (s : Spell) (real : idle (m .standing) s ≡ false) where
+  -- the state after a publish and an amend by another spell than the standing one
   abbrev amended : After
   amended = stepOf (Amend s) (stepOf Publish m p .state) e
 
@@ -128,8 +142,8 @@ module _ (m : State) (p e : Request) (s : Spell) where
   unfolding effectOf settle
   amended-lists =
       let x : State = stepOf Publish m p .state in
-      become-does (λ f. settle f x e .answer .refusal ≡ accepted → (settle f x e .state .standing ≡ replace s (m .standing)) × (settle f x e .state .published ≡ m .standing))
-      x (amendRefusal (m .standing) s) (replace s (m .standing)) (remember (m .standing) (m .past)) (λ _ _. (refl, refl)) (λ no r. absurd (no r))
+      rw real (become-does (λ f. settle f x e .answer .refusal ≡ accepted → (settle f x e .state .standing ≡ replace s (m .standing)) × (settle f x e .state .published ≡ m .standing))
+      x (amendRefusal (m .standing) s) (replace s (m .standing)) (remember (m .standing) (m .past)) (λ _ _. (refl, refl)) (λ no r. absurd (no r)))
 
   -- WRITING gives the amended list, and a DAY still asks the list as it was published
   pub amended-unpublished : amended .answer .refusal ≡ accepted → (q : Request) (d : ℕ)

@@ -9,10 +9,10 @@ use Rattle.model.specs.declared.Call.{Call}
 use Rattle.model.specs.declared.Call.the-variants.{Enter, Amend, Strike, TakeBack, Publish, Write, Ask}
 use Rattle.model.specs.declared.Question.{Question}
 use Rattle.model.specs.declared.Question.the-variants.{Day, Span, Cover, Days}
-use Rattle.model.specs.Edits.{insert, remove, replace, enterRefusal, amendRefusal, strikeRefusal, takeBackRefusal, remember, frontOr, restOf}
+use Rattle.model.specs.Edits.{insert, remove, replace, idle, enterRefusal, amendRefusal, strikeRefusal, takeBackRefusal, remember, frontOr, restOf}
 use Rattle.model.specs.Questions.{onAny, rising, listed}
 use Rattle.model.specs.Effects.{State, withStanding, Request, After, Effect, refused, done, gives, writes, refuse, gave, wrote, settle}
-use Rattle.model.specs.Model.{become, takeBack, publish, reaching, cover, ask, effectOf, step}
+use Rattle.model.specs.Model.{become, edit, amend, takeBack, publish, reaching, cover, ask, effectOf, step}
 use Rattle.model.specs.Journal.{reads}
 use Rattle.model.proofs.Rules.{fits-given, short-refused, text-fits, text-short}
 
@@ -50,6 +50,13 @@ module _ (F : Effect → Type 0) where
   pub become-does : (m : State) (n : ℕ) (l : List Spell) (p : List (List Spell))
       → (n ≡ accepted → F (done (withStanding l p m))) → ((n ≡ accepted → ⊥) → F (refused n)) → F (become n l p m)
   become-does m n l p made kept = by-cases F (eqb n accepted) (λ e. made (eqb-true n accepted e)) (λ e. kept (eqb-false n accepted e))
+
+  -- an amend: an idle one leaves the state, any other is an edit
+  pub amend-does : (m : State) (s : Spell) → Refusing
+      → (idle (m .standing) s ≡ true → amendRefusal (m .standing) s ≡ accepted → F (done m))
+      → (idle (m .standing) s ≡ false → F (edit (amendRefusal (m .standing) s) (replace s (m .standing)) m)) → F (amend s m)
+  amend-does m s refusing stays made =
+      by-cases F (idle (m .standing) s) (λ e. become-does m (amendRefusal (m .standing) s) (m .standing) (m .past) (stays e) (refusing _)) made
 
   -- F holds of whatever a question does
   pub record Asking (ds : List ℕ) (p : List Spell) : Type 0 where
@@ -99,7 +106,8 @@ module _ (F : Effect → Type 0) where
     call-does (Enter s) changed published =
         become-does m (enterRefusal (m .standing) s) (insert s (m .standing)) (remember (m .standing) (m .past)) (λ _. changed refl _ _) (a .refusing _)
     call-does (Amend s) changed published =
-        become-does m (amendRefusal (m .standing) s) (replace s (m .standing)) (remember (m .standing) (m .past)) (λ _. changed refl _ _) (a .refusing _)
+        amend-does m s (a .refusing) (λ _ _. changed refl (m .standing) (m .past)) (λ _.
+        become-does m (amendRefusal (m .standing) s) (replace s (m .standing)) (remember (m .standing) (m .past)) (λ _. changed refl _ _) (a .refusing _))
     call-does (Strike k) changed published =
         become-does m (strikeRefusal (m .standing) k) (remove k (m .standing)) (remember (m .standing) (m .past)) (λ _. changed refl _ _) (a .refusing _)
     call-does TakeBack changed published =

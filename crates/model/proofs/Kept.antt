@@ -15,7 +15,7 @@ use Rattle.model.specs.Model.{begun, edit, takeBack, effectOf, step}
 use Rattle.model.specs.Reached.{Begun, afresh, reading, after, Kept, Brings}
 use Rattle.model.proofs.Edits.{orderly-none, orderly-insert, orderly-remove, orderly-replace}
 use Rattle.model.proofs.Checks.{enters, amends, strike-accepted}
-use Rattle.model.proofs.Effects.{Comes, settles, become-does, asks-does}
+use Rattle.model.proofs.Effects.{Comes, settles, become-does, amend-does, asks-does}
 use Rattle.model.proofs.Rules.{reading-begins}
 
 in-take : {A : Type 0} {x : A} (n : ℕ) (l : List A) → List·Memᴰ x (take n l) → List·Memᴰ x l
@@ -73,9 +73,9 @@ module _ (P : Spell → Type 0) where
         let c = enters (m .standing) s e in
         orderly-insert text-order P s (m .standing) (k .standing) (b s (inl refl) (c .passes)) (c .free) (c .room))
     call-keeps (Amend s) b =
-        edit-keeps (amendRefusal (m .standing) s) (replace s (m .standing)) (λ e.
+        amend-does Keeps m s (λ _ _. k) (λ _ _. k) (λ _. edit-keeps (amendRefusal (m .standing) s) (replace s (m .standing)) (λ e.
         let c = amends (m .standing) s e in
-        orderly-replace text-order P s (m .standing) (k .standing) (b s (inr refl) (c .passes)) (c .there))
+        orderly-replace text-order P s (m .standing) (k .standing) (b s (inr refl) (c .passes)) (c .there)))
     call-keeps (Strike n) b =
         edit-keeps (strikeRefusal (m .standing) n) (remove n (m .standing)) (λ e.
         orderly-remove text-order P n (m .standing) (k .standing) (strike-accepted (m .standing) n .0 e))

@@ -5,6 +5,7 @@ pub mod Bridge
 pub mod Claims
 pub mod Checks
 pub mod Edits
+pub mod Idle
 pub mod Editing
 pub mod Kept
 pub mod Journal

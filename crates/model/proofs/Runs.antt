@@ -3,18 +3,23 @@ use Rattle.basis.proofs.Prelude.{_∙_, _≡_, ap, refl, sym, _≤_, ℕ, List,
 use Rattle.refusal.specs.Table.{accepted}
 use Rattle.spell.specs.declared.Spell.{Spell}
 use Rattle.spell.specs.Order.{ordered}
-use Rattle.spell.specs.Listing.{distinct, Sound}
+use Rattle.spell.specs.Listing.{distinct, HeldUrgency, Sound}
+use Rattle.spell.proofs.Order.{each-member, each-map}
 use Rattle.register.specs.Text.{writeAll, readText}
 use Rattle.register.specs.Text.Register.{good}
 use Rattle.register.proofs.Claims.{list-again}
-use Rattle.model.specs.declared.Call.the-variants.{Ask}
+use Rattle.model.specs.declared.Call.the-variants.{Amend, Ask}
 use Rattle.model.specs.declared.Question.{Question}
 use Rattle.model.specs.declared.Question.the-variants.{Day, Span, Cover, Days}
+use Rattle.model.specs.Edits.{idle}
 use Rattle.model.specs.Questions.{reaches, onDay, onSpan, covers, onAny, filter}
+use Rattle.model.specs.Effects.{refuse}
 use Rattle.model.specs.Model.{State, Request, Answer, stepOf, step, run}
 use Rattle.model.specs.Reached.{Begun, after, Kept, Passes, Brings}
 use Rattle.model.proofs.Claims.{Lists, day-lists, span-lists, cover-lists, days-lists, listed-exactly, listed-ordered, listed-once}
 use Rattle.model.proofs.Edits.{one-spell}
+use Rattle.model.proofs.Idle.{idle-itself, idle-member}
+use Rattle.model.proofs.Editing.{idle-keeps}
 use Rattle.model.proofs.Kept.{begun-kept, after-kept}
 -- A JOURNAL of the accepted changes and of the readings suffices: for the state, for every later answer, and to tell its own again
 pub use Rattle.model.proofs.Journal.{left-out, journal-left, journal-later, journal-told}
@@ -41,6 +46,23 @@ module _ {m₀ : State} (begin : Begun m₀) (calls : List Request) where
   -- so the text of the standing list reads back as the standing list
   pub written-again : ((q : Request) → List·Memᴰ q calls → Brings Sound (q .call)) → readText (writeAll (after m₀ calls .standing)) ≡ good (after m₀ calls .standing)
   written-again b = list-again (after m₀ calls .standing) (always-sound b .standing)
+
+-- ---- Saving a form twice
+
+-- AN AMEND BY A SPELL THAT STANDS answers 0 and leaves the whole state as it is, after every list of calls
+pub always-idle : {m₀ : State} → Begun m₀ → (calls : List Request) (q : Request) (s : Spell) → List·Memᴰ s (after m₀ calls .standing)
+    → stepOf (Amend s) (after m₀ calls) q ≡ refuse accepted (after m₀ calls) q
+always-idle {m₀} begin calls q s i =
+    let o = always-kept begin calls .standing in
+    idle-keeps (after m₀ calls) q s (each-member Passes (after m₀ calls .standing) s (o .each) i) (idle-itself (after m₀ calls .standing) (o .unique) s i)
+
+-- and no other is idle, where each spell that a call brings is sound
+pub always-real : {m₀ : State} → Begun m₀ → (calls : List Request) → ((q : Request) → List·Memᴰ q calls → Brings Sound (q .call))
+    → (s : Spell) → Sound s → idle (after m₀ calls .standing) s ≡ true ↔ List·Memᴰ s (after m₀ calls .standing)
+always-real {m₀} begin calls b s sound =
+    let l = after m₀ calls .standing in
+    let o = always-sound begin calls b .standing in
+    (idle-member l (each-map Sound (λ x. HeldUrgency (x .urgency)) (λ x g. g .held) l (o .each)) s (sound .held), idle-itself l (o .unique) s)
 
 -- ---- The answers of the questions
 

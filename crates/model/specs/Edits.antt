@@ -1,6 +1,6 @@
 -- The edits of the standing list and what they leave in the past (document 01, "The plain account"). Assumes nothing.
 use Prim.Native.Nat.{ℕ}
-use mathlib.Core.Bool.{Bool, cond}
+use mathlib.Core.Bool.{Bool, false, cond}
 use mathlib.Core.List.{List, [], _∷_}
 use lib.Dec.{leb, eqb}
 use lib.ListN.{length, take}
@@ -8,6 +8,7 @@ use Rattle.refusal.specs.Table.{accepted, duplicateNumber, unknownNumber, full,
 use Rattle.spell.specs.declared.Spell.{Spell}
 use Rattle.spell.specs.Entry.{refusalOf}
 use Rattle.spell.specs.Order.{earlierOf}
+use Rattle.spell.specs.Same.{sameOf}
 use Rattle.spell.specs.Listing.{stands}
 
 -- ---- The standing list, kept in the order
@@ -29,6 +30,11 @@ remove k (x ∷ l) = cond (eqb (x .number) k) l (x ∷ remove k l)
 -- the spell of its number replaced by the given one
 abbrev pub replace : Spell → List Spell → List Spell
 replace s l = insert s (remove (s .number) l)
+
+-- an amend by s is idle: the standing spell of its number equals s in all fields, reading bits included
+unfoldable pub idle : List Spell → Spell → Bool
+idle [] s = false
+idle (x ∷ l) s = cond (eqb (x .number) (s .number)) (sameOf x s) (idle l s)
 
 -- ---- The checks, in their order
 

@@ -13,7 +13,7 @@ use Rattle.model.specs.declared.Call.{Call}
 use Rattle.model.specs.declared.Call.the-variants.{Enter, Amend, Strike, TakeBack, Publish, Write, Ask}
 use Rattle.model.specs.declared.Question.{Question}
 use Rattle.model.specs.declared.Question.the-variants.{Day, Span, Cover, Days}
-use Rattle.model.specs.Edits.{insert, remove, replace, enterRefusal, amendRefusal, strikeRefusal, takeBackRefusal, remember, frontOr, restOf}
+use Rattle.model.specs.Edits.{insert, remove, replace, idle, enterRefusal, amendRefusal, strikeRefusal, takeBackRefusal, remember, frontOr, restOf}
 use Rattle.model.specs.Questions.{reaches, onAny, rising, listed, comparisonsOf}
 use Rattle.model.specs.Effects.{Effect, refused, done, gives, writes, settle}
 pub use Rattle.model.specs.Effects.{State, withStanding, withPublished, Request, Answer, After}
@@ -49,6 +49,12 @@ become n l p m = cond (eqb n accepted) (done (withStanding l p m)) (refused n)
 abbrev pub edit : ℕ → List Spell → State → Effect
 edit n l m = become n l (remember (m .standing) (m .past)) m
 
+-- amend: where the spell equals the standing one in all fields, the whole state stays as it is
+abbrev pub amend : Spell → State → Effect
+amend s m =
+    let n = amendRefusal (m .standing) s in
+    cond (idle (m .standing) s) (become n (m .standing) (m .past) m) (edit n (replace s (m .standing)) m)
+
 -- take back: the standing list becomes the front of the past, which loses it
 unfoldable pub takeBack : List (List Spell) → State → Effect
 unfolding takeBackRefusal frontOr restOf
@@ -81,7 +87,7 @@ ask Days ds p = cond (daysOk ds) (cond (rising ds) (gives (listed (onAny ds) p) 
 -- what a call does in the state m; ds are the days of a days question
 unfoldable pub effectOf : Call → List ℕ → State → Effect
 effectOf (Enter s) ds m = edit (enterRefusal (m .standing) s) (insert s (m .standing)) m
-effectOf (Amend s) ds m = edit (amendRefusal (m .standing) s) (replace s (m .standing)) m
+effectOf (Amend s) ds m = amend s m
 effectOf (Strike k) ds m = edit (strikeRefusal (m .standing) k) (remove k (m .standing)) m
 effectOf TakeBack ds m = takeBack (m .past) m
 effectOf Publish ds m = publish m

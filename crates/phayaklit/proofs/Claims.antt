@@ -1,6 +1,7 @@
 -- What the library is for: whoever makes the calls, through the exported functions and on words that a host lent, the answers
 -- are the account's. Assumes nothing.
-use Rattle.basis.proofs.Prelude.{_∙_, _≡_, ap, refl, sym, ℕ, List, false, false≢true, eqb}
+use Rattle.basis.proofs.Prelude.{_∙_, _≡_, ap, refl, sym, ℕ, List, false, false≢true, true, eqb}
+use Rattle.spell.specs.declared.Spell.{Spell}
 use Rattle.refusal.specs.Table.{accepted}
 use Rattle.register.specs.Text.{readText}
 use Rattle.model.specs.Model.{State, fresh, begun, Request, Answer, run}
@@ -8,15 +9,17 @@ use Rattle.packing.specs.Blocks.{Every}
 use Rattle.packing.specs.Words.{Narrow}
 use Rattle.standing.proofs.Claims.{packing-identity}
 use Rattle.model.specs.declared.Call.{Call}
+use Rattle.model.specs.declared.Call.the-variants.{Amend}
+use Rattle.model.specs.Edits.{idle}
 use Rattle.service.specs.declared.Service.{Service}
 use Rattle.service.specs.declared.Outcome.{Outcome}
 use Rattle.service.specs.Places.{serviceOf, readService, leaves}
 use Rattle.service.specs.Packed.{packed, unpacked}
-use Rattle.service.specs.Service.{Blocks, Valid, Given, Met, Changed, Begins}
+use Rattle.service.specs.Service.{Blocks, Valid, Represents, Given, Met, Changed, Begins}
 use Rattle.service.proofs.Represented.{represented}
 use Rattle.service.proofs.Beginning.{publishes-met}
 use Rattle.service.specs.History as history
-use Rattle.service.proofs.Claims.{made-run, made-given}
+use Rattle.service.proofs.Claims.{made-run, made-given, idle-left}
 use Rattle.phayaklit.specs.declared.Reply.{Reply}
 use Rattle.phayaklit.specs.declared.Opened.{Opened}
 use Rattle.phayaklit.specs.Host.{Laid, steppedOf, startedOf}
@@ -97,3 +100,19 @@ pub refused-keeps-words : {words words′ words″ : List ℕ} {bs bs′ bs″ :
 refused-keeps-words o h c t =
     let g = represented (o .0) in
     called-keeps (hosted-given g h) (hosted-laid g (o .1) h) c t
+
+-- an idle amend leaves the words as they were
+called-idle : {words words′ : List ℕ} {bs bs′ : Blocks} {numbers text : List ℕ} {q : Request} {r : Reply} {m : State} (s : Spell) → Represents (unpacked words) bs m
+    → Laid words → Called words bs q r words′ bs′ numbers text → q .call ≡ Amend s → idle (m .standing) s ≡ true → words′ ≡ words
+called-idle {words} s h l (edited c r met) is same =
+    let k = met (h .valid) in
+    k .1 ∙ ap packed (k .0 .whole ∙ ap (leaves (unpacked words)) is ∙ idle-left s h same) ∙ sym l
+called-idle s h l (published r met) is same = refl
+called-idle s h l (wrote r met) is same = refl
+called-idle s h l (asked w r met) is same = refl
+
+-- AN IDLE AMEND leaves the host's words as they were, word for word, wherever it stands in a list of calls
+pub idle-keeps-words : {words words′ words″ : List ℕ} {bs bs′ bs″ : Blocks} {numbers text : List ℕ} {m m′ : State} {qs : List Request} {answers : List Answer}
+    {q : Request} {r : Reply} (s : Spell) → Opens words bs m → Hosted words bs qs answers words′ bs′ → Represents (unpacked words′) bs′ m′
+    → Called words′ bs′ q r words″ bs″ numbers text → q .call ≡ Amend s → idle (m′ .standing) s ≡ true → words″ ≡ words′
+idle-keeps-words s o h stands c = called-idle s stands (hosted-laid (represented (o .0)) (o .1) h) c

@@ -1,9 +1,13 @@
 -- Demand 3 with no driver: whoever makes the calls, the answers are the account's. Assumes nothing.
-use Rattle.basis.proofs.Prelude.{_≡_, refl, ℕ, List}
+use Rattle.basis.proofs.Prelude.{_≡_, refl, ℕ, List, true}
+use Rattle.spell.specs.declared.Spell.{Spell}
 use Rattle.register.specs.Text.{readText}
+use Rattle.model.specs.declared.Call.the-variants.{Amend}
+use Rattle.model.specs.Edits.{idle}
 use Rattle.model.specs.Model.{State, fresh, begun, Request, Answer, step, run}
 use Rattle.service.specs.declared.Service.{Service}
 use Rattle.service.specs.declared.Started.{Started}
+use Rattle.service.specs.Places.{leavesOf, leaves}
 use Rattle.service.specs.Service.{Blocks, Represents, Given, Begins}
 use Rattle.service.proofs.Represented.{represented}
 use Rattle.service.specs.History.{Made, none, then}
@@ -32,3 +36,8 @@ made-fresh s = made-run fresh s
 pub made-read : {sv′ : Service} {bs bs′ : Blocks} {qs : List Request} {answers : List Answer} (register : List ℕ) (r : Started)
     → Begins (readText register) r bs → Made (r .service) bs qs answers sv′ bs′ → answers ≡ run (begun (readText register)) qs
 made-read register r b = made-run (begun (readText register)) (b .represents)
+
+-- AN IDLE AMEND leaves the whole service as it was
+pub idle-left : {sv : Service} {bs : Blocks} {m : State} (s : Spell) → Represents sv bs m → idle (m .standing) s ≡ true → leaves sv (Amend s) ≡ sv
+unfolding leavesOf
+idle-left s h same = rw (h .standing, same)

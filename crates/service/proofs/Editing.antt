@@ -1,16 +1,16 @@
 -- From an edit of the standing list to the postcondition of the call. Assumes nothing.
-use Rattle.basis.proofs.Prelude.{_∙_, _≡_, ap, refl, subst, sym, ℕ, List, [], _∷_, false, false≢true, true, eqb, eqb-true, by-test}
+use Rattle.basis.proofs.Prelude.{_∙_, _≡_, ap, refl, subst, sym, ℕ, List, [], _∷_, Bool, cond, false, false≢true, true, eqb, eqb-true, by-cases}
 use Rattle.refusal.specs.Table.{accepted}
 use Rattle.spell.specs.declared.Spell.{Spell}
 use Rattle.standing.specs.declared.Edited.{Edited}
 use Rattle.standing.specs.declared.Undo.{Undo}
 use Rattle.standing.specs.Places.{entering, replacing}
-use Rattle.standing.specs.Standing.{Wf, listOf, pasts, afterEdit, Edits, TakesBack}
+use Rattle.standing.specs.Standing.{Wf, listOf, pasts, makes, afterEdit, Edits, TakesBack}
 use Rattle.model.specs.declared.Call.{Call}
 use Rattle.model.specs.declared.Call.the-variants.{Enter, Amend, Strike, TakeBack}
-use Rattle.model.specs.Edits.{insert, remove, replace, enterRefusal, amendRefusal, strikeRefusal, takeBackRefusal, remember, frontOr, restOf}
-use Rattle.model.specs.Effects.{State, Effect, settle}
-use Rattle.model.specs.Model.{edit, takeBack, effectOf}
+use Rattle.model.specs.Edits.{insert, remove, replace, idle, enterRefusal, amendRefusal, strikeRefusal, takeBackRefusal, remember, frontOr, restOf}
+use Rattle.model.specs.Effects.{State, withStanding, Effect, refused, done, settle}
+use Rattle.model.specs.Model.{become, edit, takeBack, effectOf}
 use Rattle.service.specs.declared.Service.{Service}
 use Rattle.service.specs.declared.Stepped.{Stepped}
 use Rattle.service.specs.Places.{serviceOf, leavesOf}
@@ -43,41 +43,57 @@ changed sv c e w whole kept f = record {
 }
 
 -- ---- Enter, amend, strike
-module _ (sv : Service) (c : Call) (e : Edited) (n : List Spell → ℕ) (f : List Spell → List Spell) (u : Undo)
-    (left : leavesOf (sv .standing) c ≡ afterEdit (sv .standing) (n (listOf (sv .standing))) (f (listOf (sv .standing))) u)
-    (is : (m : State) (days : List ℕ) → effectOf c days m ≡ edit (n (m .standing)) (f (m .standing)) m)
-    (d : Edits (sv .standing) e (n (listOf (sv .standing))) (f (listOf (sv .standing))) u) where
+
+-- a refused edit is not made
+unmade : (idle : Bool) (n : ℕ) → eqb n accepted ≡ false → makes idle n ≡ false
+unmade true n t = refl
+unmade false n t = t
+
+-- the call c is idle by the test i, refused with the number of n, and else makes the standing list f
+module _ (sv : Service) (c : Call) (e : Edited) (i : List Spell → Bool) (n : List Spell → ℕ) (f : List Spell → List Spell) (u : Undo)
+    (left : leavesOf (sv .standing) c ≡ afterEdit (sv .standing) (i (listOf (sv .standing))) (n (listOf (sv .standing))) (f (listOf (sv .standing))) u)
+    (is : (m : State) (days : List ℕ) → effectOf c days m ≡ cond (i (m .standing)) (become (n (m .standing)) (m .standing) (m .past) m) (edit (n (m .standing)) (f (m .standing)) m))
+    (d : Edits (sv .standing) e (i (listOf (sv .standing))) (n (listOf (sv .standing))) (f (listOf (sv .standing))) u) where
+  abbrev l : List Spell
+  l = listOf (sv .standing)
+
+  kept : {m : State} {bs : Blocks} → makes (i l) (n l) ≡ false → Represents sv bs m → Represents (steppedOf e .service) bs m
+  kept t h = record { valid = record { standing = d .wf }; standing = d .list ∙ rw t (h .standing); past = d .past ∙ rw t (h .past); shows = h .shows }
+
+  made : {m : State} {bs : Blocks} → makes (i l) (n l) ≡ true → Represents sv bs m → Represents (steppedOf e .service) bs (withStanding (f l) (remember (m .standing) (m .past)) m)
+  made {m} t h = record {
+    valid = record { standing = d .wf };
+    standing = d .list ∙ rw t;
+    past = d .past ∙ rw t (ap (λ (l : List Spell). remember l (pasts (sv .standing))) (h .standing) ∙ ap (remember (m .standing)) (h .past));
+    shows = h .shows;
+  }
+
   pub edit-changed : Changed sv c (steppedOf e)
   unfolding settle
-  edit-changed = changed sv c e (d .wf) (d .whole ∙ sym left) (λ t. d .kept (rw (d .refusal) at t)) (λ m bs days h.
-      let k : ℕ = n (listOf (sv .standing)) in
-      let here : edit (n (m .standing)) (f (m .standing)) m ≡ edit k (f (listOf (sv .standing))) m = rw (h .standing) in
-      rw (is m days ∙ here) (by-test (eqb k accepted)
-      (λ t. rw (t, d .refusal ∙ eqb-true k accepted t) (λ days numbers text c. (
-        refl,
-        record {
-          valid = record { standing = d .wf };
-          standing = d .list ∙ rw t;
-          past = d .past ∙ rw t (ap (λ (l : List Spell). remember l (pasts (sv .standing))) (h .standing) ∙ ap (remember (m .standing)) (h .past));
-          shows = h .shows;
-        },
-      )))
-      (λ t. rw (t, d .refusal) (λ days numbers text c. (
-        refl,
-        record { valid = record { standing = d .wf }; standing = d .list ∙ rw t (h .standing); past = d .past ∙ rw t (h .past); shows = h .shows },
-      )))))
+  edit-changed = changed sv c e (d .wf) (d .whole ∙ sym left) (λ t. d .kept (unmade (i l) (n l) (rw (d .refusal) at t))) (λ m bs days h.
+      let k : ℕ = n l in
+      let does : List Spell → Effect = λ z. cond (i z) (become (n z) (m .standing) (m .past) m) (edit (n z) (f z) m) in
+      let refused : eqb k accepted ≡ false → Follows e bs m (refused k) = λ t. rw (d .refusal) (λ days numbers text c. (refl, kept (unmade (i l) k t) h)) in
+      let done : eqb k accepted ≡ true → (x : State) → Represents (steppedOf e .service) bs x → Follows e bs m (done x) =
+      λ t x r. rw (d .refusal ∙ eqb-true k accepted t) (λ days numbers text c. (refl, r)) in
+      rw (is m days ∙ sym (ap does (h .standing)))
+      (by-cases (Follows e bs m) (i l)
+      (λ y. by-cases (Follows e bs m) (eqb k accepted) (λ t. done t m (kept (rw y) h)) refused)
+      (λ y. by-cases (Follows e bs m) (eqb k accepted) (λ t. done t _ (made (rw (y, t)) h)) refused)))
 
-pub enter-changed : (sv : Service) (s : Spell) (e : Edited) → Edits (sv .standing) e (enterRefusal (listOf (sv .standing)) s) (insert s (listOf (sv .standing))) (entering s) → Changed sv (Enter s) (steppedOf e)
+pub enter-changed : (sv : Service) (s : Spell) (e : Edited) → Edits (sv .standing) e false (enterRefusal (listOf (sv .standing)) s) (insert s (listOf (sv .standing))) (entering s) → Changed sv (Enter s) (steppedOf e)
 unfolding effectOf leavesOf
-enter-changed sv s e d = edit-changed sv (Enter s) e (λ l. enterRefusal l s) (insert s) (entering s) refl (λ m ds. refl) d
+enter-changed sv s e d = edit-changed sv (Enter s) e (λ _. false) (λ l. enterRefusal l s) (insert s) (entering s) refl (λ m ds. refl) d
 
-pub amend-changed : (sv : Service) (s : Spell) (e : Edited) → Edits (sv .standing) e (amendRefusal (listOf (sv .standing)) s) (replace s (listOf (sv .standing))) (replacing (s .number) (listOf (sv .standing))) → Changed sv (Amend s) (steppedOf e)
+pub amend-changed : (sv : Service) (s : Spell) (e : Edited)
+    → Edits (sv .standing) e (idle (listOf (sv .standing)) s) (amendRefusal (listOf (sv .standing)) s) (replace s (listOf (sv .standing))) (replacing (s .number) (listOf (sv .standing)))
+    → Changed sv (Amend s) (steppedOf e)
 unfolding effectOf leavesOf
-amend-changed sv s e d = edit-changed sv (Amend s) e (λ l. amendRefusal l s) (replace s) (replacing (s .number) (listOf (sv .standing))) refl (λ m ds. refl) d
+amend-changed sv s e d = edit-changed sv (Amend s) e (λ l. idle l s) (λ l. amendRefusal l s) (replace s) (replacing (s .number) (listOf (sv .standing))) refl (λ m ds. refl) d
 
-pub strike-changed : (sv : Service) (k : ℕ) (e : Edited) → Edits (sv .standing) e (strikeRefusal (listOf (sv .standing)) k) (remove k (listOf (sv .standing))) (replacing k (listOf (sv .standing))) → Changed sv (Strike k) (steppedOf e)
+pub strike-changed : (sv : Service) (k : ℕ) (e : Edited) → Edits (sv .standing) e false (strikeRefusal (listOf (sv .standing)) k) (remove k (listOf (sv .standing))) (replacing k (listOf (sv .standing))) → Changed sv (Strike k) (steppedOf e)
 unfolding effectOf leavesOf
-strike-changed sv k e d = edit-changed sv (Strike k) e (λ l. strikeRefusal l k) (remove k) (replacing k (listOf (sv .standing))) refl (λ m ds. refl) d
+strike-changed sv k e d = edit-changed sv (Strike k) e (λ _. false) (λ l. strikeRefusal l k) (remove k) (replacing k (listOf (sv .standing))) refl (λ m ds. refl) d
 
 -- ---- Take back
 

@@ -6,9 +6,10 @@ use Rattle.refusal.specs.Table.{accepted, unknownNumber, noHistory}
 use Rattle.spell.specs.declared.Spell.{Spell}
 use Rattle.spell.specs.Order.{earlierOf}
 use Rattle.spell.specs.Listing.{stands, Sound, Good}
+use Rattle.spell.specs.Same.{sameOf}
 use Rattle.spell.proofs.Order.{text-order}
 use Rattle.spell.specs.Blank.{blank}
-use Rattle.model.specs.Edits.{insert, remove, replace, enterRefusal, amendRefusal, strikeRefusal, takeBackRefusal, frontOr, restOf}
+use Rattle.model.specs.Edits.{insert, remove, replace, idle, enterRefusal, amendRefusal, strikeRefusal, takeBackRefusal, frontOr, restOf}
 use Rattle.standing.specs.declared.Undo.{Undo}
 use Rattle.standing.specs.declared.Standing.{Standing}
 use Rattle.standing.specs.Standing.{listOf, entries, undo, pastOf, pasts, Goods, Wf, Fresh, Edits, afterTakeBack, TakesBack}
@@ -18,7 +19,7 @@ use Rattle.standing.proofs.Search.{remove-at}
 use Rattle.standing.proofs.Places.{same, over-same, list-over, past-over, wf-over, over-relisted}
 use Rattle.model.proofs.Edits.{length-insert, removed-gone, orderly-none, orderly-insert, orderly-remove, orderly-replace, remove-none, remove-insert}
 use Rattle.model.proofs.Checks.{enters, amends}
-use Rattle.standing.proofs.Edits.{insert-remove}
+use Rattle.standing.proofs.Edits.{idle-index, insert-remove}
 use Rattle.standing.proofs.Checks.{found, missed, strike-refusal}
 use Rattle.standing.proofs.Past.{pop, refused, edited}
 
@@ -38,7 +39,7 @@ removed-none st k p fits e h =
 -- ---- Enter
 
 pub enter-made : (st : Standing) (s : Spell) → Wf st → Sound s → enterRefusal (listOf st) s ≡ accepted
-    → Edits st (record { standing = holding st (insert s (listOf st)) (noted (entering s) (entries st)); refusal = accepted }) (enterRefusal (listOf st) s) (insert s (listOf st)) (entering s)
+    → Edits st (record { standing = holding st (insert s (listOf st)) (noted (entering s) (entries st)); refusal = accepted }) false (enterRefusal (listOf st) s) (insert s (listOf st)) (entering s)
 enter-made st s w sound done =
     let e = enters (listOf st) s done in
     edited st (enterRefusal (listOf st) s) (insert s (listOf st)) (entering s) w
@@ -61,6 +62,7 @@ module _ (st : Standing) (w : Wf st) (k p : ℕ) (e : p ≡ indexOf k (listOf st
 
   pub strike-made : Edits st
       (record { standing = holding st (take p (listOf st) ++ drop (suc p) (listOf st)) (noted (record { number = k; stood = true; spell = getD (st .spells) p blank }) (entries st)); refusal = accepted })
+      false
       (strikeRefusal (listOf st) k)
       (remove k (listOf st))
       (replacing k (listOf st))
@@ -72,29 +74,35 @@ module _ (st : Standing) (w : Wf st) (k p : ℕ) (e : p ≡ indexOf k (listOf st
       (unfold strikeRefusal in rw there))
 
 pub strike-unknown : (st : Standing) (w : Wf st) (k p : ℕ) → p ≡ indexOf k (listOf st) → st .count ≤ p
-    → Edits st (record { standing = st; refusal = unknownNumber }) (strikeRefusal (listOf st) k) (remove k (listOf st)) (replacing k (listOf st))
+    → Edits st (record { standing = st; refusal = unknownNumber }) false (strikeRefusal (listOf st) k) (remove k (listOf st)) (replacing k (listOf st))
 strike-unknown st w k p e h =
-    refused st unknownNumber (strikeRefusal (listOf st) k) (remove k (listOf st)) (replacing k (listOf st)) w (λ z. omega arith) (strike-refusal (listOf st) (st .count) k p (list-length st w) e h)
+    refused false w (λ z. omega arith) (strike-refusal (listOf st) (st .count) k p (list-length st w) e h)
 
 -- the removal leaves room for the insertion
 pub amend-room : (st : Standing) (p : ℕ) → Wf st → p < st .count → length (take p (listOf st) ++ drop (suc p) (listOf st)) < 1024
 amend-room st p w h =
     omega (arith, length-append (take p (listOf st)) (drop (suc p) (listOf st)), length-take p (listOf st), length-drop (suc p) (listOf st), list-length st w, w .count-in)
 
+-- what is found is the spell of an idle amend
+pub idle-is : (st : Standing) (s : Spell) (w : Wf st) (p : ℕ) → p ≡ indexOf (s .number) (listOf st) → p < st .count
+    → idle (listOf st) s ≡ sameOf (getD (st .spells) p blank) s
+idle-is st s w p e h = rw (← getD-take (st .count) (st .spells) p blank h, e) (idle-index s (listOf st) (there st w (s .number) p e h))
+
 pub amend-made : (st : Standing) (s : Spell) (w : Wf st) (p : ℕ) (e : p ≡ indexOf (s .number) (listOf st)) (h : p < st .count) → Sound s
-    → amendRefusal (listOf st) s ≡ accepted
+    → amendRefusal (listOf st) s ≡ accepted → idle (listOf st) s ≡ false
     → let m = relisted st (take p (listOf st) ++ drop (suc p) (listOf st)) in
     Edits st (record { standing = holding m (insert s (listOf m)) (noted (record { number = s .number; stood = true; spell = getD (st .spells) p blank }) (entries st)); refusal = accepted })
+    (idle (listOf st) s)
     (amendRefusal (listOf st) s)
     (replace s (listOf st))
     (replacing (s .number) (listOf st))
-amend-made st s w p e h sound done =
+amend-made st s w p e h sound done real =
     let k = s .number in
     let less = remove k (listOf st) in
     let there = amends (listOf st) s done .there in
     let free = removed-gone k (listOf st) (w .good .unique) in
     let es = noted (replacing k (listOf st)) (entries st) in
-    rw (removed-is k p (listOf st) e, entry-is st w k p e h, list-over st less es, over-relisted st less (insert s less) es (omega (arith, length-insert earlierOf s less)))
+    rw (real, removed-is k p (listOf st) e, entry-is st w k p e h, list-over st less es, over-relisted st less (insert s less) es (omega (arith, length-insert earlierOf s less)))
     (edited st (amendRefusal (listOf st) s) (insert s less) (replacing k (listOf st)) w
     (orderly-replace text-order Sound s (listOf st) (w .good) sound there)
     (unfold undo in rw (remove-insert earlierOf s less free) (put-back st w k p e h))

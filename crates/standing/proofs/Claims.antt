@@ -1,5 +1,5 @@
 -- What the calls are for, as their contracts give it. Assumes nothing.
-use Rattle.basis.proofs.Prelude.{_∙_, _≡_, sym, _≤_, ℕ, List, _∷_, length, length-reverse, length-take, take, arith, eq-eqb, ne-eqb}
+use Rattle.basis.proofs.Prelude.{_∙_, _≡_, refl, sym, Bool, false, false≢true, true, _⊎_, inl, inr, _≤_, ℕ, List, _∷_, length, length-reverse, length-take, take, arith, eq-eqb, ne-eqb}
 use Rattle.refusal.specs.Table.{accepted}
 use Rattle.spell.specs.declared.Spell.{Spell}
 use Rattle.model.specs.Edits.{remember}
@@ -20,12 +20,14 @@ use Rattle.standing.proofs.Calls.{refusal-some, list-some, past-some}
 pub past-short : (st : Standing) → Wf st → length (pasts st) ≤ 64
 past-short st w = omega (arith, length-past (listOf st) (entries st), length-reverse (take (st .depth) (st .journal)), length-take (st .depth) (st .journal), w .depth-in)
 
-module _ (st : Standing) (r : Edited) (n : ℕ) (l′ : List Spell) (u : Undo) (e : Edits st r n l′ u) where
-  -- a refused edit changes nothing
-  pub unchanged : (n ≡ accepted → ⊥) → r .standing ≡ st
-  unchanged h = e .kept (ne-eqb n accepted h)
+-- a refused edit changes nothing, and neither does an idle one
+pub unchanged : {st : Standing} {r : Edited} {n : ℕ} {l′ : List Spell} {u : Undo} (idle : Bool) → Edits st r idle n l′ u → (idle ≡ true) ⊎ (n ≡ accepted → ⊥) → r .standing ≡ st
+unchanged true e h = e .kept refl
+unchanged false e (inl h) = absurd (false≢true h)
+unchanged {n = n} false e (inr h) = e .kept (ne-eqb n accepted h)
 
-  -- an accepted edit makes the list l′ and remembers the former one, whether or not l′ differs from it
+module _ (st : Standing) (r : Edited) (n : ℕ) (l′ : List Spell) (u : Undo) (e : Edits st r false n l′ u) where
+  -- any other makes the list l′ and remembers the former one
   pub made : n ≡ accepted → (listOf (r .standing) ≡ l′) × (pasts (r .standing) ≡ remember (listOf st) (pasts st))
   made h = let yes = eq-eqb n accepted h in (rw yes at (e .list), rw yes at (e .past))
 

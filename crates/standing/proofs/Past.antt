@@ -1,5 +1,5 @@
 -- The past as the journal gives it, and an edit that is pushed on it. Assumes nothing.
-use Rattle.basis.proofs.Prelude.{_∙_, _≡_, ap, refl, sym, _+_, _-_, _<_, _≤_, suc, zero, ℕ, List, [], _++_, _∷_, reverse, reverse-append, reverse-cons, reverse-reverse, false, eqb, drop, drop-of-length-le, getD, length, length-reverse, length-set, length-take, set, take, drop-set-lt, length-take-le, take-all, take-at, take-suc, take-suc-set, add-one, arith, eqb-false, ne-eqb}
+use Rattle.basis.proofs.Prelude.{_∙_, _≡_, ap, refl, sym, _+_, _-_, _<_, _≤_, suc, zero, ℕ, List, [], _++_, _∷_, reverse, reverse-append, reverse-cons, reverse-reverse, Bool, false, true, eqb, drop, drop-of-length-le, getD, length, length-reverse, length-set, length-take, set, take, drop-set-lt, length-take-le, take-all, take-at, take-suc, take-suc-set, add-one, arith, eqb-false, ne-eqb}
 use Rattle.buffer.specs.Buffer.{over}
 use Rattle.buffer.proofs.Over.{over-is}
 use Rattle.refusal.specs.Table.{accepted}
@@ -8,7 +8,7 @@ use Rattle.spell.specs.Listing.{Good}
 use Rattle.model.specs.Edits.{remember}
 use Rattle.standing.specs.declared.Undo.{Undo}
 use Rattle.standing.specs.declared.Standing.{Standing}
-use Rattle.standing.specs.Standing.{listOf, entries, undo, pastOf, pasts, Goods, Wf, Edits}
+use Rattle.standing.specs.Standing.{listOf, entries, undo, pastOf, pasts, Goods, Wf, makes, Edits}
 use Rattle.standing.specs.Places.{rejournaled, holding, blankEntry, noted}
 use Rattle.standing.proofs.Lists.{front, closed, front-length, closed-length}
 use Rattle.standing.proofs.Places.{same, list-over, past-over, wf-over}
@@ -102,15 +102,20 @@ pop j (suc d) h some =
 
 -- ---- Edits
 
--- a refused edit
-pub refused : (st : Standing) (k n : ℕ) (l′ : List Spell) (e : Undo) → Wf st → (k ≡ accepted → ⊥) → n ≡ k → Edits st (record { standing = st; refusal = k }) n l′ e
-refused st k n l′ e w differ is =
-    let no : eqb n accepted ≡ false = ne-eqb n accepted (λ z. differ (sym is ∙ z)) in
-    record { refusal = sym is; wf = w; list = rw no; past = rw no; kept = λ _. refl; whole = rw no }
+-- an edit that is not made
+pub unmade : {st : Standing} {k n : ℕ} {idle : Bool} {l′ : List Spell} {e : Undo} → Wf st → makes idle n ≡ false → n ≡ k
+    → Edits st (record { standing = st; refusal = k }) idle n l′ e
+unmade w idly is = record { refusal = sym is; wf = w; list = rw idly; past = rw idly; kept = λ _. refl; whole = rw idly }
+
+-- a refused one
+pub refused : {st : Standing} {k n : ℕ} (idle : Bool) {l′ : List Spell} {e : Undo} → Wf st → (k ≡ accepted → ⊥) → n ≡ k
+    → Edits st (record { standing = st; refusal = k }) idle n l′ e
+refused {n = n} true w differ is = unmade w refl is
+refused {n = n} false w differ is = unmade w (ne-eqb n accepted (λ z. differ (sym is ∙ z))) is
 
 -- an edit that is made: the entry noted takes the list l′ back
 pub edited : (st : Standing) (n : ℕ) (l′ : List Spell) (e : Undo) → Wf st → Good l′ → undo e l′ ≡ listOf st → n ≡ accepted
-    → Edits st (record { standing = holding st l′ (noted e (entries st)); refusal = accepted }) n l′ e
+    → Edits st (record { standing = holding st l′ (noted e (entries st)); refusal = accepted }) false n l′ e
 edited st n l′ e w good back done =
     let es = noted e (entries st) in
     let past : pastOf l′ es ≡ remember (listOf st) (pasts st) = past-pushed e (listOf st) l′ (entries st) back in

@@ -1,7 +1,7 @@
 -- The standing list with its journal, read as document 01's standing list and past, and what each call makes of them. Assumes nothing.
 use Prim.Native.Nat.{ℕ, _≤_}
 use mathlib.Core.Path.{_≡_}
-use mathlib.Core.Bool.{false, cond}
+use mathlib.Core.Bool.{Bool, false, not, _&&_, cond}
 use mathlib.Core.List.{List, [], _∷_, _++_, map, reverse}
 use lib.Dec.{eqb}
 use lib.ListN.{length, take, drop}
@@ -63,18 +63,23 @@ pub record Fresh (r : Standing) : Type 0 where
   pub past : pasts r ≡ []
   pub whole : r ≡ freshStanding
 
--- all places after an edit that is refused with the number n, or, at 0, makes the standing list l′ and notes the entry e
-abbrev pub afterEdit : Standing → ℕ → List Spell → Undo → Standing
-afterEdit st n l′ e = cond (eqb n accepted) (holding st l′ (noted e (entries st))) st
+-- an edit is made: it is not idle, and not refused
+abbrev pub makes : Bool → ℕ → Bool
+makes idle n = not idle && eqb n accepted
 
--- an edit that is refused with the number n and changes nothing, or, at 0, makes the standing list l′ and remembers the former one
-pub record Edits (st : Standing) (r : Edited) (n : ℕ) (l′ : List Spell) (e : Undo) : Type 0 where
+-- all places after an edit: where it is made, the standing list is l′ and the entry e is noted; else every place is kept
+abbrev pub afterEdit : Standing → Bool → ℕ → List Spell → Undo → Standing
+afterEdit st idle n l′ e = cond (makes idle n) (holding st l′ (noted e (entries st))) st
+
+-- an edit that is refused with the number n, or, at 0, makes the standing list l′ and remembers the former one; refused or idle, it changes
+-- nothing
+pub record Edits (st : Standing) (r : Edited) (idle : Bool) (n : ℕ) (l′ : List Spell) (e : Undo) : Type 0 where
   pub refusal : r .refusal ≡ n
   pub wf : Wf (r .standing)
-  pub list : listOf (r .standing) ≡ cond (eqb n accepted) l′ (listOf st)
-  pub past : pasts (r .standing) ≡ cond (eqb n accepted) (remember (listOf st) (pasts st)) (pasts st)
-  pub kept : eqb n accepted ≡ false → r .standing ≡ st
-  pub whole : r .standing ≡ afterEdit st n l′ e
+  pub list : listOf (r .standing) ≡ cond (makes idle n) l′ (listOf st)
+  pub past : pasts (r .standing) ≡ cond (makes idle n) (remember (listOf st) (pasts st)) (pasts st)
+  pub kept : makes idle n ≡ false → r .standing ≡ st
+  pub whole : r .standing ≡ afterEdit st idle n l′ e
 
 -- all places after a take back: the newest entry goes
 abbrev pub afterTakeBack : Standing → Standing

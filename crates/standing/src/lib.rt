@@ -1,10 +1,10 @@
 // The standing list: an array of spells in the order, of which the first `count` stand, with a journal of the last 64 edits.
 ghost use mathlib.Core.Path.{_≡_};
-ghost use mathlib.Core.Bool.{cond};
+ghost use mathlib.Core.Bool.{false, cond};
 ghost use mathlib.Core.List.{_++_};
 ghost use Prim.Native.Nat.{suc, _≤_, _<_};
 ghost use lib.ListN.{length, take, drop};
-ghost use Rattle.model.specs.Edits.{insert, remove, replace, orElse, enterRefusal, amendRefusal, strikeRefusal};
+ghost use Rattle.model.specs.Edits.{insert, remove, replace, idle, orElse, enterRefusal, amendRefusal, strikeRefusal};
 ghost use Rattle.refusal.specs.Table.{accepted};
 ghost use Rattle.standing.specs.Search.{placeOf, indexOf};
 ghost use Rattle.standing.specs.Places.{relisted, rejournaled, loadedOf, entering, replacing, noted};
@@ -200,7 +200,7 @@ fn first_of(a: u16, b: u16) -> u16
 // Put s in. Checks: 1 to 5, then 6, then 8.
 pub fn enter(st: Standing, s: Spell) -> Edited
     requires { ⌜ Wf st ⌝ }
-    ensures { λ r. ⌜ Edits st r (enterRefusal (listOf st) s) (insert s (listOf st)) (entering s) ⌝ }
+    ensures { λ r. ⌜ Edits st r false (enterRefusal (listOf st) s) (insert s (listOf st)) (entering s) ⌝ }
 {
     let n = st.count;
     let number = s.number;
@@ -226,10 +226,10 @@ pub fn enter(st: Standing, s: Spell) -> Edited
     }
 }
 
-// Replace the spell of s's number by s. Checks: 1 to 5, then 7.
+// Replace the spell of s's number by s. Checks: 1 to 5, then 7. Where s is that spell in all fields, nothing moves.
 pub fn amend(st: Standing, s: Spell) -> Edited
     requires { ⌜ Wf st ⌝ }
-    ensures { λ r. ⌜ Edits st r (amendRefusal (listOf st) s) (replace s (listOf st)) (replacing (s .number) (listOf st)) ⌝ }
+    ensures { λ r. ⌜ Edits st r (idle (listOf st) s) (amendRefusal (listOf st) s) (replace s (listOf st)) (replacing (s .number) (listOf st)) ⌝ }
 {
     let n = st.count;
     let number = s.number;
@@ -242,6 +242,12 @@ pub fn amend(st: Standing, s: Spell) -> Edited
         };
     }
     let old = st.spells[p];
+    if spell::same(old, s) {
+        return Edited {
+            standing: st,
+            refusal: ACCEPTED,
+        };
+    }
     let without = removed_at(st, p);
     let more = inserted(without, s);
     let entry = Undo {
@@ -259,7 +265,7 @@ pub fn amend(st: Standing, s: Spell) -> Edited
 // Remove the spell of the number. Check: 7.
 pub fn strike(st: Standing, number: u16) -> Edited
     requires { ⌜ Wf st ⌝ }
-    ensures { λ r. ⌜ Edits st r (strikeRefusal (listOf st) number) (remove number (listOf st)) (replacing number (listOf st)) ⌝ }
+    ensures { λ r. ⌜ Edits st r false (strikeRefusal (listOf st) number) (remove number (listOf st)) (replacing number (listOf st)) ⌝ }
 {
     let n = st.count;
     let p = find(st, number);

@@ -1,7 +1,7 @@
 //! The account itself: its state, and what each call does to it.
 
 use crate::call::{Answer, Call, Lists, Refusal, Spell, Start};
-use crate::entry::{check, check_spell, order, stands};
+use crate::entry::{check, check_spell, find, order, stands};
 use crate::limits::{MOST_PAST, MOST_SPELLS};
 use crate::published::Published;
 use crate::register;
@@ -62,7 +62,10 @@ impl Account {
 
     fn amend(&mut self, spell: &Spell) -> Answered {
         check_spell(spell)?;
-        check(stands(&self.standing, spell.number), Refusal::UNKNOWN)?;
+        let standing = find(&self.standing, spell.number).ok_or(Refusal::UNKNOWN)?;
+        if idle(standing, spell) {
+            return Ok(Answer::Done);
+        }
         self.edit(self.without(spell.number).chain([spell]).copied().collect())
     }
 
@@ -93,6 +96,11 @@ impl Account {
         self.past.truncate(MOST_PAST);
         Ok(Answer::Done)
     }
+}
+
+/// An amend by a spell that equals the standing one in all fields, reading bits included: it changes nothing.
+fn idle(standing: &Spell, spell: &Spell) -> bool {
+    standing == spell
 }
 
 /// Puts what an answer gives into the first places of its list, or refuses it where the list is short.

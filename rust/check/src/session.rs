@@ -1,8 +1,8 @@
 //! The conversation on which the gate runs `serve`: crates/serve/stdin is what is sent, crates/serve/stdout what comes
 //! back.
 //!
-//! It goes through every request and every refusal, a list of 1,024 spells, more than 64 take-backs, rooms, texts that
-//! are good and damaged, lines of no form, a day list of 4,000, and ends inside a request.
+//! It goes through every request and every refusal, a list of 1,024 spells, more than 64 take-backs and idle saves, rooms,
+//! texts that are good and damaged, lines of no form, a day list of 4,000, and ends inside a request.
 
 use crate::lines::{days, line, lines, Lines};
 use account::call::Refusal;
@@ -70,6 +70,18 @@ fn taking_back() -> Lines {
     .concat()
 }
 
+/// Three edits, the last of a reading's lowest bit alone, and 64 idle saves: each edit can still be taken back.
+fn saving() -> Lines {
+    let saved = line("amend 1 7 1 10 C 3F800001");
+    [
+        lines("enter 1 7 1 10 G 2, amend 1 7 1 10 C 3F800000"),
+        vec![saved; 65],
+        lines("amend 1 7 1 10 C 80000000, amend 1 7 1 10 C 7FC00000, write"),
+        lines("take-back, amend 1 7 1 10 C 3F800000, write, take-back, write, take-back, write, take-back"),
+    ]
+    .concat()
+}
+
 /// 1,024 spells entered, the edits at the limit, and questions with long answers.
 fn full_list() -> Lines {
     let entered = (0..1030).map(|k| {
@@ -112,7 +124,8 @@ fn texts() -> Lines {
 const CUT_SHORT: &[u8] = b"read\t40\n5\t1\t1\t9\tG\t2\n";
 
 pub fn conversation() -> Conversation {
-    let parts = [checks(), questions(), malformed(), too_long(), taking_back(), full_list(), texts(), malformed()];
+    let parts =
+        [checks(), questions(), malformed(), too_long(), taking_back(), saving(), full_list(), texts(), malformed()];
     let mut talk = Conversation::of(parts.concat());
     talk.ending = CUT_SHORT.to_vec();
     talk

@@ -35,9 +35,24 @@ pub const FAULTS: &[Fault] = faults! {
         "self.past.truncate(MOST_PAST)" => "self.past.truncate(MOST_PAST - 1)";
     BOTH account "the past has a list too many":
         "self.past.truncate(MOST_PAST)" => "self.past.truncate(MOST_PAST + 1)";
-    BOTH account "an amend that changes nothing is no edit":
-        "self.past.insert(0, std::mem::replace(&mut self.standing, standing))"
-        => "if self.standing != standing { self.past.insert(0, std::mem::replace(&mut self.standing, standing)) }";
+    BOTH account "an amend that changes nothing is remembered":
+        "standing == spell" => "standing == spell && standing.number == 0";
+    BOTH account "an amend is idle by its number alone":
+        "standing == spell" => "standing.number == spell.number";
+    BOTH account "an amend of the candidate alone is idle":
+        "standing == spell" => "*standing == Spell { candidate: standing.candidate, ..*spell }";
+    BOTH account "an amend of the urgency alone is idle":
+        "standing == spell" => "*standing == Spell { urgency: standing.urgency, ..*spell }";
+    BOTH account "an amend of a reading's lowest bit is idle":
+        "standing == spell" => r"
+            use crate::call::Urgency::Reading;
+            let blurred = |spell: &Spell| match spell.urgency {
+                Reading(bits) => Spell { urgency: Reading(bits | 1), ..*spell },
+                _ => *spell,
+            };
+            blurred(standing) == blurred(spell)";
+    BOTH account "an idle amend is refused":
+        "return Ok(Answer::Done)" => "return Err(Refusal::TAKEN)";
     BOTH account "publishing empties the past":
         "self.published = Published::of(&self.standing)"
         => "self.past.clear(); self.published = Published::of(&self.standing)";

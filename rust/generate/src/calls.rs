@@ -7,7 +7,7 @@
 
 use crate::Generator;
 use account::account::Account;
-use account::call::{Answer, Call, Lists, Question, Spell, Start};
+use account::call::{Answer, Call, Lists, Question, Spell, Start, Urgency};
 use account::entry::find;
 use account::limits::{LAST_DAY, LONGEST_TEXT, MOST_SPELLS};
 
@@ -84,13 +84,28 @@ impl Generator {
         }
     }
 
-    /// A spell to amend with, mostly good: the standing one unaltered now and then.
+    /// A spell to amend with, mostly good: often the standing one, unaltered or with one field changed.
     fn amended(&mut self, account: &Account) -> Spell {
         let number = self.number_among(&account.standing);
         match find(&account.standing, number) {
-            Some(spell) if self.rng.chance(15) => *spell,
+            Some(spell) if self.rng.chance(30) => *spell,
+            Some(spell) if self.rng.chance(30) => self.nearly(*spell),
             _ if self.rng.chance(60) => self.good_spell(number),
             _ => self.spell(number),
+        }
+    }
+
+    /// The spell with one field changed by little; of a reading one bit, mostly the lowest.
+    fn nearly(&mut self, spell: Spell) -> Spell {
+        match (self.rng.range(0, 4), spell.urgency) {
+            (0, _) => Spell { candidate: spell.candidate ^ 1, ..spell },
+            (1, _) => Spell { first: spell.first.saturating_sub(1), ..spell },
+            (2, _) => Spell { last: spell.last + 1, ..spell },
+            (_, Urgency::Grade(grade)) => Spell { urgency: Urgency::Grade(grade % 4 + 1), ..spell },
+            (_, Urgency::Reading(bits)) => {
+                let bit = self.rng.pick(&[0, 0, 0, 1, 15, 16, 22, 31]);
+                Spell { urgency: Urgency::Reading(bits ^ (1 << bit)), ..spell }
+            }
         }
     }
 

@@ -25,7 +25,7 @@ const CHECKS: [(&str, &[u16]); 11] = [
 /// Random lists of calls: each beginning, which is no call, and each call, with its answer and the account after it.
 fn over_calls(mut made: impl FnMut(Option<&Call>, &Answer, &Account)) {
     let mut generator = Generator::new(1);
-    for _ in 0..200 {
+    for _ in 0..400 {
         let (start, calls) = generator.list();
         let (mut account, answer) = Account::begin(&start);
         made(None, &answer, &account);

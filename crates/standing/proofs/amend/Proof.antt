@@ -1,26 +1,39 @@
-use Rattle.basis.proofs.Prelude.{_∙_, _≡_, ap, _<_, arith, needs}
+use Rattle.basis.proofs.Prelude.{_∙_, _≡_, ap, sym, _<_, false, getD, arith, needs}
 use Rattle.refusal.specs.Table.{accepted}
-use Rattle.model.specs.Edits.{replace, amendRefusal}
+use Rattle.spell.specs.declared.Spell.{Spell}
+use Rattle.spell.specs.Blank.{blank}
+use Rattle.spell.specs.Same.{sameOf}
+use Rattle.model.specs.Edits.{idle, amendRefusal}
 use Rattle.standing.specs.declared.Standing.{Standing}
 use Rattle.standing.specs.Standing.{listOf}
-use Rattle.standing.specs.Places.{replacing}
 use Rattle.standing.proofs.Held.{sound}
 use Rattle.model.proofs.Checks.{amends}
 use Rattle.standing.proofs.Checks.{amend-refusal, place-in}
-use Rattle.standing.proofs.Past.{refused}
-use Rattle.standing.proofs.Calls.{list-length, amend-room, amend-made}
+use Rattle.standing.proofs.Past.{unmade, refused}
+use Rattle.standing.proofs.Calls.{list-length, idle-is, amend-room, amend-made}
 use Rattle.standing.proofs.amend.Statement.{statement}
 use Rattle.standing.proofs.amend.Tie as tie
 
+-- ---- The places of the code
+
+abbrev found : tie.After-first-of → tie.After-find
+found c = c .before .before .before
+
+abbrev start : tie.After-first-of → tie.Start
+start c = found c .before
+
+abbrev st : tie.After-first-of → Standing
+st c = start c .args .t1
+
+abbrev s : tie.After-first-of → Spell
+s c = start c .args .s
+
 -- the checks give the account's refusal
-checked : (c : tie.After-first-of) → let a = c .before .before .before .before .args in amendRefusal (listOf (a .t1)) (a .s) ≡ c .first-of .result
+checked : (c : tie.After-first-of) → amendRefusal (listOf (st c)) (s c) ≡ c .first-of .result
 checked c =
     let unknown = c .before in
     let own = unknown .before in
-    let found = own .before in
-    let start = found .before in
-    let st = start .args .t1 in
-    amend-refusal (listOf st) (start .args .s) (st .count) (found .find .result) (list-length st (start .pre)) (found .find .ensures)
+    amend-refusal (listOf (st c)) (s c) (st c .count) (found c .find .result) (list-length (st c) (start c .pre)) (found c .find .ensures)
     (unknown .refusal-if .result)
     (own .refusal-of .result)
     (c .first-of .result)
@@ -28,63 +41,55 @@ checked c =
     (own .refusal-of .ensures)
     (c .first-of .ensures)
 
-passed : (c : tie.Else1) → let a = c .before .before .before .before .before .args in amendRefusal (listOf (a .t1)) (a .s) ≡ accepted
+passed : (c : tie.Else1) → amendRefusal (listOf (st (c .before))) (s (c .before)) ≡ accepted
 passed c = checked (c .before) ∙ c .if1 .left
 
 -- the number stands
-there : (c : tie.Else1) → let found = c .before .before .before .before in found .find .result < found .before .args .t1 .count
+there : (c : tie.Else1) → found (c .before) .find .result < st (c .before) .count
 there c =
-    let found = c .before .before .before .before in
-    let start = found .before in
-    let st = start .args .t1 in
-    place-in (listOf st) (st .count) (start .args .s .number) (found .find .result) (list-length st (start .pre)) (found .find .ensures) (amends (listOf st) (start .args .s) (passed c) .there)
+    let d = c .before in
+    place-in (listOf (st d)) (st d .count) (s d .number) (found d .find .result) (list-length (st d) (start d .pre)) (found d .find .ensures) (amends (listOf (st d)) (s d) (passed c) .there)
 
-returns : tie.Need-returns
-returns c =
-    let start = c .before .before .before .before .before in
-    let l = listOf (start .args .t1) in
-    refused (start .args .t1) (c .before .first-of .result) (amendRefusal l (start .args .s)) (replace (start .args .s) l) (replacing (start .args .s .number) l) (start .pre) (c .if1 .taken) (checked (c .before))
-
-mul-old : tie.Need-mul-old
-mul-old c = omega (arith, there c)
-
-element-copy-out-old : tie.Need-element-copy-out-old
-element-copy-out-old c = omega (arith, there c)
-
-removed-at-requires : tie.Need-removed-at-requires
-removed-at-requires c κs = (omega arith, there (c .before))
+-- the comparison with the spell that stands tells an idle amend
+compared : (c : tie.After-same) → let d = c .before .before .before in idle (listOf (st d)) (s d) ≡ c .same .result
+compared c =
+    let d = c .before .before .before in
+    idle-is (st d) (s d) (start d .pre) (found d .find .result) (found d .find .ensures) (there (c .before .before)) ∙ sym (c .same .ensures)
 
 inserted-requires : tie.Need-inserted-requires
 inserted-requires c κs =
-    let e1 = c .before .before in
-    let found = e1 .before .before .before .before in
-    omega (arith, ap (λ (r : Standing). r .count) (c .removed-at .ensures), amend-room (found .before .args .t1) (found .find .result) (found .before .pre) (there e1))
+    let e1 = c .before .before .before .before in
+    let d = e1 .before in
+    omega (arith, ap (λ (r : Standing). r .count) (c .removed-at .ensures), amend-room (st d) (found d .find .result) (start d .pre) (there e1))
 
-pushed-requires : tie.Need-pushed-requires
-pushed-requires c κs =
-    let gone = c .before in
-    rw (c .inserted .ensures, gone .removed-at .ensures) (gone .before .before .before .before .before .before .before .pre .depth-in)
-
-returns-2 : tie.Need-returns-2
-returns-2 c =
+returns-3 : tie.Need-returns-3
+returns-3 c =
     let gone = c .before .before in
-    let e1 = gone .before .before in
-    let found = e1 .before .before .before .before in
-    let start = found .before in
-    let st = start .args .t1 in
-    let s = start .args .s in
+    let differs = gone .before in
+    let e1 = differs .before .before .before in
+    let d = e1 .before in
     rw (c .pushed .ensures, c .before .inserted .ensures, gone .removed-at .ensures)
-    (amend-made st s (start .pre) (found .find .result) (found .find .ensures) (there e1) (sound s _ (start .good .1 .0) (amends (listOf st) s (passed e1) .passes)) (passed e1))
+    (amend-made (st d) (s d) (start d .pre) (found d .find .result) (found d .find .ensures) (there e1)
+    (sound (s d) _ (start d .good .1 .0) (amends (listOf (st d)) (s d) (passed e1) .passes)) (passed e1) (compared (differs .before) ∙ differs .if2 .left))
 
 pub amend-spec : {M : Type 1} → statement M
 amend-spec =
     tie.close
     (tie.spec
     (λ c κs. search needs) (λ c κs. search needs) (λ c κs. search needs) (λ c κs. search needs)
-    returns
-    mul-old
-    element-copy-out-old
-    removed-at-requires
+    -- refused
+    (λ c. let d = c .before in refused (idle (listOf (st d)) (s d)) (start d .pre) (c .if1 .taken) (checked d))
+    -- let old = st.spells[p]
+    (λ c. omega (arith, there c))
+    (λ c. omega (arith, there c))
+    (λ c κs. search needs)
+    -- idle
+    (λ c. let e1 = c .before .before .before in unmade (start (e1 .before) .pre) (rw (compared (c .before) ∙ c .if2 .taken)) (passed e1))
+    -- removed_at(st, p)
+    (λ c κs. let e1 = c .before .before .before in (omega (arith, there e1), there e1))
     inserted-requires
-    pushed-requires
-    returns-2)
+    -- pushed(more, entry)
+    (λ c κs.
+    let gone = c .before in
+    rw (c .inserted .ensures, gone .removed-at .ensures) (start (gone .before .before .before .before .before) .pre .depth-in))
+    returns-3)

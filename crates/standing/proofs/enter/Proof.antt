@@ -1,8 +1,7 @@
-use Rattle.basis.proofs.Prelude.{_∙_, _≡_, arith, needs}
+use Rattle.basis.proofs.Prelude.{_∙_, _≡_, false, arith, needs}
 use Rattle.refusal.specs.Table.{accepted}
-use Rattle.model.specs.Edits.{insert, enterRefusal}
+use Rattle.model.specs.Edits.{enterRefusal}
 use Rattle.standing.specs.Standing.{listOf}
-use Rattle.standing.specs.Places.{entering}
 use Rattle.standing.proofs.Held.{sound}
 use Rattle.model.proofs.Checks.{enters}
 use Rattle.standing.proofs.Checks.{enter-refusal}
@@ -39,8 +38,7 @@ passed c = checked (c .before) ∙ c .if1 .left
 returns : tie.Need-returns
 returns c =
     let start = c .before .before .before .before .before .before .before in
-    let l = listOf (start .args .st) in
-    refused (start .args .st) (c .before .first-of2 .result) (enterRefusal l (start .args .s)) (insert (start .args .s) l) (entering (start .args .s)) (start .pre) (c .if1 .taken) (checked (c .before))
+    refused false (start .pre) (c .if1 .taken) (checked (c .before))
 
 inserted-requires : tie.Need-inserted-requires
 inserted-requires c κs =

@@ -61,12 +61,49 @@ fn the_past_has_64_lists() {
     assert_eq!(account.standing.len(), 6);
 }
 
+/// 64 idle saves after real edits, each of which can still be taken back.
 #[test]
-fn an_amend_that_changes_nothing_is_an_edit() {
+fn idle_saves_leave_the_past() {
     let mut account = begun(REGISTER_A);
-    let same = account.standing[0];
-    assert_eq!(step(&mut account, Amend(same)), Answer::Done);
-    assert_eq!(account.past, [account.standing.clone()]);
+    let mut lists = vec![account.standing.clone()];
+    let saved = Spell { candidate: 8, ..account.standing[0] };
+    for call in [Amend(saved), Strike(12), Enter(spell(20, 1, 1))] {
+        assert_eq!(step(&mut account, call), Answer::Done);
+        lists.push(account.standing.clone());
+    }
+    for _ in 0..MOST_PAST {
+        assert_eq!(step(&mut account, Amend(saved)), Answer::Done);
+    }
+    for standing in lists.iter().rev().skip(1) {
+        assert_eq!(step(&mut account, TakeBack), Answer::Done);
+        assert_eq!(account.standing, *standing);
+    }
+    assert_eq!(step(&mut account, TakeBack), Answer::Refused(Refusal::NO_PAST));
+}
+
+/// One field at a time, and of a reading its lowest bit alone. What is refused as an entry changes nothing either.
+#[test]
+fn an_amend_of_any_field_is_an_edit() {
+    let reading = |bits| Spell { urgency: Urgency::Reading(bits), ..spell(12, 3, 4) };
+    let good = reading(0x3F80_0000);
+    let edits = [
+        Spell { candidate: 9, ..good },
+        Spell { first: 2, ..good },
+        Spell { last: 5, ..good },
+        Spell { urgency: Urgency::Grade(1), ..good },
+        reading(0x3F80_0001),
+        reading(0x3F7F_FFFF),
+    ];
+    for edit in edits {
+        let mut account = Account::default();
+        assert_eq!(step(&mut account, Enter(good)), Answer::Done);
+        assert_eq!(step(&mut account, Amend(edit)), Answer::Done);
+        assert_eq!((account.past.len(), &account.standing), (2, &vec![edit]));
+    }
+    let mut account = Account::default();
+    assert_eq!(step(&mut account, Enter(reading(0))), Answer::Done);
+    assert_eq!([1 << 31, 0x7FC0_0000].map(|bits| refusal(&mut account, Amend(reading(bits)))), [5, 5]);
+    assert_eq!((account.past.len(), account.standing), (1, vec![reading(0)]));
 }
 
 #[test]
