@@ -1,0 +1,4 @@
+pub mod Words
+pub mod Carrying
+pub mod Claims
+pub mod Tied

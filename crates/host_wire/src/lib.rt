@@ -1,0 +1,238 @@
+// A request from bytes to bytes for other software, on a host's words: what it asks is answered, and the host is told which word it was
+// and whether it changed the state.
+ghost use mathlib.Core.Path.{_≡_};
+ghost use Rattle.fields.specs.Fields.{isAt};
+ghost use Rattle.requests.specs.Requests.{askedOf};
+ghost use Rattle.service.specs.Packed.{unpacked};
+ghost use Rattle.service.specs.Service.{blocks, Given};
+ghost use Rattle.wire.specs.Answering.{Served};
+ghost use Rattle.phayaklit.specs.Host.{Laid};
+ghost use Rattle.host_wire.specs.Words.{questionWord, callWord, wordIn, wordOf, powerOf, changedAt};
+ghost use Rattle.host_wire.specs.Carrying.{answeredOf, Requested};
+use model::Call;
+use model::Question;
+use requests::Request;
+use service::SERVICE;
+use stabbing::INDEX;
+use wire::DAYS;
+use wire::OUT;
+use wire::ROOM;
+
+// What a host is told: the word's number, 1 where the state was changed, the room of the conversation's later calls, and the place of
+// the lent list where the answer begins.
+#[repr(C)]
+pub struct Carried {
+    pub word: u32,
+    pub changed: u32,
+    pub room: usize,
+    pub place: usize,
+}
+
+// ---- The words by number: 0 is a line of no form, 1 `room`, 2 `read`; those from 16 to 31 change the state, from 32 on they only read
+
+fn question_word(question: Question) -> u32
+    ensures { λ r. ⌜ r ≡ questionWord question ⌝ }
+{
+    match question {
+        Question::Day(_) => 33,
+        Question::Span(_, _) => 34,
+        Question::Cover(_) => 35,
+        Question::Days => 36,
+    }
+}
+
+fn call_word(call: Call) -> u32
+    ensures { λ r. ⌜ r ≡ callWord call ⌝ }
+{
+    match call {
+        Call::Enter(_) => 16,
+        Call::Amend(_) => 17,
+        Call::Strike(_) => 18,
+        Call::TakeBack => 19,
+        Call::Publish => 20,
+        Call::Write => 32,
+        Call::Ask(question) => question_word(question),
+    }
+}
+
+fn word_of(request: Request) -> u32
+    ensures { λ r. ⌜ r ≡ wordIn request ⌝ }
+{
+    match request {
+        Request::Call(call, _) => call_word(call),
+        Request::Room(_) => 1,
+        Request::Read(_) => 2,
+        Request::Malformed => 0,
+    }
+}
+
+// What a word may do: 0 nothing to the state, 1 change it, 2 replace it.
+fn power_of(word: u32) -> u32
+    ensures { λ r. ⌜ r ≡ powerOf word ⌝ }
+{
+    if word == 2 {
+        return 2;
+    }
+    if word < 16 {
+        return 0;
+    }
+    if word < 32 {
+        return 1;
+    }
+    0
+}
+
+// Whether a request that may change the state did: a reading always, another where it is answered `ok`.
+fn changed_at(power: u32, out: &[u8], place: usize) -> u32
+    ensures { λ r. ⌜ r ≡ changedAt power (now (out .entry)) place ⌝ }
+{
+    if power == 2 {
+        return 1;
+    }
+    if fields::is_at(out, place, b'o') {
+        return 1;
+    }
+    0
+}
+
+// ---- A request
+
+// One that leaves the service as it is: its words are not written.
+fn look(
+    words: &[u16; SERVICE],
+    index: &mut [u16; INDEX],
+    room: usize,
+    word: u32,
+    line: &[u8],
+    payload: &[u8],
+    days: &mut [u16; DAYS],
+    numbers: &mut [u16; ROOM],
+    text: &mut [u8; ROOM],
+    out: &mut [u8; OUT],
+) -> Carried
+    requires { ⌜ Given (unpacked (now words)) (blocks (now index)) ⌝ }
+    requires { ⌜ powerOf (wordOf (askedOf 32768 (now line))) ≡ 0 ⌝ }
+    ensures { λ r. ⌜ Served (unpacked (now (words .entry))) (blocks (now (index .entry))) room (now (line .entry)) (now (payload .entry)) (now (days .entry)) (now (numbers .entry)) (now (text .entry)) (now (out .entry)) (answeredOf (now (words .entry)) r) (blocks (now (index .exit))) (now (days .exit)) (now (numbers .exit)) (now (text .exit)) (now (out .exit)) ⌝ }
+    ensures { λ r. ⌜ (r .word ≡ word) × (r .changed ≡ 0) ⌝ }
+{
+    let service = service::unpack(words);
+    let r = wire::answer(
+        service,
+        index,
+        room,
+        line,
+        payload,
+        days,
+        numbers,
+        text,
+        out,
+    );
+    Carried {
+        word,
+        changed: 0,
+        room: r.room,
+        place: r.place,
+    }
+}
+
+// One that may change it.
+fn change(
+    words: &mut [u16; SERVICE],
+    index: &mut [u16; INDEX],
+    room: usize,
+    word: u32,
+    power: u32,
+    line: &[u8],
+    payload: &[u8],
+    days: &mut [u16; DAYS],
+    numbers: &mut [u16; ROOM],
+    text: &mut [u8; ROOM],
+    out: &mut [u8; OUT],
+) -> Carried
+    requires { ⌜ Given (unpacked (now words)) (blocks (now index)) ⌝ }
+    ensures { λ r. ⌜ Served (unpacked (now (words .entry))) (blocks (now (index .entry))) room (now (line .entry)) (now (payload .entry)) (now (days .entry)) (now (numbers .entry)) (now (text .entry)) (now (out .entry)) (answeredOf (now (words .exit)) r) (blocks (now (index .exit))) (now (days .exit)) (now (numbers .exit)) (now (text .exit)) (now (out .exit)) ⌝ }
+    ensures { λ r. ⌜ Laid (now (words .exit)) ⌝ }
+    ensures { λ r. ⌜ (r .word ≡ word) × (r .changed ≡ changedAt power (now (out .exit)) (r .place)) ⌝ }
+{
+    let service = service::unpack(words);
+    let r = wire::answer(
+        service,
+        index,
+        room,
+        line,
+        payload,
+        days,
+        numbers,
+        text,
+        out,
+    );
+    let after = r.service;
+    service::pack(after, words);
+    let place = r.place;
+    let changed = changed_at(power, out, place);
+    Carried {
+        word,
+        changed,
+        room: r.room,
+        place,
+    }
+}
+
+// Carries a request out whose word does no more than is allowed: 0 nothing to the state, 1 a change, 2 a reading too. One that does more
+// leaves everything as it was, its days aside, and the host is told its word: it answers then itself, or asks again. The answer stands
+// in `out` from the place on to its end. `days`, `numbers` and `text` are lent to the request's call.
+#[no_mangle]
+pub extern "C" fn phayaklit_request(
+    words: &mut [u16; SERVICE],
+    index: &mut [u16; INDEX],
+    room: usize,
+    allowed: u32,
+    line: &[u8],
+    payload: &[u8],
+    days: &mut [u16; DAYS],
+    numbers: &mut [u16; ROOM],
+    text: &mut [u8; ROOM],
+    out: &mut [u8; OUT],
+) -> Carried
+    requires { ⌜ Given (unpacked (now words)) (blocks (now index)) ⌝ }
+    ensures { λ r. ⌜ Requested (now (words .entry)) (blocks (now (index .entry))) room allowed (now (line .entry)) (now (payload .entry)) (now (days .entry)) (now (numbers .entry)) (now (text .entry)) (now (out .entry)) r (now (words .exit)) (blocks (now (index .exit))) (now (days .exit)) (now (numbers .exit)) (now (text .exit)) (now (out .exit)) ⌝ }
+{
+    let request = requests::parse(line, days);
+    let word = word_of(request);
+    let power = power_of(word);
+    if power > allowed {
+        return Carried {
+            word,
+            changed: 0,
+            room,
+            place: OUT,
+        };
+    }
+    if power == 0 {
+        return look(
+            words,
+            index,
+            room,
+            word,
+            line,
+            payload,
+            days,
+            numbers,
+            text,
+            out,
+        );
+    }
+    change(
+        words,
+        index,
+        room,
+        word,
+        power,
+        line,
+        payload,
+        days,
+        numbers,
+        text,
+        out,
+    )
+}
