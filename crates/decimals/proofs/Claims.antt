@@ -1,8 +1,9 @@
 -- What the decimals are for: a decimal that is written is read back, whatever follows it, and one that is read is what
 -- is written of its value. Assumes nothing.
-use Rattle.basis.proofs.Prelude.{_≡_, _<_, _≤_, ℕ, List}
-use Rattle.fields.specs.Fields.{found, readNumber, numberText}
-use Rattle.decimals.proofs.Decimals.{read-number, write-number}
+use Rattle.basis.proofs.Prelude.{_≡_, _<_, _≤_, ℕ, List, arith}
+use Rattle.fields.specs.Fields.{found, readNumber, readLength, numberText, wideText}
+use Rattle.decimals.proofs.Decimals.{read-number, write-number, read-length, length-back}
+use Rattle.decimals.proofs.Puts.{word-small}
 
 -- a decimal up to 65,535, ended by a byte below the digits
 pub number-read : (e n : ℕ) (rest : List ℕ) → e < 48 → n ≤ 65535 → readNumber e (numberText n e rest) ≡ found n rest
@@ -10,3 +11,11 @@ number-read = read-number
 
 pub number-written : (e : ℕ) (s : List ℕ) (n : ℕ) (rest : List ℕ) → readNumber e s ≡ found n rest → (n ≤ 65535) × (s ≡ numberText n e rest)
 number-written = write-number
+
+-- and one up to any limit of 64 bits
+module _ (limit e : ℕ) (h : limit ≤ 18446744073709551615) where
+  pub wide-read : (n : ℕ) (rest : List ℕ) → e < 48 → n ≤ limit → readLength limit e (wideText n e rest) ≡ found n rest
+  wide-read n rest b k = read-length limit 19 e n rest b k (word-small n (omega arith))
+
+  pub wide-written : (s : List ℕ) (n : ℕ) (rest : List ℕ) → readLength limit e s ≡ found n rest → (n ≤ limit) × (s ≡ wideText n e rest)
+  wide-written s n rest r = let w = length-back limit 19 e s n rest r in (w .0, w .1 (word-small limit h))

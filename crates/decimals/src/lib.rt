@@ -1,8 +1,8 @@
 // The decimals of a text, each ended by a byte: reading them at a place of a text, and writing them before a place of a list.
 ghost use mathlib.Core.Path.{_≡_};
-ghost use Prim.Native.Nat.{_*_};
+ghost use Prim.Native.Nat.{_*_, _≤_};
 ghost use lib.ListN.{length, drop};
-ghost use Rattle.fields.specs.Fields.{readDigits, readDecimal, readLength, readNumber, numberText, endBefore, numbersText};
+ghost use Rattle.fields.specs.Fields.{readDigits, readDecimal, readLength, readNumber, numberText, wideText, endBefore, numbersText};
 ghost use Rattle.fields.specs.Answers.{fieldAt, fieldOf, lengthAt, lengthOf, Reads, Puts};
 use fields::Field;
 use fields::Length;
@@ -60,13 +60,8 @@ fn read_decimal(text: &[u8], at: usize, limit: u64) -> Length
 pub fn read_length(text: &[u8], at: usize, end: u8, limit: u64) -> Length
     ensures { λ r. ⌜ Reads lengthAt lengthOf (now (text .entry)) r (readLength limit end (drop at (now (text .entry)))) ⌝ }
 {
-    let Length::Value(v, i) = read_decimal(text, at, limit) else {
-        return Length::Malformed;
-    };
-    if !fields::is_at(text, i, end) {
-        return Length::Malformed;
-    }
-    Length::Value(v, i + 1)
+    let value = read_decimal(text, at, limit);
+    fields::read_end(text, value, end)
 }
 
 // A number at `at` and the byte that ends it.
@@ -79,17 +74,11 @@ pub fn read_number(text: &[u8], at: usize, end: u8) -> Field
     Field::Value(v as u16, i)
 }
 
-// The decimal of n and the byte that ends it, before the place `at`: the place where it begins. Six places before `at`
-// are asked for, and nothing is written where they are not there.
-pub fn put_number(buf: &mut [u8], at: usize, n: u16, end: u8) -> usize
-    ensures { λ r. ⌜ Puts 6 (numberText n end) (now (buf .entry)) at r (now (buf .exit)) ⌝ }
+// The decimal of n and the byte that ends it, before the place `at`: the place where it begins.
+fn put_decimal(buf: &mut [u8], at: usize, n: u64, end: u8) -> usize
+    requires { ⌜ (at ≤ length (now buf)) × (length (wideText n end (drop at (now buf))) ≤ length (now buf)) ⌝ }
+    ensures { λ r. ⌜ Puts 0 (wideText n end) (now (buf .entry)) at r (now (buf .exit)) ⌝ }
 {
-    if at < 6 {
-        return at;
-    }
-    if buf.len() < at {
-        return at;
-    }
     let mut i = at - 1;
     buf[i] = end;
     let mut v = n;
@@ -101,6 +90,32 @@ pub fn put_number(buf: &mut [u8], at: usize, n: u16, end: u8) -> usize
     i -= 1;
     buf[i] = ZERO + v as u8;
     i
+}
+
+// The same of a number of 16 bits. Six places before `at` are asked for, and nothing is written where they are not there.
+pub fn put_number(buf: &mut [u8], at: usize, n: u16, end: u8) -> usize
+    ensures { λ r. ⌜ Puts 6 (numberText n end) (now (buf .entry)) at r (now (buf .exit)) ⌝ }
+{
+    if at < 6 {
+        return at;
+    }
+    if buf.len() < at {
+        return at;
+    }
+    put_decimal(buf, at, n as u64, end)
+}
+
+// The same of a number of up to 64 bits, for which 21 places are asked for.
+pub fn put_wide(buf: &mut [u8], at: usize, n: u64, end: u8) -> usize
+    ensures { λ r. ⌜ Puts 21 (wideText n end) (now (buf .entry)) at r (now (buf .exit)) ⌝ }
+{
+    if at < 21 {
+        return at;
+    }
+    if buf.len() < at {
+        return at;
+    }
+    put_decimal(buf, at, n, end)
 }
 
 // The byte after a decimal that so many others follow: a tab, or LF after the last.

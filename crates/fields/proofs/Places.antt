@@ -1,13 +1,11 @@
 -- What stands at a place of a text. Assumes nothing.
 use Rattle.basis.proofs.Prelude.{_∙_, _≡_, ap, sym, _+_, _<_, _≤_, ℕ, List, [], _∷_, false, false≢true, true, drop, drop-of-length-le, getD, length, length-drop, drop-cons, add-one, decLe, arith, le-ltb, lt-ltb}
 use Rattle.fields.specs.declared.Field.{Field}
-use Rattle.fields.specs.declared.Field.the-variants.{Value as FieldValue}
+use Rattle.fields.specs.declared.Field.the-variants.{Value as FieldValue, Malformed as FieldMalformed}
 use Rattle.fields.specs.declared.Length.{Length}
-use Rattle.fields.specs.declared.Length.the-variants.{Value as LengthValue}
-use Rattle.fields.specs.declared.Bits.{Bits}
-use Rattle.fields.specs.declared.Bits.the-variants.{Value as BitsValue}
+use Rattle.fields.specs.declared.Length.the-variants.{Value as LengthValue, Malformed as LengthMalformed}
 use Rattle.fields.specs.Fields.{Found, found, unreadable, passed, isAt}
-use Rattle.fields.specs.Answers.{placeOf, fieldAt, fieldOf, lengthAt, lengthOf, bitsAt, bitsOf, Reads}
+use Rattle.fields.specs.Answers.{placeOf, fieldAt, fieldOf, lengthAt, lengthOf, Reads}
 
 module _ (s : List ℕ) (i : ℕ) where
   pub here : i < length s → drop i s ≡ getD s i 0 ∷ drop (i + 1) s
@@ -48,24 +46,33 @@ pub reads-as : {R A : Type 0} {At : List ℕ → Found A → R} {Of : List ℕ �
     → r ≡ At text g → Of text r ≡ g → Reads At Of text r f
 reads-as {At = At} {text = text} g e a s = record { answer = a ∙ ap (At text) (sym e); says = s ∙ sym e }
 
+-- what is found, by an answer that is known
+pub said : {R A : Type 0} {At : List ℕ → Found A → R} {Of : List ℕ → R → Found A} {text : List ℕ} {r x : R} {f : Found A} → Reads At Of text r f → r ≡ x → f ≡ Of text x
+said {Of = Of} {text} p e = sym (p .says) ∙ ap (Of text) e
+
 -- the next place of a value is that of the rest
 pub field-next : {text : List ℕ} {r : Field} {f : Found ℕ} {v next : ℕ} → Reads fieldAt fieldOf text r f → r ≡ FieldValue v next
     → next ≡ placeOf text (drop next text)
 field-next {text} {r} {f} {v} {next} p e =
-    let is : f ≡ found v (drop next text) = sym (p .says) ∙ ap (fieldOf text) e in
+    let is : f ≡ found v (drop next text) = said p e in
     let same : FieldValue v next ≡ FieldValue v (placeOf text (drop next text)) = sym e ∙ p .answer ∙ ap (fieldAt text) is in
     cc
 
 pub length-next : {text : List ℕ} {r : Length} {f : Found ℕ} {v next : ℕ} → Reads lengthAt lengthOf text r f → r ≡ LengthValue v next
     → next ≡ placeOf text (drop next text)
 length-next {text} {r} {f} {v} {next} p e =
-    let is : f ≡ found v (drop next text) = sym (p .says) ∙ ap (lengthOf text) e in
+    let is : f ≡ found v (drop next text) = said p e in
     let same : LengthValue v next ≡ LengthValue v (placeOf text (drop next text)) = sym e ∙ p .answer ∙ ap (lengthAt text) is in
     cc
 
-pub bits-next : {text : List ℕ} {r : Bits} {f : Found ℕ} {v next : ℕ} → Reads bitsAt bitsOf text r f → r ≡ BitsValue v next
-    → next ≡ placeOf text (drop next text)
-bits-next {text} {r} {f} {v} {next} p e =
-    let is : f ≡ found v (drop next text) = sym (p .says) ∙ ap (bitsOf text) e in
-    let same : BitsValue v next ≡ BitsValue v (placeOf text (drop next text)) = sym e ∙ p .answer ∙ ap (bitsAt text) is in
-    cc
+-- what was read as a length, as a number
+pub none-narrowed : {text : List ℕ} {r : Length} {f : Found ℕ} → Reads lengthAt lengthOf text r f → r ≡ LengthMalformed → Reads fieldAt fieldOf text FieldMalformed f
+none-narrowed {text} {f = f} p e =
+    let is : f ≡ unreadable = said p e in
+    record { answer = ap (fieldAt text) (sym is); says = sym is }
+
+pub narrowed : {text : List ℕ} {r : Length} {f : Found ℕ} {v next : ℕ} → Reads lengthAt lengthOf text r f → r ≡ LengthValue v next
+    → Reads fieldAt fieldOf text (FieldValue v next) f
+narrowed {text} {f = f} {v} {next} p e =
+    let is : f ≡ found v (drop next text) = said p e in
+    record { answer = ap (λ (n : ℕ). FieldValue v n) (length-next p e) ∙ ap (fieldAt text) (sym is); says = sym is }

@@ -60,6 +60,14 @@ pub puts-past : (room : ℕ) (text : List ℕ → List ℕ) (entry : List ℕ) (
 puts-past room text entry at h k =
     record { place = rw (le-leb room at h, lt-leb at (length entry) k); places = rw (le-leb room at h, lt-leb at (length entry) k) }
 
+-- one that is put where no room is asked for, and what it stands for
+pub puts-as : {entry exit : List ℕ} {at r : ℕ} (room : ℕ) (text text′ : List ℕ → List ℕ) → room ≤ at → at ≤ length entry
+    → text (drop at entry) ≡ text′ (drop at entry) → Puts 0 text entry at r exit → Puts room text′ entry at r exit
+puts-as {entry} {exit} {at} {r} room text text′ h k e p =
+    let start = rw (le-leb 0 at (omega arith), le-leb at (length entry) k, e) at (p .place) in
+    let whole = rw (le-leb 0 at (omega arith), le-leb at (length entry) k, e) at (p .places) in
+    record { place = rw (le-leb room at h, le-leb at (length entry) k) start; places = rw (le-leb room at h, le-leb at (length entry) k) whole }
+
 -- what a caller that has the room gets
 pub room-puts : {entry exit : List ℕ} {at r : ℕ} (room : ℕ) (text : List ℕ → List ℕ) → room ≤ at → at ≤ length entry
     → length (text (drop at entry)) ≤ room + length (drop at entry) → Puts room text entry at r exit → Put entry exit r (text (drop at entry))

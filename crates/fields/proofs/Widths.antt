@@ -1,6 +1,6 @@
 -- How long a written field is. Assumes nothing.
-use Rattle.basis.proofs.Prelude.{_≡_, ap, _%_, _*_, _+_, _/_, _<_, _≤_, suc, zero, ℕ, List, _∷_, Bool, cond, false, true, ltb, length, arith, lt-ltb}
-use Rattle.fields.specs.Fields.{digitsOf, decimalOf, hexDigit, hexOf}
+use Rattle.basis.proofs.Prelude.{_∙_, _≡_, ap, refl, _%_, _*_, _+_, _/_, _<_, _≤_, suc, zero, ℕ, List, [], _∷_, cond, ltb, length, arith, lt-ltb, by-cases}
+use Rattle.fields.specs.Fields.{digitsOf, decimalOf, endBefore, numbersText, hexDigit, hexOf}
 
 -- ---- more places than the digits take
 -- below 10, 100, ..
@@ -14,43 +14,46 @@ unfolding digitsOf limit
 more zero n rest h = rw (lt-ltb n 10 h)
 more (suc k) n rest h = ap (cond (ltb n 10) ((48 + n) ∷ rest)) (more k (n / 10) ((48 + n % 10) ∷ rest) (omega arith))
 
-decimal-short : (n : ℕ) (rest : List ℕ) → n < 10000 → decimalOf n rest ≡ digitsOf 3 n rest
-unfolding decimalOf limit
-decimal-short n rest h = more 3 n rest h
+-- and so do many
+pub more-by : (j k n : ℕ) (rest : List ℕ) → n < limit k → (n < limit (k + j)) × (digitsOf (k + j) n rest ≡ digitsOf k n rest)
+unfolding limit
+more-by zero k n rest h = let none : k + 0 ≡ k = omega arith in rw none (h, refl)
+more-by (suc j) k n rest h =
+    let turn : k + suc j ≡ suc (k + j) = omega arith in
+    let m = more-by j k n rest h in
+    rw turn (omega (arith, m .0), more (k + j) n rest (m .0) ∙ m .1)
 
 -- ---- widths
-digits-width : (k n : ℕ) (rest : List ℕ) → length (digitsOf k n rest) ≤ suc k + length rest
+pub digits-width : (k n : ℕ) (rest : List ℕ) → (1 + length rest ≤ length (digitsOf k n rest)) × (length (digitsOf k n rest) ≤ suc k + length rest)
 unfolding digitsOf
-digits-width zero n rest = omega arith
-digits-width (suc k) n rest = go (ltb n 10) (digits-width k (n / 10) ((48 + n % 10) ∷ rest))
-  where
-    go : (t : Bool) → length (digitsOf k (n / 10) ((48 + n % 10) ∷ rest)) ≤ suc k + suc (length rest)
-        → length (cond t ((48 + n) ∷ rest) (digitsOf k (n / 10) ((48 + n % 10) ∷ rest))) ≤ suc (suc k) + length rest
-    go true h = omega arith
-    go false h = omega arith
+digits-width zero n rest = (omega arith, omega arith)
+digits-width (suc k) n rest =
+    let h = digits-width k (n / 10) ((48 + n % 10) ∷ rest) in
+    by-cases (λ (l : List ℕ). (1 + length rest ≤ length l) × (length l ≤ suc (suc k) + length rest)) (ltb n 10) (λ _. (omega arith, omega arith)) (λ _. (omega arith, omega arith))
 
-digits-wide : (k n : ℕ) (rest : List ℕ) → 1 + length rest ≤ length (digitsOf k n rest)
-unfolding digitsOf
-digits-wide zero n rest = omega arith
-digits-wide (suc k) n rest = go (ltb n 10) (digits-wide k (n / 10) ((48 + n % 10) ∷ rest))
-  where
-    go : (t : Bool) → 1 + suc (length rest) ≤ length (digitsOf k (n / 10) ((48 + n % 10) ∷ rest))
-        → 1 + length rest ≤ length (cond t ((48 + n) ∷ rest) (digitsOf k (n / 10) ((48 + n % 10) ∷ rest)))
-    go true h = omega arith
-    go false h = omega arith
-
--- a decimal has one to five digits
+-- a decimal has one to five digits, and below 10,000 at most four
 pub decimal-wide : (n : ℕ) (rest : List ℕ) → 1 + length rest ≤ length (decimalOf n rest)
 unfolding decimalOf
-decimal-wide n rest = digits-wide 4 n rest
+decimal-wide n rest = digits-width 4 n rest .0
 
 pub decimal-width : (n : ℕ) (rest : List ℕ) → length (decimalOf n rest) ≤ 5 + length rest
 unfolding decimalOf
-decimal-width n rest = digits-width 4 n rest
+decimal-width n rest = digits-width 4 n rest .1
 
--- below 10,000 at most four
 pub short-width : (n : ℕ) (rest : List ℕ) → n < 10000 → length (decimalOf n rest) ≤ 4 + length rest
-short-width n rest h = rw (decimal-short n rest h) (digits-width 3 n rest)
+unfolding decimalOf limit
+short-width n rest h = rw (more 3 n rest h) (digits-width 3 n rest .1)
+
+-- each of many decimals takes at most six places
+pub numbers-width : (ns rest : List ℕ) → length (numbersText ns rest) ≤ 6 * length ns + length rest
+unfolding numbersText
+numbers-width [] rest = omega arith
+numbers-width (n ∷ ns) rest = omega (arith, decimal-width n (endBefore (length ns) ∷ numbersText ns rest), numbers-width ns rest)
+
+pub numbers-wide : (ns rest : List ℕ) → length rest ≤ length (numbersText ns rest)
+unfolding numbersText
+numbers-wide [] rest = omega arith
+numbers-wide (n ∷ ns) rest = omega (arith, decimal-wide n (endBefore (length ns) ∷ numbersText ns rest), numbers-wide ns rest)
 
 pub hex-width : (k n : ℕ) (rest : List ℕ) → length (hexOf k n rest) ≡ k + length rest
 unfolding hexOf

@@ -9,8 +9,6 @@ use Rattle.fields.specs.declared.Field.{Field}
 use Rattle.fields.specs.declared.Field.the-variants.{Value as FieldValue, Malformed as FieldMalformed}
 use Rattle.fields.specs.declared.Length.{Length}
 use Rattle.fields.specs.declared.Length.the-variants.{Value as LengthValue, Malformed as LengthMalformed}
-use Rattle.fields.specs.declared.Bits.{Bits}
-use Rattle.fields.specs.declared.Bits.the-variants.{Value as BitsValue, Malformed as BitsMalformed}
 use Rattle.fields.specs.Fields.{Found, found, unreadable}
 
 -- ---- Reading
@@ -35,14 +33,6 @@ lengthAt text unreadable = LengthMalformed
 abbrev pub lengthOf : List ℕ → Length → Found ℕ
 lengthOf text (LengthValue v next) = found v (drop next text)
 lengthOf text LengthMalformed = unreadable
-
-abbrev pub bitsAt : List ℕ → Found ℕ → Bits
-bitsAt text (found v rest) = BitsValue v (placeOf text rest)
-bitsAt text unreadable = BitsMalformed
-
-abbrev pub bitsOf : List ℕ → Bits → Found ℕ
-bitsOf text (BitsValue v next) = found v (drop next text)
-bitsOf text BitsMalformed = unreadable
 
 -- r is the answer of what is found in the text, and says that it is found. `At` makes the answer, `Of` says it
 pub record Reads {R A : Type 0} (At : List ℕ → Found A → R) (Of : List ℕ → R → Found A) (text : List ℕ) (r : R) (f : Found A) : Type 0 where

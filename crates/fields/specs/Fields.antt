@@ -25,6 +25,10 @@ decimalOf n rest = digitsOf 4 n rest
 abbrev pub numberText : ℕ → ℕ → List ℕ → List ℕ
 numberText n e rest = decimalOf n (e ∷ rest)
 
+-- the same of a number of up to 64 bits, which has at most twenty digits
+abbrev pub wideText : ℕ → ℕ → List ℕ → List ℕ
+wideText n e rest = digitsOf 19 n (e ∷ rest)
+
 -- the byte after a decimal that so many others follow: a tab, or LF after the last
 abbrev pub endBefore : ℕ → ℕ
 endBefore zero = 10

@@ -1,15 +1,15 @@
 // The fields of a text, decimals and hex digits, each ended by a byte: what their readers and writers share, the answers of
 // the readers and single bytes.
 ghost use mathlib.Core.Path.{_≡_};
-ghost use Rattle.fields.specs.Fields.{isAt, isDigit, byteText};
-ghost use Rattle.fields.specs.Answers.{Puts};
+ghost use Rattle.fields.specs.Fields.{onward, passed, isAt, isDigit, byteText};
+ghost use Rattle.fields.specs.Answers.{lengthAt, lengthOf, Reads, Puts};
 
 // The digits 0 and 9.
 const ZERO: u8 = 48;
 
 const NINE: u8 = 57;
 
-// A value and the place after its field, or a field that can't be read.
+// A value and the place after its field, or a field that can't be read: a number of 16 bits, or one of any length.
 pub enum Field {
     Value(u16, usize),
     Malformed,
@@ -17,11 +17,6 @@ pub enum Field {
 
 pub enum Length {
     Value(u64, usize),
-    Malformed,
-}
-
-pub enum Bits {
-    Value(u32, usize),
     Malformed,
 }
 
@@ -45,6 +40,19 @@ pub fn is_at(text: &[u8], at: usize, b: u8) -> bool
         return text[at] == b;
     }
     false
+}
+
+// What was read, and the byte that ends it.
+pub fn read_end(text: &[u8], value: Length, end: u8) -> Length
+    ensures { λ r. ⌜ Reads lengthAt lengthOf (now (text .entry)) r (onward (lengthOf (now (text .entry)) value) (passed end)) ⌝ }
+{
+    let Length::Value(v, i) = value else {
+        return Length::Malformed;
+    };
+    if !is_at(text, i, end) {
+        return Length::Malformed;
+    }
+    Length::Value(v, i + 1)
 }
 
 // One byte before the place `at`: the place where it stands. Nothing is written where there is no such place.

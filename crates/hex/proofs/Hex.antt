@@ -48,15 +48,13 @@ unfolding limit
 limit-le zero k = let same : k + 0 ≡ k = omega arith in rw same (omega arith)
 limit-le (suc j) k = let turn : k + suc j ≡ suc (k + j) = omega arith in let h = limit-le j k in rw turn (omega arith)
 
--- one digit more than k, of eight, fits
-pub digit-fits : (k v d : ℕ) → k < 8 → v < limit k → d < 16 → (16 * v + d < 4294967296) × (16 * v + d < limit (k + 1))
+-- one digit more than k, of at most 16, fits
+pub digit-fits : (k v d : ℕ) → k < 16 → v < limit k → d < 16 → (16 * v + d < 18446744073709551616) × (16 * v + d < limit (k + 1))
 unfolding limit
 digit-fits k v d h l e =
-    let most : limit k ≤ 268435456 = low in
+    let all : k + (15 - k) ≡ 15 = omega arith in
+    let most : limit k ≤ 1152921504606846976 = rw all at (limit-le (15 - k) k) in
     (omega arith, rw add-one (omega arith))
-  where
-    low : limit k ≤ 268435456
-    low = let all : k + (7 - k) ≡ 7 = omega arith in let m = rw all at (limit-le (7 - k) k) in m
 
 pub none-read : 0 < limit 0
 unfolding limit

@@ -1,11 +1,11 @@
 // The hex digits of a text, eight and the byte that ends them: reading them at a place of a text, and writing them before a
 // place of a list.
 ghost use mathlib.Core.Path.{_≡_};
-ghost use Prim.Native.Nat.{_<_};
+ghost use Prim.Native.Nat.{_<_, _≤_};
 ghost use lib.ListN.{drop};
 ghost use Rattle.fields.specs.Fields.{hexValue, readHex, readBits, hexDigit, bitsText};
-ghost use Rattle.fields.specs.Answers.{bitsAt, bitsOf, Reads, Puts};
-use fields::Bits;
+ghost use Rattle.fields.specs.Answers.{lengthAt, lengthOf, Reads, Puts};
+use fields::Length;
 
 // The digit 0, and the letters A and F.
 const ZERO: u8 = 48;
@@ -15,11 +15,11 @@ const LETTER_A: u8 = 65;
 const LETTER_F: u8 = 70;
 
 // The value of a digit 0-9 A-F, 16 for any other byte.
-fn hex_value(b: u8) -> u32
+fn hex_value(b: u8) -> u64
     ensures { λ r. ⌜ r ≡ hexValue b ⌝ }
 {
     if fields::is_digit(b) {
-        return (b - ZERO) as u32;
+        return (b - ZERO) as u64;
     }
     if b < LETTER_A {
         return 16;
@@ -27,43 +27,39 @@ fn hex_value(b: u8) -> u32
     if b > LETTER_F {
         return 16;
     }
-    (b - LETTER_A) as u32 + 10
+    (b - LETTER_A) as u64 + 10
 }
 
-// Eight hex digits at `start`, highest first.
-fn read_hex(text: &[u8], start: usize) -> Bits
-    ensures { λ r. ⌜ bitsOf (now (text .entry)) r ≡ readHex 8 0 (drop start (now (text .entry))) ⌝ }
+// So many hex digits at `start`, highest first: at most 16, which 64 bits hold.
+fn read_hex(text: &[u8], start: usize, digits: usize) -> Length
+    requires { ⌜ digits ≤ 16 ⌝ }
+    ensures { λ r. ⌜ lengthOf (now (text .entry)) r ≡ readHex digits 0 (drop start (now (text .entry))) ⌝ }
 {
-    let mut v: u32 = 0;
+    let mut v: u64 = 0;
     let mut i = start;
     let mut k: usize = 0;
-    while k < 8 {
+    while k < digits {
         if text.len() <= i {
-            return Bits::Malformed;
+            return Length::Malformed;
         }
         let b = text[i];
         let d = hex_value(b);
         if d >= 16 {
-            return Bits::Malformed;
+            return Length::Malformed;
         }
         v = 16 * v + d;
         i += 1;
         k += 1;
     }
-    Bits::Value(v, i)
+    Length::Value(v, i)
 }
 
-// Eight hex digits at `at` and the byte that ends them.
-pub fn read_bits(text: &[u8], at: usize, end: u8) -> Bits
-    ensures { λ r. ⌜ Reads bitsAt bitsOf (now (text .entry)) r (readBits end (drop at (now (text .entry)))) ⌝ }
+// The eight hex digits of 32 bits at `at` and the byte that ends them.
+pub fn read_bits(text: &[u8], at: usize, end: u8) -> Length
+    ensures { λ r. ⌜ Reads lengthAt lengthOf (now (text .entry)) r (readBits end (drop at (now (text .entry)))) ⌝ }
 {
-    let Bits::Value(v, i) = read_hex(text, at) else {
-        return Bits::Malformed;
-    };
-    if !fields::is_at(text, i, end) {
-        return Bits::Malformed;
-    }
-    Bits::Value(v, i + 1)
+    let value = read_hex(text, at, 8);
+    fields::read_end(text, value, end)
 }
 
 fn hex_digit(d: u32) -> u8

@@ -2,7 +2,7 @@
 use Rattle.basis.proofs.Prelude.{_∙_, _≡_, ap, refl, sym, _+_, _<_, _≤_, ℕ, List, false, true, drop, getD, length}
 use Rattle.fields.specs.Fields.{Found, found, unreadable, passed}
 use Rattle.fields.specs.Answers.{placeOf, Reads}
-use Rattle.fields.proofs.Places.{here, past-end, reads-as}
+use Rattle.fields.proofs.Places.{here, past-end, reads-as, said}
 use Rattle.spell.specs.declared.Urgency.{Urgency}
 use Rattle.spell.specs.declared.Spell.{Spell}
 use Rattle.register_read.specs.declared.Kind.{Kind}
@@ -28,7 +28,7 @@ module _ (s : List ℕ) (i : ℕ) where
 pub kind-next : {text : List ℕ} {r : Kind} {f : Found Urgency} {u : Urgency} {next : ℕ} → Reads kindAt kindOf text r f → r ≡ Value u next
     → next ≡ placeOf text (drop next text)
 kind-next {text} {r} {f} {u} {next} p e =
-    let is : f ≡ found u (drop next text) = sym (p .says) ∙ ap (kindOf text) e in
+    let is : f ≡ found u (drop next text) = said p e in
     let same : Value u next ≡ Value u (placeOf text (drop next text)) = sym e ∙ p .answer ∙ ap (kindAt text) is in
     cc
 

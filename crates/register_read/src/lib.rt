@@ -5,8 +5,8 @@ ghost use Rattle.fields.specs.Answers.{fieldOf, Reads};
 ghost use Rattle.register.specs.Text.{isLetter, readLetter, readValue, readLine, bad, readText};
 ghost use Rattle.register.specs.Answers.{lineAt, lineOf, readingOf};
 ghost use Rattle.register_read.specs.Contracts.{kindAt, kindOf};
-use fields::Bits;
 use fields::Field;
+use fields::Length;
 use refusal::ACCEPTED;
 use refusal::DUPLICATE_NUMBER;
 use refusal::FULL;
@@ -71,10 +71,10 @@ fn read_value(text: &[u8], at: usize, letter: u16) -> Kind
         };
         return Kind::Value(Urgency::Grade(g), next);
     }
-    let Bits::Value(n, next) = hex::read_bits(text, at, LF) else {
+    let Length::Value(n, next) = hex::read_bits(text, at, LF) else {
         return Kind::Malformed;
     };
-    let x = spell::reading_of(n);
+    let x = spell::reading_of(n as u32);
     Kind::Value(Urgency::Reading(x), next)
 }
 
@@ -122,7 +122,7 @@ fn refuse(number: u16, line: u16) -> Reading
     }
 }
 
-// The spells of a text, or the first refusal. `replay_cases` marks the numbers of the lines so far.
+// The spells of a text, or the first refusal. `seen` marks the numbers of the lines so far.
 pub fn read(text: &[u8]) -> Reading
     ensures { λ r. ⌜ r ≡ readingOf (readText (now (text .entry))) ⌝ }
 {

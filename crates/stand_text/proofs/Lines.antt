@@ -1,9 +1,9 @@
 -- Decimals and words put into a buffer one before the other, down to a whole line. Assumes nothing.
-use Rattle.basis.proofs.Prelude.{_∙_, _≡_, ap, refl, sym, _*_, _+_, _-_, _<_, _≤_, suc, ℕ, List, [], _++_, _∷_, drop, getD, length, length-append, length-drop, take, take-append-drop, drop-cons, drop-length, arith}
-use Rattle.fields.specs.Fields.{byteText, numberText, endBefore, numbersText}
+use Rattle.basis.proofs.Prelude.{_∙_, _≡_, ap, refl, sym, _*_, _-_, _<_, _≤_, suc, ℕ, List, [], _++_, _∷_, drop, getD, length, length-append, length-drop, take, take-append-drop, drop-cons, drop-length, arith}
+use Rattle.fields.specs.Fields.{byteText, numberText, numbersText}
 use Rattle.fields.specs.Answers.{Puts}
 use Rattle.fields.proofs.Puts.{Put, put-none, put-on, put-place, byte-put, number-put, puts-room, room-puts}
-use Rattle.fields.proofs.Widths.{decimal-wide, decimal-width}
+use Rattle.fields.proofs.Widths.{decimal-wide, numbers-width}
 use Rattle.model.specs.Questions.{onDay, listed, comparisonsOf}
 use Rattle.service.specs.Service.{Shows, Published}
 use Rattle.spell.specs.declared.Spell.{Spell}
@@ -11,13 +11,6 @@ use Rattle.stand_text.specs.Report.{lineOf, dayLine, refusedWord, Ends, 
 use Rattle.stand_text.proofs.Asked.{Told}
 
 -- ---- Numbers
-
--- each number takes at most six places
-numbers-width : (ns rest : List ℕ) → length (numbersText ns rest) ≤ 6 * length ns + length rest
-unfolding numbersText
-numbers-width [] rest = omega arith
-numbers-width (n ∷ ns) rest =
-    omega (arith, decimal-width n (endBefore (length ns) ∷ numbersText ns rest), numbers-width ns rest)
 
 -- a text is put, and begins at the floor or above it
 pub record Placed (entry exit : List ℕ) (r : ℕ) (text : List ℕ) (floor : ℕ) : Type 0 where

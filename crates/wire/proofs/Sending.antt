@@ -1,10 +1,10 @@
 -- An answer put into a list from its end to its front, field by field. Assumes nothing.
 use Rattle.basis.proofs.Prelude.{_∙_, _≡_, ap, refl, sym, _*_, _+_, _-_, _≤_, ℕ, List, [], _++_, _∷_, append-nil, drop, drop-of-length-le, length, length-append, length-drop, length-take, take, take-append-drop, drop-at, length-take-le, take-all, min-le-left, arith, le-leb}
 use borrow.Rule.Slice.PartMut.{putMid, midOf, post-is}
-use Rattle.fields.specs.Fields.{byteText, numberText, endBefore, numbersText}
+use Rattle.fields.specs.Fields.{byteText, numberText, numbersText}
 use Rattle.fields.specs.Answers.{Puts}
 use Rattle.fields.proofs.Puts.{Put, put-on, put-place, byte-put, number-put, room-puts}
-use Rattle.fields.proofs.Widths.{decimal-width, decimal-wide}
+use Rattle.fields.proofs.Widths.{decimal-wide, numbers-width, numbers-wide}
 use Rattle.wire.specs.Replies.{bytesText}
 use Rattle.wire.specs.Answering.{Sends}
 
@@ -42,21 +42,6 @@ module _ (out text : List ℕ) (at : ℕ) (h : length text ≤ at) (k : at ≤ l
   pub put-copied-length : (part : List ℕ) → part ≡ take (length text) text ++ drop (length text) (midOf (at - length text) (at - (at - length text)) out)
       → length part ≡ length text
   put-copied-length part e = ap length (copied-part part e)
-
--- so many places decimals take at most
-numbers-width : (ns rest : List ℕ) → length (numbersText ns rest) ≤ 6 * length ns + length rest
-unfolding numbersText
-numbers-width [] rest = omega arith
-numbers-width (n ∷ ns) rest =
-    let w = decimal-width n (endBefore (length ns) ∷ numbersText ns rest) in
-    omega (arith, w, numbers-width ns rest)
-
-numbers-wide : (ns rest : List ℕ) → length rest ≤ length (numbersText ns rest)
-unfolding numbersText
-numbers-wide [] rest = omega arith
-numbers-wide (n ∷ ns) rest =
-    let w = decimal-wide n (endBefore (length ns) ∷ numbersText ns rest) in
-    omega (arith, w, numbers-wide ns rest)
 
 -- ---- one field more before what is put
 module _ {a b : List ℕ} {i : ℕ} {t : List ℕ} (p : Put a b i t) where

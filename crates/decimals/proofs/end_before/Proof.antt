@@ -8,8 +8,5 @@ tab : (n : ℕ) → (n ≡ 0 → ⊥) → 9 ≡ endBefore n
 tab zero h = absurd (h refl)
 tab (suc n) h = refl
 
-returns-2 : tie.Need-returns-2
-returns-2 c = tab _ (c .if1 .left)
-
 pub end-before-spec : {M : Type 1} → statement M
-end-before-spec = tie.close (tie.spec (λ c. search needs) returns-2)
+end-before-spec = tie.close (tie.spec (λ c. search needs) (λ c. tab _ (c .if1 .left)))

@@ -1,124 +1,24 @@
--- `decimals::put_number` meets its contract. The invariant: the digits of v put before the place i make the whole field. Assumes nothing.
-use Rattle.basis.proofs.Prelude.{ap, refl, _+_, _-_, _≤_, _∷_, drop, length, set, arith}
-use Rattle.fields.specs.Fields.{numberText}
-use Rattle.fields.proofs.Puts.{Put, put-none, put-one, put-on, put-place, puts-before, puts-past, puts-room}
-use Rattle.decimals.proofs.Puts.{Digits, digits-room, digits-step, digits-last}
+-- `decimals::put_number` meets its contract. Assumes nothing.
+use Rattle.basis.proofs.Prelude.{_∷_, drop, length-drop, arith, needs}
+use Rattle.fields.specs.Fields.{wideText, numberText}
+use Rattle.fields.proofs.Puts.{puts-before, puts-past, puts-as}
+use Rattle.fields.proofs.Widths.{decimal-width}
+use Rattle.decimals.proofs.Puts.{wide-number}
 use Rattle.decimals.proofs.put_number.Statement.{statement}
 use Rattle.decimals.proofs.put_number.Tie as tie
-
-abbrev Inv-loop : tie.InvT-loop
-Inv-loop buf₀ at n end i₀ v₀ buf i v = Digits n (drop i₀ buf₀) buf₀ buf i v × (i ≤ i₀)
-
-abbrev μ-loop : tie.MeasureT-loop
-μ-loop buf₀ at n end i₀ v₀ buf i v = v
-
-returns : tie.Need-returns Inv-loop μ-loop
-returns c = puts-before 6 (numberText (c .before .args .n) (c .before .args .end)) (c .before .args .buf .now) (c .before .args .at) (c .if1 .taken)
-
-returns-2 : tie.Need-returns-2 Inv-loop μ-loop
-returns-2 c =
-    let args = c .before .before .args in
-    puts-past 6 (numberText (args .n) (args .end)) (args .buf .now) (args .at) (c .before .if1 .left) (c .if2 .taken)
-
--- the byte that ends the field
-ended : (c : tie.Else2 Inv-loop μ-loop) →
-    let args = c .before .before .args in
-    Put (args .buf .now) (set (args .buf .now) (args .at - 1) (args .end)) (args .at - 1) (args .end ∷ drop (args .at) (args .buf .now))
-ended c =
-    let args = c .before .before .args in
-    put-one (args .end) (put-none (args .buf .now) (args .at) (omega arith)) (omega arith)
-
-sub-i : tie.Need-sub-i Inv-loop μ-loop
-sub-i c = omega arith
-
-slice-write-buf : tie.Need-slice-write-buf Inv-loop μ-loop
-slice-write-buf c = omega arith
-
-loop-holds : tie.Need-loop-holds Inv-loop μ-loop
-loop-holds c =
-    let p = ended c in (
-      record {
-        so-far = put-none _ _ (omega (arith, p .sized, p .inside));
-        small = omega arith;
-        short = omega (arith, p .sized, ap length (p .written), put-place p);
-        ahead = refl;
-      },
-      omega arith,
-    )
-
-sub-i-2 : tie.Need-sub-i-2 Inv-loop μ-loop
-sub-i-2 c = digits-room (c .before .loop .inv .0)
-
-cast-buf : tie.Need-cast-buf Inv-loop μ-loop
-cast-buf c = omega arith
-
-add-buf : tie.Need-add-buf Inv-loop μ-loop
-add-buf c = omega arith
-
-slice-write-buf-2 : tie.Need-slice-write-buf-2 Inv-loop μ-loop
-slice-write-buf-2 c =
-    let d = c .before .loop .inv .0 in
-    omega (arith, d .so-far .sized, d .so-far .inside, digits-room d)
-
-loop-less : tie.Need-loop-less Inv-loop μ-loop
-loop-less c = omega arith
-
-loop-again : tie.Need-loop-again Inv-loop μ-loop
-loop-again c = (digits-step (c .before .loop .inv .0) (omega arith), omega arith)
-
-sub-i-3 : tie.Need-sub-i-3 Inv-loop μ-loop
-sub-i-3 c = digits-room (c .before .loop .inv .0)
-
-cast-buf-2 : tie.Need-cast-buf-2 Inv-loop μ-loop
-cast-buf-2 c = omega arith
-
-add-buf-2 : tie.Need-add-buf-2 Inv-loop μ-loop
-add-buf-2 c = omega arith
-
-slice-write-buf-3 : tie.Need-slice-write-buf-3 Inv-loop μ-loop
-slice-write-buf-3 c =
-    let d = c .before .loop .inv .0 in
-    omega (arith, d .so-far .sized, d .so-far .inside, digits-room d)
-
--- the whole field
-whole : (c : tie.After-loop Inv-loop μ-loop) →
-    let head = c .before in
-    let args = head .before .before .before .args in
-    Put (args .buf .now) (set (head .loop .buf) (head .loop .i - 1) (48 + head .loop .v)) (head .loop .i - 1) (numberText (args .n) (args .end) (drop (args .at) (args .buf .now)))
-whole c =
-    let head = c .before in
-    let p = ended (head .before) in
-    put-on p (rw (p .written) at (digits-last (head .loop .inv .0) (omega arith))) (omega arith)
-
-same-length : tie.Need-same-length Inv-loop μ-loop
-same-length c = whole c .sized
-
-returns-3 : tie.Need-returns-3 Inv-loop μ-loop
-returns-3 c =
-    let start = c .before .before in
-    let args = start .before .before .args in
-    puts-room 6 (numberText (args .n) (args .end)) (start .before .if1 .left) (start .if2 .left) (whole c)
 
 pub put-number-spec : {M : Type 1} → statement M
 put-number-spec =
     tie.close
     (tie.spec
-    Inv-loop
-    μ-loop
-    returns
-    returns-2
-    sub-i
-    slice-write-buf
-    loop-holds
-    sub-i-2
-    cast-buf
-    add-buf
-    slice-write-buf-2
-    loop-less
-    loop-again
-    sub-i-3
-    cast-buf-2
-    add-buf-2
-    slice-write-buf-3
-    same-length
-    returns-3)
+    (λ c. let a = c .before .before .args in puts-before 6 (numberText (a .n) (a .end)) (a .buf .now) (a .at) (c .if1 .taken))
+    (λ c. let a = c .before .before .before .args in puts-past 6 (numberText (a .n) (a .end)) (a .buf .now) (a .at) (c .before .if1 .left) (c .if2 .taken))
+    (λ c κs.
+    let a = c .before .before .before .before .args in
+    (c .before .if2 .left, rw (wide-number (a .n) (a .end) (drop (a .at) (a .buf .now)) (omega arith)) (omega (arith, decimal-width (a .n) (a .end ∷ drop (a .at) (a .buf .now)), length-drop (a .at) (a .buf .now)))))
+    (λ c. search needs)
+    (λ c.
+    let p = c .before .before in
+    let e = p .before .before in
+    let a = e .before .before .before .args in
+    puts-as 6 (wideText (a .n) (a .end)) (numberText (a .n) (a .end)) (e .before .if1 .left) (e .if2 .left) (wide-number (a .n) (a .end) (drop (a .at) (a .buf .now)) (omega arith)) (p .put-decimal .ensures)))

@@ -12,27 +12,11 @@ Inv-loop buf₀ at n end i₀ v₀ k₀ buf i v k = Hexes n (drop i₀ buf₀) b
 abbrev μ-loop : tie.MeasureT-loop
 μ-loop buf₀ at n end i₀ v₀ k₀ buf i v k = 8 - k
 
-returns : tie.Need-returns Inv-loop μ-loop
-returns c = puts-before 9 (bitsText (c .before .before .args .n) (c .before .before .args .end)) (c .before .before .args .buf .now) (c .before .before .args .at) (c .if1 .taken)
-
-returns-2 : tie.Need-returns-2 Inv-loop μ-loop
-returns-2 c =
-    let args = c .before .before .before .args in
-    puts-past 9 (bitsText (args .n) (args .end)) (args .buf .now) (args .at) (c .before .if1 .left) (c .if2 .taken)
-
 -- the byte that ends the field
 ended : (c : tie.Else2 Inv-loop μ-loop) →
-    let args = c .before .before .before .args in
-    Put (args .buf .now) (set (args .buf .now) (args .at - 1) (args .end)) (args .at - 1) (args .end ∷ drop (args .at) (args .buf .now))
-ended c =
-    let args = c .before .before .before .args in
-    put-one (args .end) (put-none (args .buf .now) (args .at) (omega arith)) (omega arith)
-
-sub-i : tie.Need-sub-i Inv-loop μ-loop
-sub-i c = omega arith
-
-slice-write-buf : tie.Need-slice-write-buf Inv-loop μ-loop
-slice-write-buf c = omega arith
+    let a = c .before .before .before .args in
+    Put (a .buf .now) (set (a .buf .now) (a .at - 1) (a .end)) (a .at - 1) (a .end ∷ drop (a .at) (a .buf .now))
+ended c = let a = c .before .before .before .args in put-one (a .end) (put-none (a .buf .now) (a .at) (omega arith)) (omega arith)
 
 loop-holds : tie.Need-loop-holds Inv-loop μ-loop
 loop-holds c =
@@ -47,44 +31,14 @@ loop-holds c =
       omega arith,
     )
 
-sub-i-2 : tie.Need-sub-i-2 Inv-loop μ-loop
-sub-i-2 c = hexes-room (c .before .loop .inv .0) (omega arith)
-
-hex-digit-requires : tie.Need-hex-digit-requires Inv-loop μ-loop
-hex-digit-requires c κs = omega arith
-
-slice-write-buf-2 : tie.Need-slice-write-buf-2 Inv-loop μ-loop
-slice-write-buf-2 c =
-    let d = c .before .before .loop .inv .0 in
-    omega (arith, d .so-far .sized, d .so-far .inside, hexes-room d (omega arith))
-
-add-k : tie.Need-add-k Inv-loop μ-loop
-add-k c = omega arith
-
-loop-less : tie.Need-loop-less Inv-loop μ-loop
-loop-less c = omega arith
-
-loop-again : tie.Need-loop-again Inv-loop μ-loop
-loop-again c = (rw (c .hex-digit .ensures) (hexes-step (c .before .before .loop .inv .0) (omega arith)), omega arith)
-
 -- the whole field
 whole : (c : tie.After-loop Inv-loop μ-loop) →
-    let head = c .before in
-    let args = head .before .before .before .before .args in
-    Put (args .buf .now) (head .loop .buf) (head .loop .i) (bitsText (args .n) (args .end) (drop (args .at) (args .buf .now)))
+    let l = c .before in
+    let a = l .before .before .before .before .args in
+    Put (a .buf .now) (l .loop .buf) (l .loop .i) (bitsText (a .n) (a .end) (drop (a .at) (a .buf .now)))
 whole c =
-    let head = c .before in
-    let p = ended (head .before) in
-    put-on p (rw (p .written) at (hexes-last (head .loop .inv .0) (omega arith))) (omega arith)
-
-same-length : tie.Need-same-length Inv-loop μ-loop
-same-length c = whole c .sized
-
-returns-3 : tie.Need-returns-3 Inv-loop μ-loop
-returns-3 c =
-    let start = c .before .before in
-    let args = start .before .before .before .args in
-    puts-room 9 (bitsText (args .n) (args .end)) (start .before .if1 .left) (start .if2 .left) (whole c)
+    let p = ended (c .before .before) in
+    put-on p (rw (p .written) at (hexes-last (c .before .loop .inv .0) (omega arith))) (omega arith)
 
 pub put-bits-spec : {M : Type 1} → statement M
 put-bits-spec =
@@ -92,16 +46,15 @@ put-bits-spec =
     (tie.spec
     Inv-loop
     μ-loop
-    returns
-    returns-2
-    sub-i
-    slice-write-buf
+    (λ c. let a = c .before .before .args in puts-before 9 (bitsText (a .n) (a .end)) (a .buf .now) (a .at) (c .if1 .taken))
+    (λ c. let a = c .before .before .before .args in puts-past 9 (bitsText (a .n) (a .end)) (a .buf .now) (a .at) (c .before .if1 .left) (c .if2 .taken))
+    (λ c. omega arith) (λ c. omega arith)
     loop-holds
-    sub-i-2
-    hex-digit-requires
-    slice-write-buf-2
-    add-k
-    loop-less
-    loop-again
-    same-length
-    returns-3)
+    (λ c. hexes-room (c .before .loop .inv .0) (omega arith))  -- i -= 1
+    (λ c κs. omega arith)
+    -- buf[i]
+    (λ c. let d = c .before .before .loop .inv .0 in omega (arith, d .so-far .sized, d .so-far .inside, hexes-room d (omega arith)))
+    (λ c. omega arith) (λ c. omega arith)
+    (λ c. (rw (c .hex-digit .ensures) (hexes-step (c .before .before .loop .inv .0) (omega arith)), omega arith))
+    (λ c. whole c .sized)
+    (λ c. let s = c .before .before in puts-room 9 _ (s .before .if1 .left) (s .if2 .left) (whole c)))

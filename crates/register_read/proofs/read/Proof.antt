@@ -1,10 +1,12 @@
 -- `register_read::read` meets its contract. The invariant is `State`: reading the rest after the spells so far gives what was to be read. Assumes nothing.
-use Rattle.basis.proofs.Prelude.{_∙_, _≡_, ap, sym, _+_, _-_, _<_, ℕ, false, drop, getD-replicate, length-replicate, replicate, arith, needs, not-false, not-true}
+use Rattle.basis.proofs.Prelude.{_∙_, _≡_, ap, sym, _+_, _-_, _<_, ℕ, false, true, getD-replicate, length-replicate, arith, needs, not-false, not-true}
 use Rattle.spell.specs.Entry.{refusalOf}
-use Rattle.fields.specs.Fields.{found}
-use Rattle.register.specs.Text.{bad, readLine}
-use Rattle.register.specs.Answers.{lineOf, readingOf}
-use Rattle.register_read.proofs.Progress.{State, text-long, begin, is-malformed, refuses-entry, refuses-taken, refuses-misplaced, refuses-full, goes-on, gives}
+use Rattle.spell.specs.Order.{earlierOf}
+use Rattle.fields.proofs.Places.{said}
+use Rattle.register.specs.declared.Reading.{Reading}
+use Rattle.register.specs.Text.{Register, bad}
+use Rattle.register.specs.Answers.{readingOf}
+use Rattle.register_read.proofs.Progress.{State, Next, text-long, begin, is-malformed, refuses-entry, refuses-taken, refuses-misplaced, refuses-full, goes-on, gives}
 use Rattle.register_read.proofs.read.Statement.{statement}
 use Rattle.register_read.proofs.read.Tie as tie
 
@@ -14,177 +16,29 @@ Inv-loop text spells₀ seen₀ before₀ count₀ at₀ spells seen before coun
 abbrev μ-loop : tie.MeasureT-loop
 μ-loop text spells₀ seen₀ before₀ count₀ at₀ spells seen before count at = 1024 - count
 
-refuse-requires : tie.Need-refuse-requires Inv-loop μ-loop
-refuse-requires c κs = tt
-
-returns : tie.Need-returns Inv-loop μ-loop
-returns c =
-    c .refuse .ensures ∙ sym (ap readingOf (text-long (c .before .before .before .args .text .now) (c .before .if1 .taken)))
-
-blank-requires : tie.Need-blank-requires Inv-loop μ-loop
-blank-requires c κs = tt
-
-loop-holds : tie.Need-loop-holds Inv-loop μ-loop
-loop-holds c =
-    begin (c .before .before .before .args .text .now) (c .blank .result) (replicate 65536 false) (c .before .if1 .left) (c .blank .ensures)
-    (length-replicate 65536 false) (λ k l. getD-replicate 65536 k false false l)
-
-add-line : tie.Need-add-line Inv-loop μ-loop
-add-line c = omega (arith, c .before .loop .inv .few)
-
-cast-line : tie.Need-cast-line Inv-loop μ-loop
-cast-line c = omega (arith, c .before .loop .inv .few)
-
-read-line-requires : tie.Need-read-line-requires Inv-loop μ-loop
-read-line-requires c κs = tt
-
-refuse-requires-2 : tie.Need-refuse-requires-2 Inv-loop μ-loop
-refuse-requires-2 c κs = tt
-
-returns-2 : tie.Need-returns-2 Inv-loop μ-loop
-returns-2 c =
-    let told = c .before in
-    let call = told .before .before in
-    let head = call .before .before in
-    c .refuse2 .ensures
-    ∙ sym (ap readingOf (is-malformed (head .before .before .before .before .args .text .now) (head .loop .spells) (head .loop .seen) (head .loop .before) (head .loop .count) (head .loop .at) (head .loop .inv) (call .before .loop-test .taken)
-    (sym (call .read-line .ensures .says) ∙ ap (lineOf (head .before .before .before .before .args .text .now)) (told .enum-told .given .1))))
-
-refusal-of-requires : tie.Need-refusal-of-requires Inv-loop μ-loop
-refusal-of-requires c κs = tt
-
-refuse-requires-3 : tie.Need-refuse-requires-3 Inv-loop μ-loop
-refuse-requires-3 c κs = tt
+-- the answer of what a text is read as
+answers : {r : Reading} {f g : Register} → r ≡ readingOf g → f ≡ g → r ≡ readingOf f
+answers e h = e ∙ sym (ap readingOf h)
 
 -- the line that was read
-line-read : (c : tie.After-known-told Inv-loop μ-loop) →
-    let head = c .before .before .before .before .before in
-    let text = head .before .before .before .before .args .text .now in
-    readLine (drop (head .loop .at) text) ≡ found (c .before .s .given .0 .0) (drop (c .before .s .given .0 .1 .0) text)
-line-read c =
-    let call = c .before .before .before in
-    let head = call .before .before in
-    sym (call .read-line .ensures .says) ∙ ap (lineOf (head .before .before .before .before .args .text .now)) (c .before .s .given .1)
+line : (c : tie.After-known-told Inv-loop μ-loop) →
+    let l = c .before .before .before .before .before in
+    Next (l .before .before .before .before .args .text .now) (l .loop .at) (c .before .s .given .0 .0) (c .before .s .given .0 .1 .0)
+line c = record { line = said (c .before .before .before .read-line .ensures) (c .before .s .given .1) }
 
-returns-3 : tie.Need-returns-3 Inv-loop μ-loop
-returns-3 c =
-    let read = c .before .before in
-    let line = read .before in
-    let head = line .before .before .before .before .before in
-    let e = read .refusal-of .ensures in
-    c .refuse3 .ensures
-    ∙ sym (ap readingOf (refuses-entry (head .before .before .before .before .args .text .now) (head .loop .spells) (head .loop .seen) (head .loop .before) (head .loop .count) (head .loop .at) (head .loop .inv) (line .before .s .given .0 .0) (line .before .s .given .0 .1 .0) (line-read line) (λ z. c .before .if2 .taken (e ∙ z))
-    ∙ ap (λ (k : ℕ). bad k (head .loop .count + 1)) (sym e)))
+-- it passes the checks 1 to 5, and its number has a place
+entered : (c : tie.After-struct-known Inv-loop μ-loop) → let s = c .before .before .before .before .s .given .0 .0 in (refusalOf s ≡ 0) × (s .number < 65536)
+entered c = (sym (c .before .before .refusal-of .ensures) ∙ c .before .if2 .left, search needs)
 
--- it passes the checks 1 to 5
-enters : (c : tie.After-struct-known Inv-loop μ-loop) → refusalOf (c .before .before .before .before .s .given .0 .0) ≡ 0
-enters c = sym (c .before .before .refusal-of .ensures) ∙ c .before .if2 .left
+-- it is after the one before
+after : (c : tie.Else4 Inv-loop μ-loop) →
+    let l = c .before .before .before .before .before .before .before .before .before .before .before in
+    earlierOf (l .loop .before) (c .before .before .before .before .before .before .before .s .given .0 .0) ≡ true
+after c = sym (c .before .earlier .ensures) ∙ not-false _ (c .if4 .left)
 
-low : (c : tie.After-struct-known Inv-loop μ-loop) → c .before .before .before .before .s .given .0 .0 .number < 65536
-low c = search needs
-
-cast-n : tie.Need-cast-n Inv-loop μ-loop
-cast-n c = omega (arith, low c)
-
-array-read-if3 : tie.Need-array-read-if3 Inv-loop μ-loop
-array-read-if3 c = low c
-
-refuse-requires-4 : tie.Need-refuse-requires-4 Inv-loop μ-loop
-refuse-requires-4 c κs = tt
-
-returns-4 : tie.Need-returns-4 Inv-loop μ-loop
-returns-4 c =
-    let known = c .before .before in
-    let line = known .before .before .before in
-    let head = line .before .before .before .before .before in
-    c .refuse4 .ensures
-    ∙ sym (ap readingOf (refuses-taken (head .before .before .before .before .args .text .now) (head .loop .spells) (head .loop .seen) (head .loop .before) (head .loop .count) (head .loop .at) (head .loop .inv) (line .before .s .given .0 .0) (line .before .s .given .0 .1 .0) (line-read line) (enters known) (low known) (c .before .if3 .taken)))
-
-earlier-requires : tie.Need-earlier-requires Inv-loop μ-loop
-earlier-requires c κs = tt
-
-refuse-requires-5 : tie.Need-refuse-requires-5 Inv-loop μ-loop
-refuse-requires-5 c κs = tt
-
-returns-5 : tie.Need-returns-5 Inv-loop μ-loop
-returns-5 c =
-    let order = c .before .before in
-    let free = order .before in
-    let known = free .before in
-    let line = known .before .before .before in
-    let head = line .before .before .before .before .before in
-    c .refuse5 .ensures
-    ∙ sym (ap readingOf (refuses-misplaced (head .before .before .before .before .args .text .now) (head .loop .spells) (head .loop .seen) (head .loop .before) (head .loop .count) (head .loop .at) (head .loop .inv) (line .before .s .given .0 .0) (line .before .s .given .0 .1 .0) (line-read line) (enters known) (low known) (free .if3 .left)
-    (sym (order .earlier .ensures) ∙ not-true (order .earlier .result) (c .before .if4 .taken))))
-
-refuse-requires-6 : tie.Need-refuse-requires-6 Inv-loop μ-loop
-refuse-requires-6 c κs = tt
-
-returns-6 : tie.Need-returns-6 Inv-loop μ-loop
-returns-6 c =
-    let order = c .before .before .before in
-    let free = order .before in
-    let known = free .before in
-    let line = known .before .before .before in
-    let head = line .before .before .before .before .before in
-    c .refuse6 .ensures
-    ∙ sym (ap readingOf (refuses-full (head .before .before .before .before .args .text .now) (head .loop .spells) (head .loop .seen) (head .loop .before) (head .loop .count) (head .loop .at) (head .loop .inv) (line .before .s .given .0 .0) (line .before .s .given .0 .1 .0) (line-read line) (enters known) (low known) (free .if3 .left)
-    (sym (order .earlier .ensures) ∙ not-false (order .earlier .result) (c .before .before .if4 .left)) (c .before .if5 .taken)))
-
-mul-spells : tie.Need-mul-spells Inv-loop μ-loop
-mul-spells c =
-    let order = c .before .before in
-    let free = order .before in
-    let known = free .before in
-    let line = known .before .before .before in
-    let head = line .before .before .before .before .before in
-    omega (arith, head .loop .inv .few, c .if5 .left)
-
-array-set-from-spells : tie.Need-array-set-from-spells Inv-loop μ-loop
-array-set-from-spells c =
-    let order = c .before .before in
-    let free = order .before in
-    let known = free .before in
-    let line = known .before .before .before in
-    let head = line .before .before .before .before .before in
-    omega (arith, head .loop .inv .few, c .if5 .left)
-
-array-write-seen : tie.Need-array-write-seen Inv-loop μ-loop
-array-write-seen c = low (c .before .before .before .before)
-
-add-count : tie.Need-add-count Inv-loop μ-loop
-add-count c =
-    let order = c .before .before in
-    let free = order .before in
-    let known = free .before in
-    let line = known .before .before .before in
-    let head = line .before .before .before .before .before in
-    omega (arith, head .loop .inv .few, c .if5 .left)
-
-loop-less : tie.Need-loop-less Inv-loop μ-loop
-loop-less c =
-    let order = c .before .before in
-    let free = order .before in
-    let known = free .before in
-    let line = known .before .before .before in
-    let head = line .before .before .before .before .before in
-    omega (arith, head .loop .inv .few, c .if5 .left)
-
-loop-again : tie.Need-loop-again Inv-loop μ-loop
-loop-again c =
-    let order = c .before .before in
-    let free = order .before in
-    let known = free .before in
-    let line = known .before .before .before in
-    let head = line .before .before .before .before .before in
-    let room : head .loop .count < 1024 = omega (arith, head .loop .inv .few, c .if5 .left) in
-    goes-on (head .before .before .before .before .args .text .now) (head .loop .spells) (head .loop .seen) (head .loop .before) (head .loop .count) (head .loop .at) (head .loop .inv) (line .before .s .given .0 .0) (line .before .s .given .0 .1 .0) (line-read line) (enters known) (low known) (free .if3 .left)
-    (sym (order .earlier .ensures) ∙ not-false (order .earlier .result) (c .before .if4 .left)) room
-
-returns-7 : tie.Need-returns-7 Inv-loop μ-loop
-returns-7 c =
-    let head = c .before in
-    gives (head .before .before .before .before .args .text .now) (head .loop .spells) (head .loop .seen) (head .loop .before) (head .loop .count) (head .loop .at) (head .loop .inv) (c .loop-test .left)
+-- a line more has room
+few : (c : tie.Else5 Inv-loop μ-loop) → c .before .before .before .before .before .before .before .before .before .before .before .before .loop .count < 1024
+few c = let l = c .before .before .before .before .before .before .before .before .before .before .before .before in omega (arith, l .loop .inv .few, c .if5 .left)
 
 pub read-spec : {M : Type 1} → statement M
 read-spec =
@@ -192,32 +46,57 @@ read-spec =
     (tie.spec
     Inv-loop
     μ-loop
-    refuse-requires
-    returns
-    blank-requires
-    loop-holds
-    add-line
-    cast-line
-    read-line-requires
-    (λ c. search needs) (λ c. search needs)
-    refuse-requires-2
-    returns-2
-    refusal-of-requires
-    refuse-requires-3
-    returns-3
-    cast-n
-    array-read-if3
-    refuse-requires-4
-    returns-4
-    earlier-requires
-    refuse-requires-5
-    returns-5
-    refuse-requires-6
-    returns-6
-    mul-spells
-    array-set-from-spells
-    array-write-seen
-    add-count
-    loop-less
-    loop-again
-    returns-7)
+    (λ c κs. tt)
+    (λ c. answers (c .refuse .ensures) (text-long _ (c .before .if1 .taken)))
+    (λ c κs. tt)
+    -- the loop begins
+    (λ c. begin _ _ _ (c .before .if1 .left) (c .blank .ensures) (length-replicate 65536 false) (λ k l. getD-replicate 65536 k false false l))
+    (λ c. omega (arith, c .before .loop .inv .few)) (λ c. omega (arith, c .before .loop .inv .few))  -- (count + 1) as u16
+    (λ c κs. tt) (λ c. search needs) (λ c. search needs) (λ c κs. tt)
+    -- MALFORMED
+    (λ c.
+    let call = c .before .before .before in
+    answers (c .refuse2 .ensures) (is-malformed (call .before .before .loop .inv) (call .before .loop-test .taken) (said (call .read-line .ensures) (c .before .enum-told .given .1))))
+    (λ c κs. tt) (λ c κs. tt)
+    -- the checks 1 to 5
+    (λ c.
+    let r = c .before .before in
+    let k = r .before in
+    let l = k .before .before .before .before .before .loop in
+    let e = r .refusal-of .ensures in
+    answers (c .refuse3 .ensures) (refuses-entry (l .inv) (line k) (λ z. c .before .if2 .taken (e ∙ z)) ∙ ap (λ (n : ℕ). bad n (l .count + 1)) (sym e)))
+    (λ c. omega (arith, entered c .1)) (λ c. entered c .1)  -- seen[s.number as usize]
+    (λ c κs. tt)
+    -- DUPLICATE_NUMBER
+    (λ c.
+    let n = c .before .before in
+    let k = n .before .before .before in
+    answers (c .refuse4 .ensures) (refuses-taken (k .before .before .before .before .before .loop .inv) (line k) (entered n .0) (entered n .1) (c .before .if3 .taken)))
+    (λ c κs. tt) (λ c κs. tt)
+    -- OUT_OF_ORDER
+    (λ c.
+    let o = c .before .before in
+    let n = o .before .before in
+    let k = n .before .before .before in
+    answers (c .refuse5 .ensures)
+    (refuses-misplaced (k .before .before .before .before .before .loop .inv) (line k) (entered n .0) (entered n .1) (o .before .if3 .left) (sym (o .earlier .ensures) ∙ not-true _ (c .before .if4 .taken))))
+    (λ c κs. tt)
+    -- FULL
+    (λ c.
+    let o = c .before .before in
+    let f = o .before .before in
+    let n = f .before in
+    let k = n .before .before .before in
+    answers (c .refuse6 .ensures)
+    (refuses-full (k .before .before .before .before .before .loop .inv) (line k) (entered n .0) (entered n .1) (f .if3 .left) (after o) (c .before .if5 .taken)))
+    (λ c. omega (arith, few c)) (λ c. omega (arith, few c))  -- spells[count]
+    (λ c. entered (c .before .before .before .before) .1)  -- seen[n]
+    (λ c. omega (arith, few c)) (λ c. omega (arith, few c))
+    -- the loop goes on
+    (λ c.
+    let o = c .before in
+    let f = o .before .before in
+    let n = f .before in
+    let k = n .before .before .before in
+    goes-on (k .before .before .before .before .before .loop .inv) (line k) (entered n .0) (entered n .1) (f .if3 .left) (after o) (c .if5 .left))
+    (λ c. gives (c .before .loop .inv) (c .loop-test .left)))

@@ -4,9 +4,6 @@ use Rattle.register.specs.Answers.{readingOf}
 use Rattle.register_read.proofs.refuse.Statement.{statement}
 use Rattle.register_read.proofs.refuse.Tie as tie
 
-returns : tie.Need-returns
-unfolding readingOf
-returns c = rw (c .blank .ensures)
-
 pub refuse-spec : {M : Type 1} → statement M
-refuse-spec = tie.close (tie.spec (λ c κs. search needs) returns)
+unfolding readingOf
+refuse-spec = tie.close (tie.spec (λ c κs. search needs) (λ c. rw (c .blank .ensures)))
