@@ -1,5 +1,5 @@
 -- Single bytes: those that are digits, and the byte that ends a field. Assumes nothing.
-use Rattle.basis.proofs.Prelude.{_≡_, refl, _<_, _≤_, ℕ, List, [], _∷_, Bool, _&&_, false, false≢true, true, _⊎_, inl, inr, eqb, leb, arith, eqb-true, le-leb, leb-true, lt-leb}
+use Rattle.basis.proofs.Prelude.{_≡_, refl, _<_, _≤_, ℕ, List, [], _∷_, Bool, false, true, _⊎_, inl, inr, eqb, leb, arith, eqb-true, le-leb, leb-true, lt-leb, both}
 use Rattle.fields.specs.Fields.{found, unreadable, passed, isDigit}
 
 pub which : (t : Bool) → (t ≡ true) ⊎ (t ≡ false)
@@ -17,18 +17,10 @@ pub low-not : (b : ℕ) → b < 48 → isDigit b ≡ false
 low-not b h = rw (lt-leb 48 b h)
 
 pub digit-low : (b : ℕ) → isDigit b ≡ true → 48 ≤ b
-digit-low b h = go (leb 48 b) refl h
-  where
-    go : (t : Bool) → leb 48 b ≡ t → t && leb b 57 ≡ true → 48 ≤ b
-    go true e k = leb-true 48 b e
-    go false e k = absurd (false≢true k)
+digit-low b h = leb-true 48 b (both (leb 48 b) (leb b 57) h .0)
 
 pub digit-high : (b : ℕ) → isDigit b ≡ true → b ≤ 57
-digit-high b h = go (leb 48 b) refl h
-  where
-    go : (t : Bool) → leb 48 b ≡ t → t && leb b 57 ≡ true → b ≤ 57
-    go true e k = leb-true b 57 k
-    go false e k = absurd (false≢true k)
+digit-high b h = leb-true b 57 (both (leb 48 b) (leb b 57) h .1)
 
 -- ---- the byte that ends a field
 -- the byte that was passed stands before what follows

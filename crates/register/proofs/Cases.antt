@@ -35,50 +35,27 @@ register =
     ∷ spell 16 5 9 9 (Grade 3)
     ∷ []
 
-a-read : readText text ≡ good register
-unfolding isNan ofBits toBits earlierOf stands passed readDigits readDecimal hexValue readHex readLetter readValue readUrgency readLine follows lineRefusal lineAnswer nextLine readLines readText
-a-read = refl
-
 a-written : writeAll register ≡ text
 unfolding ofBits toBits digitsOf decimalOf hexDigit hexOf lineText textOnto
 a-written = refl
 
--- the empty text is the empty list
-none-read : readText [] ≡ good []
+-- Register A, the empty text, and what refuses a line
+read :
+    (readText text ≡ good register)
+    × (readText [] ≡ good [])
+    -- a leading zero
+    × (readText (48 ∷ 49 ∷ 9 ∷ 49 ∷ 9 ∷ 49 ∷ 9 ∷ 49 ∷ 9 ∷ 71 ∷ 9 ∷ 49 ∷ 10 ∷ []) ≡ bad 12 1)
+    -- the last line without its LF
+    × (readText (49 ∷ 9 ∷ 49 ∷ 9 ∷ 49 ∷ 9 ∷ 49 ∷ 9 ∷ 71 ∷ 9 ∷ 49 ∷ []) ≡ bad 12 1)
+    -- a number above 65,535
+    × (readText (54 ∷ 53 ∷ 53 ∷ 51 ∷ 54 ∷ 9 ∷ 49 ∷ 9 ∷ 49 ∷ 9 ∷ 49 ∷ 9 ∷ 71 ∷ 9 ∷ 49 ∷ 10 ∷ []) ≡ bad 12 1)
+    -- a lower-case hex digit
+    × (readText (49 ∷ 9 ∷ 49 ∷ 9 ∷ 49 ∷ 9 ∷ 49 ∷ 9 ∷ 67 ∷ 9 ∷ 51 ∷ 102 ∷ 56 ∷ 48 ∷ 48 ∷ 48 ∷ 48 ∷ 48 ∷ 10 ∷ []) ≡ bad 12 1)
+    -- minus zero
+    × (readText (49 ∷ 9 ∷ 49 ∷ 9 ∷ 49 ∷ 9 ∷ 49 ∷ 9 ∷ 67 ∷ 9 ∷ 56 ∷ 48 ∷ 48 ∷ 48 ∷ 48 ∷ 48 ∷ 48 ∷ 48 ∷ 10 ∷ []) ≡ bad 5 1)
+    -- the same line twice: its number is taken, which is checked before its place
+    × (readText (49 ∷ 9 ∷ 49 ∷ 9 ∷ 49 ∷ 9 ∷ 49 ∷ 9 ∷ 71 ∷ 9 ∷ 49 ∷ 10 ∷ 49 ∷ 9 ∷ 49 ∷ 9 ∷ 49 ∷ 9 ∷ 49 ∷ 9 ∷ 71 ∷ 9 ∷ 49 ∷ 10 ∷ []) ≡ bad 6 2)
+    -- a line that is not after the one before
+    × (readText (50 ∷ 9 ∷ 49 ∷ 9 ∷ 49 ∷ 9 ∷ 49 ∷ 9 ∷ 71 ∷ 9 ∷ 49 ∷ 10 ∷ 49 ∷ 9 ∷ 49 ∷ 9 ∷ 49 ∷ 9 ∷ 49 ∷ 9 ∷ 71 ∷ 9 ∷ 49 ∷ 10 ∷ []) ≡ bad 13 2)
 unfolding isNan ofBits toBits earlierOf stands passed readDigits readDecimal hexValue readHex readLetter readValue readUrgency readLine follows lineRefusal lineAnswer nextLine readLines readText
-none-read = refl
-
--- a leading zero
-leading-zero : readText (48 ∷ 49 ∷ 9 ∷ 49 ∷ 9 ∷ 49 ∷ 9 ∷ 49 ∷ 9 ∷ 71 ∷ 9 ∷ 49 ∷ 10 ∷ []) ≡ bad 12 1
-unfolding isNan ofBits toBits earlierOf stands passed readDigits readDecimal hexValue readHex readLetter readValue readUrgency readLine follows lineRefusal lineAnswer nextLine readLines readText
-leading-zero = refl
-
--- the last line without its LF
-no-last-lf : readText (49 ∷ 9 ∷ 49 ∷ 9 ∷ 49 ∷ 9 ∷ 49 ∷ 9 ∷ 71 ∷ 9 ∷ 49 ∷ []) ≡ bad 12 1
-unfolding isNan ofBits toBits earlierOf stands passed readDigits readDecimal hexValue readHex readLetter readValue readUrgency readLine follows lineRefusal lineAnswer nextLine readLines readText
-no-last-lf = refl
-
--- a number above 65,535
-above-range : readText (54 ∷ 53 ∷ 53 ∷ 51 ∷ 54 ∷ 9 ∷ 49 ∷ 9 ∷ 49 ∷ 9 ∷ 49 ∷ 9 ∷ 71 ∷ 9 ∷ 49 ∷ 10 ∷ []) ≡ bad 12 1
-unfolding isNan ofBits toBits earlierOf stands passed readDigits readDecimal hexValue readHex readLetter readValue readUrgency readLine follows lineRefusal lineAnswer nextLine readLines readText
-above-range = refl
-
--- a lower-case hex digit
-lower-case : readText (49 ∷ 9 ∷ 49 ∷ 9 ∷ 49 ∷ 9 ∷ 49 ∷ 9 ∷ 67 ∷ 9 ∷ 51 ∷ 102 ∷ 56 ∷ 48 ∷ 48 ∷ 48 ∷ 48 ∷ 48 ∷ 10 ∷ []) ≡ bad 12 1
-unfolding isNan ofBits toBits earlierOf stands passed readDigits readDecimal hexValue readHex readLetter readValue readUrgency readLine follows lineRefusal lineAnswer nextLine readLines readText
-lower-case = refl
-
--- minus zero
-minus-zero : readText (49 ∷ 9 ∷ 49 ∷ 9 ∷ 49 ∷ 9 ∷ 49 ∷ 9 ∷ 67 ∷ 9 ∷ 56 ∷ 48 ∷ 48 ∷ 48 ∷ 48 ∷ 48 ∷ 48 ∷ 48 ∷ 10 ∷ []) ≡ bad 5 1
-unfolding isNan ofBits toBits earlierOf stands passed readDigits readDecimal hexValue readHex readLetter readValue readUrgency readLine follows lineRefusal lineAnswer nextLine readLines readText
-minus-zero = refl
-
--- the same line twice: its number is taken, which is checked before its place
-taken-and-misplaced : readText (49 ∷ 9 ∷ 49 ∷ 9 ∷ 49 ∷ 9 ∷ 49 ∷ 9 ∷ 71 ∷ 9 ∷ 49 ∷ 10 ∷ 49 ∷ 9 ∷ 49 ∷ 9 ∷ 49 ∷ 9 ∷ 49 ∷ 9 ∷ 71 ∷ 9 ∷ 49 ∷ 10 ∷ []) ≡ bad 6 2
-unfolding isNan ofBits toBits earlierOf stands passed readDigits readDecimal hexValue readHex readLetter readValue readUrgency readLine follows lineRefusal lineAnswer nextLine readLines readText
-taken-and-misplaced = refl
-
--- a line that is not after the one before
-misplaced : readText (50 ∷ 9 ∷ 49 ∷ 9 ∷ 49 ∷ 9 ∷ 49 ∷ 9 ∷ 71 ∷ 9 ∷ 49 ∷ 10 ∷ 49 ∷ 9 ∷ 49 ∷ 9 ∷ 49 ∷ 9 ∷ 49 ∷ 9 ∷ 71 ∷ 9 ∷ 49 ∷ 10 ∷ []) ≡ bad 13 2
-unfolding isNan ofBits toBits earlierOf stands passed readDigits readDecimal hexValue readHex readLetter readValue readUrgency readLine follows lineRefusal lineAnswer nextLine readLines readText
-misplaced = refl
+read = (refl, refl, refl, refl, refl, refl, refl, refl, refl)

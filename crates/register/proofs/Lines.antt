@@ -124,26 +124,20 @@ pub line-found : (s0 : List ℕ) {s1 s2 s3 s4 s5 s6 : List ℕ} {n c f l letter 
 unfolding readLine readUrgency
 line-found s0 r1 r2 r3 r4 r5 r6 = rw (r1, r2, r3, r4, r5, r6)
 
-module _ (s s1 s2 s3 s4 t rest : List ℕ) (n c f l : ℕ) (u : Urgency) (x : Spell) where
-  put-together : readNumber 9 s ≡ found n s1 → readNumber 9 s1 ≡ found c s2 → readNumber 9 s2 ≡ found f s3 → readNumber 9 s3 ≡ found l s4
-      → readUrgency s4 ≡ found u t → found (spellOf n c f l u) t ≡ found x rest → refusalOf x ≡ 0 → Sound x × (s ≡ lineText x rest)
-  unfolding lineText
-  put-together r1 r2 r3 r4 r5 e ok =
-      let is : spellOf n c f l u ≡ x = cc in
-      let ends : t ≡ rest = cc in
-      let ok′ : refusalOf (spellOf n c f l u) ≡ 0 = ap refusalOf is ∙ ok in
-      let w1 = write-number 9 s n s1 r1 in
-      let w2 = write-number 9 s1 c s2 r2 in
-      let e1 = w1 .1 in
-      let e2 = w2 .1 in
-      let e3 = write-number 9 s2 f s3 r3 .1 in
-      let e4 = write-number 9 s3 l s4 r4 .1 in
-      let w5 = write-urgency s4 u t r5 (entered (spellOf n c f l u) ok′ .urgent) in
-      let e5 = w5 .1 in
-      let whole : s ≡ lineText (spellOf n c f l u) t = cc in (
-        subst Sound is (record { numbered = w1 .0; named = w2 .0; held = w5 .0; entered = ok′ }),
-        whole ∙ ap (λ (y : Spell). lineText y t) is ∙ ap (lineText x) ends,
-      )
+put-together : (s : List ℕ) {s1 s2 s3 s4 t rest : List ℕ} {n c f l : ℕ} {u : Urgency} {x : Spell} → readNumber 9 s ≡ found n s1 → readNumber 9 s1 ≡ found c s2
+    → readNumber 9 s2 ≡ found f s3 → readNumber 9 s3 ≡ found l s4 → readUrgency s4 ≡ found u t → found (spellOf n c f l u) t ≡ found x rest → refusalOf x ≡ 0
+    → Sound x × (s ≡ lineText x rest)
+unfolding lineText
+put-together s {s1} {s2} {s3} {s4} {t} {rest} {n} {c} {f} {l} {u} {x} r1 r2 r3 r4 r5 e ok =
+    let is : spellOf n c f l u ≡ x = cc in
+    let ends : t ≡ rest = cc in
+    let ok′ : refusalOf (spellOf n c f l u) ≡ 0 = ap refusalOf is ∙ ok in
+    let w1 = write-number 9 s n s1 r1 in
+    let w2 = write-number 9 s1 c s2 r2 in
+    let w5 = write-urgency s4 u t r5 (entered (spellOf n c f l u) ok′ .urgent) in (
+      subst Sound is (record { numbered = w1 .0; named = w2 .0; held = w5 .0; entered = ok′ }),
+      rw (← is, ← ends, w1 .1, w2 .1, write-number 9 s2 f s3 r3 .1, write-number 9 s3 l s4 r4 .1, w5 .1),
+    )
 
 pub write-line : (s : List ℕ) (x : Spell) (rest : List ℕ) → readLine s ≡ found x rest → refusalOf x ≡ 0 → Sound x × (s ≡ lineText x rest)
 unfolding readLine
@@ -153,5 +147,4 @@ write-line s x rest e ok =
     let s3 = step (readNumber 9 (s2 .after)) _ x rest (s2 .on) in
     let s4 = step (readNumber 9 (s3 .after)) _ x rest (s3 .on) in
     let s5 = step (readUrgency (s4 .after)) _ x rest (s4 .on) in
-    put-together s (s1 .after) (s2 .after) (s3 .after) (s4 .after) (s5 .after) rest (s1 .value) (s2 .value) (s3 .value) (s4 .value) (s5 .value) x
-    (s1 .read) (s2 .read) (s3 .read) (s4 .read) (s5 .read) (s5 .on) ok
+    put-together s (s1 .read) (s2 .read) (s3 .read) (s4 .read) (s5 .read) (s5 .on) ok

@@ -1,5 +1,5 @@
 -- A text is read as it was written, and what is read is what is written. Assumes nothing.
-use Rattle.basis.proofs.Prelude.{_∙_, _≡_, ap, refl, subst, sym, _+_, _<_, _≤_, suc, zero, ℕ, List, [], _++_, _∷_, append-nil, Bool, cond, false, false≢true, true, inl, inr, eqb, leb, length, append-snoc, arith, eq-eqb, eqb-true, le-leb}
+use Rattle.basis.proofs.Prelude.{_∙_, _≡_, ap, refl, subst, sym, _+_, _<_, _≤_, suc, zero, ℕ, List, [], _++_, _∷_, append-nil, Bool, cond, false, false≢true, true, eqb, leb, length, append-snoc, arith, eq-eqb, eqb-true, le-leb, by-test}
 use Rattle.spell.specs.declared.Spell.{Spell}
 use Rattle.spell.specs.Entry.{refusalOf}
 use Rattle.spell.proofs.Entered.{past}
@@ -8,65 +8,60 @@ use Rattle.spell.specs.Listing.{stands, distinct, Each, Sound, Good}
 use Rattle.spell.proofs.Listing.{distinct-fresh, distinct-more}
 use Rattle.fields.specs.Fields.{Found, found, unreadable, readDecimal}
 use Rattle.register.specs.Text.{readLine, lineText, textOnto, writeAll, follows, lineRefusal, Register, good, bad, lineAnswer, nextLine, readLines, readText}
-use Rattle.fields.proofs.Bytes.{which}
+use Rattle.fields.proofs.Bytes.{never}
 use Rattle.register.proofs.Lines.{read-line, write-line}
 use Rattle.register.proofs.Ordered.{ordered-follows, ordered-more}
 use Rattle.register.proofs.Widths.{sound-width}
 
--- ---- one line
--- what stands after a line that is not refused, and of one that is
-pub line-goes-on : (before : List Spell) (s : Spell) (rest : List ℕ) (next : Spell → List ℕ → Register) → lineRefusal before s ≡ 0
-    → lineAnswer before (found s rest) next ≡ next s rest
-unfolding lineAnswer
-line-goes-on before s rest next h = rw (eq-eqb (lineRefusal before s) 0 h)
-
-pub line-refused : (before : List Spell) (s : Spell) (rest : List ℕ) (next : Spell → List ℕ → Register) → eqb (lineRefusal before s) 0 ≡ false
-    → lineAnswer before (found s rest) next ≡ bad (lineRefusal before s) (length before + 1)
-unfolding lineAnswer
-line-refused before s rest next h = rw h
-
-pub nothing-there : readLine [] ≡ unreadable
-unfolding readLine readDecimal
-nothing-there = refl
-
--- a line that is there
-line-there : (before : List Spell) (t : List ℕ) (s : Spell) (rest : List ℕ) (next : Spell → List ℕ → Register) → readLine t ≡ found s rest
-    → nextLine before t next ≡ lineAnswer before (found s rest) next
-unfolding nextLine
-line-there before [] s rest next e = absurd (apart (sym nothing-there ∙ e))
-  where
-    apart : unreadable ≡ found s rest → ⊥
-    apart h = let z : _≡_ {A = ℕ} 0 1 = cc in omega arith
-line-there before (b ∷ t) s rest next e = rw e
-
 -- ---- what the lines give, by what comes next
+-- after a line that passes, where `room` more may stand
+abbrev after : ℕ → List Spell → Spell → List ℕ → Register
+after zero before s rest = bad 8 (length before + 1)
+after (suc room) before s rest = readLines room (before ++ (s ∷ [])) rest
+
+lines-by : (room : ℕ) (before : List Spell) (t : List ℕ) → readLines room before t ≡ nextLine before t (after room before)
+unfolding readLines
+lines-by zero before t = refl
+lines-by (suc room) before t = refl
+
 pub lines-end : (room : ℕ) (before : List Spell) → readLines room before [] ≡ good before
-unfolding readLines nextLine
-lines-end zero before = refl
-lines-end (suc room) before = refl
+unfolding nextLine
+lines-end room before = lines-by room before []
 
 pub lines-malformed : (room : ℕ) (before : List Spell) (t : List ℕ) → 0 < length t → readLine t ≡ unreadable → readLines room before t ≡ bad 12 (length before + 1)
-unfolding readLines nextLine lineAnswer
+unfolding nextLine lineAnswer
 lines-malformed room before [] h e = absurd (none h)
   where
     none : 0 < 0 → ⊥
     none h = omega arith
-lines-malformed zero before (b ∷ t) h e = rw e
-lines-malformed (suc room) before (b ∷ t) h e = rw e
+lines-malformed room before (b ∷ t) h e = lines-by room before (b ∷ t) ∙ rw e
 
+nothing-there : readLine [] ≡ unreadable
+unfolding readLine readDecimal
+nothing-there = refl
+
+-- a line that is there
 module _ (before : List Spell) (t : List ℕ) (s : Spell) (rest : List ℕ) (e : readLine t ≡ found s rest) where
+  line-there : (next : Spell → List ℕ → Register) → nextLine before t next ≡ lineAnswer before (found s rest) next
+  line-there next = go t e
+    where
+      go : (t : List ℕ) → readLine t ≡ found s rest → nextLine before t next ≡ lineAnswer before (found s rest) next
+      go [] e = absurd (never (sym nothing-there ∙ e))
+      go (b ∷ t) e = unfold nextLine in rw e
+
   pub lines-refused : (room : ℕ) → eqb (lineRefusal before s) 0 ≡ false → readLines room before t ≡ bad (lineRefusal before s) (length before + 1)
-  unfolding readLines
-  lines-refused zero h = line-there before t s rest _ e ∙ line-refused before s rest _ h
-  lines-refused (suc room) h = line-there before t s rest _ e ∙ line-refused before s rest _ h
+  unfolding lineAnswer
+  lines-refused room h = lines-by room before t ∙ line-there (after room before) ∙ rw h
+
+  passing : (room : ℕ) → lineRefusal before s ≡ 0 → readLines room before t ≡ after room before s rest
+  unfolding lineAnswer
+  passing room h = lines-by room before t ∙ line-there (after room before) ∙ rw (eq-eqb (lineRefusal before s) 0 h)
 
   pub lines-full : lineRefusal before s ≡ 0 → readLines zero before t ≡ bad 8 (length before + 1)
-  unfolding readLines
-  lines-full h = line-there before t s rest _ e ∙ line-goes-on before s rest _ h
+  lines-full = passing zero
 
   pub lines-on : (room : ℕ) → lineRefusal before s ≡ 0 → readLines (suc room) before t ≡ readLines room (before ++ (s ∷ [])) rest
-  unfolding readLines
-  lines-on room h = line-there before t s rest _ e ∙ line-goes-on before s rest _ h
+  lines-on room = passing (suc room)
 
 -- ---- what is written is read
 pub not-refused : (before : List Spell) (s : Spell) → refusalOf s ≡ 0 → stands before (s .number) ≡ false → follows before s ≡ true → lineRefusal before s ≡ 0
@@ -82,20 +77,17 @@ read-lines (x ∷ m) before zero g o d h = absurd (none h)
     none : suc (length m) ≤ 0 → ⊥
     none h = omega arith
 read-lines (x ∷ m) before (suc room) g o d h =
-    let rest = textOnto m [] in
     let on : lineRefusal before x ≡ 0 = not-refused before x (g .0 .entered) (distinct-fresh before x m d) (ordered-follows before x m o) in
     let later = read-lines m (before ++ (x ∷ [])) room (g .1) (rw append-snoc o) (rw append-snoc d) (omega arith) in
-    lines-on before (lineText x rest) x rest (read-line x rest (g .0)) room on ∙ later ∙ ap good (append-snoc before x m)
+    lines-on before _ x _ (read-line x (textOnto m []) (g .0)) room on ∙ later ∙ ap good (append-snoc before x m)
+
+pub written-width : (l : List Spell) → Good l → length (writeAll l) ≤ 33792
+written-width l g = omega (arith, sound-width l (g .each), g .few)
 
 -- every good list is read back from its text
 pub read-written : (l : List Spell) → Good l → readText (writeAll l) ≡ good l
 unfolding readText
-read-written l g =
-    let w = sound-width l (g .each) in
-    rw (le-leb (length (writeAll l)) 65536 (omega (arith, g .few))) (read-lines l [] 1024 (g .each) (g .in-order) (g .unique) (g .few))
-
-pub written-width : (l : List Spell) → Good l → length (writeAll l) ≤ 33792
-written-width l g = omega (arith, sound-width l (g .each), g .few)
+read-written l g = rw (le-leb (length (writeAll l)) 65536 (omega (arith, written-width l g))) (read-lines l [] 1024 (g .each) (g .in-order) (g .unique) (g .few))
 
 -- ---- what is read is what is written
 record Read (room : ℕ) (before : List Spell) (t : List ℕ) (l : List Spell) : Type 0 where
@@ -117,38 +109,26 @@ record Passed (before : List Spell) (s : Spell) : Type 0 where
 
 passed : (before : List Spell) (s : Spell) → lineRefusal before s ≡ 0 → Passed before s
 unfolding lineRefusal
-passed before s e = elim (which (eqb (refusalOf s) 0)) [
-  | inr r ↦ absurd (false≢true (sym r ∙ eq-eqb (refusalOf s) 0 (rw r at e)))
-  | inl r ↦
-      let p = past (stands before (s .number)) 5 (cond (follows before s) 0 13) (rw r at e) in
-      record { entered = eqb-true (refusalOf s) 0 r; new = p .0; after = follow (follows before s) (p .1) }
-]
+passed before s e = by-test (eqb (refusalOf s) 0)
+    (λ r.
+    let p = past (stands before (s .number)) 5 (cond (follows before s) 0 13) (rw r at e) in
+    record { entered = eqb-true (refusalOf s) 0 r; new = p .0; after = follow (follows before s) (p .1) })
+    (λ r. absurd (false≢true (sym r ∙ eq-eqb (refusalOf s) 0 (rw r at e))))
   where
     follow : (b : Bool) → cond {A = ℕ} b 0 13 ≡ 0 → b ≡ true
     follow true e = refl
-    follow false e = absurd (thirteen e)
-      where
-        thirteen : _≡_ {A = ℕ} 13 0 → ⊥
-        thirteen e = omega arith
+    follow false e = absurd (omega arith)
 
 ended : (room : ℕ) (before l : List Spell) → good before ≡ good l → Read room before [] l
 unfolding textOnto Each
 ended room before l e =
     let same : before ≡ l = cc in
-    record {
-      more = [];
-      whole = append-nil before ∙ same;
-      text = refl;
-      sound = tt;
-      few = omega arith;
-      in-order = λ h. ap ordered (sym same) ∙ h;
-      unique = λ h. ap distinct (sym same) ∙ h;
-    }
+    record { more = []; whole = append-nil before ∙ same; text = refl; sound = tt; few = omega arith; in-order = λ h. rw (← same) h; unique = λ h. rw (← same) h }
 
-one-more : (room : ℕ) (before : List Spell) (t : List ℕ) (l : List Spell) (s : Spell) (rest : List ℕ) → readLine t ≡ found s rest → lineRefusal before s ≡ 0
+one-more : {room : ℕ} {before : List Spell} {t : List ℕ} {l : List Spell} {s : Spell} {rest : List ℕ} → readLine t ≡ found s rest → lineRefusal before s ≡ 0
     → Read room (before ++ (s ∷ [])) rest l → Read (suc room) before t l
 unfolding textOnto Each
-one-more room before t l s rest e h r =
+one-more {room} {before} {t} {l} {s} {rest} e h r =
     let p = passed before s h in
     let w = write-line t s rest e (p .entered) in
     record {
@@ -161,58 +141,40 @@ one-more room before t l s rest e h r =
       unique = λ d. r .unique (distinct-more before s d (p .new));
     }
 
-empty-ordered : ordered [] ≡ true
-unfolding orderedBy
-empty-ordered = refl
-
-empty-distinct : distinct [] ≡ true
-unfolding distinct
-empty-distinct = refl
-
--- what can come next
+-- what can come next: the end, a line that refuses the text, or one that passes
 data Comes (before : List Spell) (t : List ℕ) : Type 0 where
   ends : t ≡ [] → Comes before t
-  broken : 0 < length t → readLine t ≡ unreadable → Comes before t
-  stops : (s : Spell) (rest : List ℕ) → readLine t ≡ found s rest → eqb (lineRefusal before s) 0 ≡ false → Comes before t
+  stops : (k : ℕ) → ((room : ℕ) → readLines room before t ≡ bad k (length before + 1)) → Comes before t
   goes : (s : Spell) (rest : List ℕ) → readLine t ≡ found s rest → lineRefusal before s ≡ 0 → Comes before t
 
 comes : (before : List Spell) (t : List ℕ) → Comes before t
 comes before [] = ends refl
 comes before (b ∷ t) = by-line (readLine (b ∷ t)) refl
   where
-    by-check : (s : Spell) (rest : List ℕ) (c : Bool) → readLine (b ∷ t) ≡ found s rest → eqb (lineRefusal before s) 0 ≡ c → Comes before (b ∷ t)
-    by-check s rest true e h = goes s rest e (eqb-true (lineRefusal before s) 0 h)
-    by-check s rest false e h = stops s rest e h
-
     by-line : (f : Found Spell) → readLine (b ∷ t) ≡ f → Comes before (b ∷ t)
-    by-line unreadable e = broken (omega arith) e
-    by-line (found s rest) e = by-check s rest (eqb (lineRefusal before s) 0) e refl
+    by-line unreadable e = stops 12 (λ room. lines-malformed room before (b ∷ t) (omega arith) e)
+    by-line (found s rest) e =
+        by-test (eqb (lineRefusal before s) 0) (λ h. goes s rest e (eqb-true (lineRefusal before s) 0 h))
+        (λ h. stops (lineRefusal before s) (λ room. lines-refused before (b ∷ t) s rest e room h))
 
 write-lines : (room : ℕ) (before : List Spell) (t : List ℕ) (l : List Spell) → readLines room before t ≡ good l → Read room before t l
 write-lines zero before t l e = elim (comes before t) [
   | ends n ↦ rw n (ended zero before l (sym (lines-end zero before) ∙ (rw n at e)))
-  | broken n m ↦ absurd (no-answer (sym (lines-malformed zero before t n m) ∙ e))
-  | stops s rest r h ↦ absurd (no-answer (sym (lines-refused before t s rest r zero h) ∙ e))
+  | stops k f ↦ absurd (no-answer (sym (f zero) ∙ e))
   | goes s rest r h ↦ absurd (no-answer (sym (lines-full before t s rest r h) ∙ e))
 ]
 write-lines (suc room) before t l e = elim (comes before t) [
   | ends n ↦ rw n (ended (suc room) before l (sym (lines-end (suc room) before) ∙ (rw n at e)))
-  | broken n m ↦ absurd (no-answer (sym (lines-malformed (suc room) before t n m) ∙ e))
-  | stops s rest r h ↦ absurd (no-answer (sym (lines-refused before t s rest r (suc room) h) ∙ e))
-  | goes s rest r h ↦ one-more room before t l s rest r h (write-lines room (before ++ (s ∷ [])) rest l (sym (lines-on before t s rest r room h) ∙ e))
+  | stops k f ↦ absurd (no-answer (sym (f (suc room)) ∙ e))
+  | goes s rest r h ↦ one-more r h (write-lines room (before ++ (s ∷ [])) rest l (sym (lines-on before t s rest r room h) ∙ e))
 ]
 
 -- every accepted text is its list's text, and its list is good
 pub written-read : (t : List ℕ) (l : List Spell) → readText t ≡ good l → (writeAll l ≡ t) × Good l
-unfolding readText
-written-read t l e = elim (which (leb (length t) 65536)) [
-  | inr h ↦ absurd (no-answer (rw h at e))
-  | inl h ↦ whole (write-lines 1024 [] t l (rw h at e))
-]
+unfolding readText orderedBy distinct
+written-read t l e = by-test (leb (length t) 65536) (λ h. whole (write-lines 1024 [] t l (rw h at e))) (λ h. absurd (no-answer (rw h at e)))
   where
     whole : Read 1024 [] t l → (writeAll l ≡ t) × Good l
     whole r =
-        let same : r .more ≡ l = r .whole in (
-          ap (λ (m : List Spell). textOnto m []) (sym same) ∙ r .text,
-          record { each = subst (Each Sound) same (r .sound); in-order = r .in-order empty-ordered; unique = r .unique empty-distinct; few = omega (arith, r .few, ap length same) },
-        )
+        let same : r .more ≡ l = r .whole in
+        (rw (← same) (r .text), record { each = subst (Each Sound) same (r .sound); in-order = r .in-order refl; unique = r .unique refl; few = omega (arith, r .few, ap length same) })

@@ -7,6 +7,7 @@ use Rattle.spell.specs.declared.Spell.{Spell}
 use Rattle.spell.specs.Entry.{refusalOf}
 use Rattle.spell.specs.Listing.{Each, Sound}
 use Rattle.spell.proofs.Entered.{entered}
+use Rattle.spell.proofs.Order.{each-map}
 use Rattle.fields.specs.Fields.{decimalOf}
 use Rattle.fields.proofs.Widths.{decimal-width, short-width, hex-width}
 use Rattle.register.specs.Text.{urgencyText, lineText, textOnto}
@@ -19,40 +20,25 @@ pub urgency-width : (u : Urgency) (rest : List ℕ) → length (urgencyText u re
 urgency-width (Grade g) rest = omega (arith, decimal-width g (10 ∷ rest))
 urgency-width (Reading x) rest = omega (arith, hex-width 8 (toBits binary32 x) (10 ∷ rest))
 
--- four numbers, each of at most five digits and a tab, and the urgency
-pub line-width : (s : Spell) → Within 35 s
+-- four numbers, each of at most five digits and a tab, the days of at most d, and the urgency
+line-within : (d : ℕ) (s : Spell) → ((r : List ℕ) → length (decimalOf (s .first) r) ≤ d + length r) → ((r : List ℕ) → length (decimalOf (s .last) r) ≤ d + length r)
+    → Within (25 + d + d) s
 unfolding lineText
-line-width s rest =
+line-within d s f l rest =
     let t4 = urgencyText (s .urgency) rest in
     let t3 = decimalOf (s .last) (9 ∷ t4) in
     let t2 = decimalOf (s .first) (9 ∷ t3) in
     let t1 = decimalOf (s .candidate) (9 ∷ t2) in
-    omega (
-      arith,
-      decimal-width (s .number) (9 ∷ t1),
-      decimal-width (s .candidate) (9 ∷ t2),
-      decimal-width (s .first) (9 ∷ t3),
-      decimal-width (s .last) (9 ∷ t4),
-      urgency-width (s .urgency) rest,
-    )
+    omega (arith, decimal-width (s .number) (9 ∷ t1), decimal-width (s .candidate) (9 ∷ t2), f (9 ∷ t3), l (9 ∷ t4), urgency-width (s .urgency) rest)
+
+pub line-width : (s : Spell) → Within 35 s
+line-width s = line-within 5 s (decimal-width (s .first)) (decimal-width (s .last))
 
 -- the days of a spell that passes the checks 1 to 5 have at most four digits
 pub entered-width : (s : Spell) → refusalOf s ≡ 0 → Within 33 s
-unfolding lineText
-entered-width s g rest =
+entered-width s g =
     let e = entered s g in
-    let t4 = urgencyText (s .urgency) rest in
-    let t3 = decimalOf (s .last) (9 ∷ t4) in
-    let t2 = decimalOf (s .first) (9 ∷ t3) in
-    let t1 = decimalOf (s .candidate) (9 ∷ t2) in
-    omega (
-      arith,
-      decimal-width (s .number) (9 ∷ t1),
-      decimal-width (s .candidate) (9 ∷ t2),
-      short-width (s .first) (9 ∷ t3) (omega (arith, e .first-day)),
-      short-width (s .last) (9 ∷ t4) (omega (arith, e .last-day)),
-      urgency-width (s .urgency) rest,
-    )
+    line-within 4 s (λ r. short-width (s .first) r (omega (arith, e .first-day))) (λ r. short-width (s .last) r (omega (arith, e .last-day)))
 
 text-within : (w : ℕ) (l : List Spell) (rest : List ℕ) → Each (Within w) l → length (textOnto l rest) ≤ length l * w + length rest
 unfolding textOnto Each
@@ -64,14 +50,9 @@ unfolding Each
 any-within [] = tt
 any-within (s ∷ l) = (line-width s, any-within l)
 
-sound-within : (l : List Spell) → Each Sound l → Each (Within 33) l
-unfolding Each
-sound-within [] g = tt
-sound-within (s ∷ l) g = (entered-width s (g .0 .entered), sound-within l (g .1))
-
 -- the text of any list, and that of a list of sound spells
 pub text-width : (l : List Spell) → length (textOnto l []) ≤ 35 * length l
 text-width l = omega (arith, text-within 35 l [] (any-within l))
 
 pub sound-width : (l : List Spell) → Each Sound l → length (textOnto l []) ≤ 33 * length l
-sound-width l g = omega (arith, text-within 33 l [] (sound-within l g))
+sound-width l g = omega (arith, text-within 33 l [] (each-map Sound (Within 33) (λ s h. entered-width s (h .entered)) l g))

@@ -1,5 +1,5 @@
 -- A list's text, put into the scratch list line by line from the last spell to the first, and copied out. Assumes nothing.
-use Rattle.basis.proofs.Prelude.{_∙_, _≡_, ap, sym, _*_, _+_, _-_, _<_, _≤_, min, suc, ℕ, List, [], _++_, _∷_, map, drop, drop-of-length-le, getD, length, length-append, length-drop, length-map, length-take, take, drop-cons, drop-length, take-all, min-le-left, min-le-right, arith, le-leb, lt-leb}
+use Rattle.basis.proofs.Prelude.{_∙_, _≡_, ap, sym, _*_, _+_, _-_, _<_, _≤_, min, suc, ℕ, List, [], _++_, _∷_, drop, drop-of-length-le, getD, length, length-append, length-drop, length-take, take, drop-cons, drop-length, take-all, min-le-right, arith, le-leb, lt-leb}
 use Rattle.fields.proofs.Puts.{Put, byte-put, number-put}
 use Rattle.fields.specs.Fields.{byteText, numberText}
 use Rattle.fields.specs.Answers.{Puts}
@@ -13,9 +13,6 @@ use Rattle.register.proofs.Widths.{text-width}
 -- ---- the scratch list
 pub ends-place : {buf : List ℕ} {r : ℕ} {text : List ℕ} → Ends buf r text → r + length text ≡ 35840
 ends-place {buf} {r} p = omega (arith, p .sized, p .inside, ap length (p .written), length-drop r buf)
-
-pub room-at : {buf : List ℕ} {r : ℕ} {text : List ℕ} (n : ℕ) → Ends buf r text → n ≤ r → Room buf r n
-room-at n p h = record { sized = p .sized; inside = p .inside; wide = h }
 
 -- what a writer of a field leaves
 pub put-ends : {entry exit : List ℕ} {r : ℕ} {text : List ℕ} → length entry ≡ 35840 → Put entry exit r text → Ends exit r text
@@ -37,74 +34,51 @@ two-more {buf} {mid} {exit} {i} {j} {r} {text} a b p h q s =
     let two = put-ends (one .sized) (second .0) in
     record { sized = two .sized; inside = two .inside; written = two .written ∙ rw (one .written, p .written) }
 
--- the first `count` of 1,024 spells
-module _ (spells : List Spell) (count : ℕ) (whole : length spells ≡ 1024) where
-  pub listed : length (take count spells) ≡ min count 1024
-  listed = length-take count spells ∙ ap (min count) whole
-
-  pub listed-most : length (take count spells) ≤ 1024
-  listed-most = omega (arith, listed, min-le-right count 1024)
-
-  pub listed-count : length (take count spells) ≤ count
-  listed-count = omega (arith, listed, min-le-left count 1024)
-
 -- ---- the text of the spells from i on stands from the place `at` on
 pub record Back (l : List Spell) (buf : List ℕ) (at i : ℕ) : Type 0 where
+  pub few : length l ≤ 1024
   pub upto : i ≤ length l
   pub put : Ends buf at (textOnto (drop i l) [])
 
-text-none : (l : List Spell) → textOnto (drop (length l) l) [] ≡ []
+-- at first none, after the first `count` of 1,024 spells
+pub back-start : (spells : List Spell) (count : ℕ) {i : ℕ} {buf : List ℕ} → length spells ≡ 1024 → i ≡ min count 1024 → length buf ≡ 35840 → Back (take count spells) buf 35840 i
 unfolding textOnto
-text-none l = rw (drop-length l)
-
-text-one : (l : List Spell) (j : ℕ) → j < length l → textOnto (drop j l) [] ≡ lineText (getD l j blank) (textOnto (drop (suc j) l) [])
-unfolding textOnto
-text-one l j h = rw (drop-cons l j blank h)
-
-pub back-start : (l : List Spell) (buf : List ℕ) (i : ℕ) → length buf ≡ 35840 → i ≡ length l → Back l buf 35840 i
-back-start l buf i h e =
-    let none = ap (λ (n : ℕ). textOnto (drop n l) []) e ∙ text-none l in
+back-start spells count {i} {buf} w e h =
+    let long : i ≡ length (take count spells) = e ∙ sym (length-take count spells ∙ ap (min count) w) in
     record {
+      few = omega (arith, min-le-right count 1024);
       upto = omega arith;
-      put = record { sized = h; inside = omega arith; written = drop-of-length-le buf {i = 35840} (omega arith) ∙ sym none };
+      put = record { sized = h; inside = omega arith; written = drop-of-length-le buf {i = 35840} (omega arith) ∙ rw (long, drop-length (take count spells)) };
     }
 
-module _ (l : List Spell) (few : length l ≤ 1024) (buf : List ℕ) (at i : ℕ) (b : Back l buf at i) where
-  pub back-room : 35 * i ≤ at
-  back-room = omega (arith, b .upto, ends-place (b .put), text-width (drop i l), length-drop i l)
+module _ {l : List Spell} {buf : List ℕ} {at i : ℕ} (b : Back l buf at i) where
+  pub back-room : 1 ≤ i → Room buf at 35
+  back-room h =
+      let wide : 35 * i ≤ at = omega (arith, b .few, b .upto, ends-place (b .put), text-width (drop i l), length-drop i l) in
+      record { sized = b .put .sized; inside = b .put .inside; wide = omega arith }
 
-  pub back-step : (exit : List ℕ) (r : ℕ) → 1 ≤ i → Ends exit r (lineText (getD l (i - 1) blank) (drop at buf)) → Back l exit r (i - 1)
-  back-step exit r h p =
+  pub back-step : {exit : List ℕ} {r : ℕ} → 1 ≤ i → Ends exit r (lineText (getD l (i - 1) blank) (drop at buf)) → Back l exit r (i - 1)
+  unfolding textOnto
+  back-step h p =
       let up : suc (i - 1) ≡ i = omega arith in
       let after = b .put .written ∙ ap (λ (n : ℕ). textOnto (drop n l) []) (sym up) in
       record {
+        few = b .few;
         upto = omega (arith, b .upto);
-        put = record {
-          sized = p .sized;
-          inside = p .inside;
-          written = p .written ∙ ap (lineText (getD l (i - 1) blank)) after ∙ sym (text-one l (i - 1) (omega (arith, b .upto)));
-        };
+        put = record { sized = p .sized; inside = p .inside; written = p .written ∙ ap (lineText (getD l (i - 1) blank)) after ∙ rw (drop-cons l (i - 1) blank (omega (arith, b .upto))) };
       }
 
 -- ---- the answer
-module _ (t buf entry : List ℕ) (at : ℕ) (p : Ends buf at t) where
+module _ (entry : List ℕ) {t buf : List ℕ} {at : ℕ} (p : Ends buf at t) where
   pub too-short : length entry < 35840 - at → Writes t entry (record { refusal = 11; length = 0 }) entry
   too-short h =
       let no = lt-leb (length t) (length entry) (omega (arith, ends-place p)) in
       record { answer = rw no; places = rw no }
 
-  module _ (exit part : List ℕ) (e : part ≡ drop at buf) (h : 35840 - at ≤ length entry) (c : exit ≡ take (length part) part ++ drop (length part) entry) where
-    text-part : part ≡ t
-    text-part = e ∙ p .written
-
-    text-out : exit ≡ t ++ drop (length t) entry
-    text-out = c ∙ rw (text-part, take-all (length t) t (omega arith))
-
-    pub copied : Writes t entry (record { refusal = 0; length = 35840 - at }) exit
-    copied =
-        let same : 35840 - at ≡ length t = omega (arith, ends-place p) in
-        let fits = le-leb (length t) (length entry) (omega (arith, ends-place p)) in
-        record { answer = rw (fits, same); places = rw fits text-out }
-
-    pub copied-length : length exit ≡ length entry
-    copied-length = ap length text-out ∙ length-append t (drop (length t) entry) ∙ omega (arith, length-drop (length t) entry, ends-place p)
+  pub copied : {exit part : List ℕ} → part ≡ drop at buf → 35840 - at ≤ length entry → exit ≡ take (length part) part ++ drop (length part) entry
+      → Writes t entry (record { refusal = 0; length = 35840 - at }) exit × (length exit ≡ length entry)
+  copied {exit} e h c =
+      let out : exit ≡ t ++ drop (length t) entry = c ∙ rw (e ∙ p .written, take-all (length t) t (omega arith)) in
+      let same : 35840 - at ≡ length t = omega (arith, ends-place p) in
+      let fits = le-leb (length t) (length entry) (omega arith) in
+      (record { answer = rw (fits, same); places = rw fits out }, ap length out ∙ length-append t (drop (length t) entry) ∙ omega (arith, length-drop (length t) entry))

@@ -1,6 +1,6 @@
 -- `sameOf` says that two spells are equal. Assumes nothing.
-use Rattle.basis.proofs.Prelude.{_∙_, _≡_, ap, refl, sym, ℕ, Bool, _&&_, cond, false, not, true, T, eqb, eqb→eq}
-use lib.Ieee.{Float, nan, inf, fin, binary32, isNan, toBits, ofBits, fits}
+use Rattle.basis.proofs.Prelude.{_∙_, _≡_, ap, sym, ℕ, _&&_, not, T, eqb, eqb→eq, by-test}
+use lib.Ieee.{Float, binary32, isNan, toBits, ofBits, fits}
 use lib.Ieee.Bits.{ofBits-toBits}
 use lib.Ieee.Fits.{and-l, and-r}
 use Rattle.spell.specs.declared.Urgency.{Urgency}
@@ -8,23 +8,15 @@ use Rattle.spell.specs.declared.Urgency.the-variants.{Grade, Reading}
 use Rattle.spell.specs.declared.Spell.{Spell}
 use Rattle.spell.specs.Same.{sameReading, sameUrgency, sameOf}
 use Rattle.spell.specs.Listing.{HeldUrgency}
-
-pub is-nan : (x : Float) → T (isNan x) → x ≡ nan
-unfolding isNan
-is-nan nan t = refl
-is-nan (inf s) t = absurd t
-is-nan (fin s m e) t = absurd t
+use Rattle.spell.proofs.Floats.{is-nan}
 
 pub reading-same : (x y : Float) → T (fits binary32 x) → T (fits binary32 y) → T (sameReading x y) → x ≡ y
 unfolding sameReading
-reading-same x y fx fy t = go (isNan x) refl t
-  where
-    go : (b : Bool) → isNan x ≡ b → T (cond b (isNan y) (not (isNan y) && eqb (toBits binary32 x) (toBits binary32 y))) → x ≡ y
-    go true e t = is-nan x (rw e tt) ∙ sym (is-nan y t)
-    go false e t =
-        sym (ofBits-toBits binary32 x fx)
-        ∙ ap (ofBits binary32) (eqb→eq (toBits binary32 x) (toBits binary32 y) (and-r (not (isNan y)) (eqb (toBits binary32 x) (toBits binary32 y)) t))
-        ∙ ofBits-toBits binary32 y fy
+reading-same x y fx fy t =
+    by-test (isNan x) (λ e. is-nan x (rw e tt) ∙ sym (is-nan y (rw e at t)))
+    (λ e.
+    let same = eqb→eq (toBits binary32 x) (toBits binary32 y) (and-r (not (isNan y)) (eqb (toBits binary32 x) (toBits binary32 y)) (rw e at t)) in
+    sym (ofBits-toBits binary32 x fx) ∙ ap (ofBits binary32) same ∙ ofBits-toBits binary32 y fy)
 
 pub urgency-same : (u v : Urgency) → HeldUrgency u → HeldUrgency v → T (sameUrgency u v) → u ≡ v
 urgency-same (Grade g) (Grade h) a b t = ap Grade (eqb→eq g h t)
@@ -42,17 +34,13 @@ same-equal a b ha hb t =
     let c = eqb (a .candidate) (b .candidate) in
     let f = eqb (a .first) (b .first) in
     let l = eqb (a .last) (b .last) in
-    let u = sameUrgency (a .urgency) (b .urgency) in
-    let t4 = and-l (n && c && f && l) u t in
+    let t4 = and-l (n && c && f && l) _ t in
     let t3 = and-l (n && c && f) l t4 in
     let t2 = and-l (n && c) f t3 in
     let en = eqb→eq (a .number) (b .number) (and-l n c t2) in
     let ec = eqb→eq (a .candidate) (b .candidate) (and-r n c t2) in
     let ef = eqb→eq (a .first) (b .first) (and-r (n && c) f t3) in
     let el = eqb→eq (a .last) (b .last) (and-r (n && c && f) l t4) in
-    let eu = urgency-same (a .urgency) (b .urgency) ha hb (and-r (n && c && f && l) u t) in
-    joined en ec ef el eu
-  where
-    joined : a .number ≡ b .number → a .candidate ≡ b .candidate → a .first ≡ b .first → a .last ≡ b .last → a .urgency ≡ b .urgency
-        → mk (a .number) (a .candidate) (a .first) (a .last) (a .urgency) ≡ mk (b .number) (b .candidate) (b .first) (b .last) (b .urgency)
-    joined en ec ef el eu = cc
+    let eu = urgency-same (a .urgency) (b .urgency) ha hb (and-r (n && c && f && l) _ t) in
+    let joined : mk (a .number) (a .candidate) (a .first) (a .last) (a .urgency) ≡ mk (b .number) (b .candidate) (b .first) (b .last) (b .urgency) = cc in
+    joined

@@ -13,11 +13,11 @@ other-way a b h = ne-eqb b a (λ e. eqb-false a b h (sym e))
 pub stands-append : (l m : List Spell) (k : ℕ) → stands (l ++ m) k ≡ stands l k || stands m k
 unfolding stands
 stands-append [] m k = refl
-stands-append (a ∷ l) m k = go (eqb (a .number) k) (stands-append l m k)
+stands-append (a ∷ l) m k = rw (stands-append l m k) (or-assoc (eqb (a .number) k) (stands l k) (stands m k))
   where
-    go : (t : Bool) → stands (l ++ m) k ≡ stands l k || stands m k → t || stands (l ++ m) k ≡ t || stands l k || stands m k
-    go true h = refl
-    go false h = h
+    or-assoc : (t x y : Bool) → t || (x || y) ≡ t || x || y
+    or-assoc true x y = refl
+    or-assoc false x y = refl
 
 pub stands-more : (l : List Spell) (x : Spell) (k : ℕ) → stands (l ++ (x ∷ [])) k ≡ stands l k || eqb (x .number) k
 unfolding stands
@@ -32,12 +32,9 @@ unfolding stands distinct
 distinct-fresh [] x m h = refl
 distinct-fresh (a ∷ l) x m h =
     let p = both (not (stands (l ++ x ∷ m) (a .number))) (distinct (l ++ x ∷ m)) h in
-    let free = sym (stands-append l (x ∷ m) (a .number)) ∙ not-is (stands (l ++ x ∷ m) (a .number)) (p .0) in
+    let free = sym (stands-append l (x ∷ m) (a .number)) ∙ not-true (stands (l ++ x ∷ m) (a .number)) (p .0) in
     let other = neither (eqb (x .number) (a .number)) (stands m (a .number)) (neither (stands l (a .number)) (stands (x ∷ m) (a .number)) free .1) .0 in
     rw (other-way (x .number) (a .number) other) (distinct-fresh l x m (p .1))
-  where
-    not-is : (t : Bool) → not t ≡ true → t ≡ false
-    not-is t e = not-true t e
 
 pub distinct-more : (l : List Spell) (x : Spell) → distinct l ≡ true → stands l (x .number) ≡ false → distinct (l ++ (x ∷ [])) ≡ true
 unfolding stands distinct

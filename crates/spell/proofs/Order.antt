@@ -1,6 +1,6 @@
 -- An order by keys that end in the spell number is a strict total order on spells of different numbers, and spells have one list that is
 -- kept in it. Assumes nothing.
-use Rattle.basis.proofs.Prelude.{_∙_, _≡_, ap, refl, sym, _<_, _≤_, ℕ, List, List·Memᴰ, List·Memᴰ·cases-cons, List·Memᴰ·head, List·Memᴰ·not-nil, List·Memᴰ·tail, [], _++_, _∷_, Bool, cond, false, true, _⊎_, inl, inr, eqb, ltb, arith, eq-eqb, eqb-false, eqb-true, le-ltb, lt-ltb, ltb-false, ltb-true, both, by-eq, by-test, clash, untrue}
+use Rattle.basis.proofs.Prelude.{_∙_, _≡_, refl, sym, _<_, _≤_, ℕ, List, List·Memᴰ, List·Memᴰ·cases-cons, List·Memᴰ·head, List·Memᴰ·not-nil, List·Memᴰ·tail, [], _++_, _∷_, Bool, cond, false, true, _⊎_, inl, inr, eqb, ltb, arith, eq-eqb, eqb-false, eqb-true, le-ltb, lt-ltb, ltb-false, ltb-true, both, by-eq, by-test, clash, untrue}
 use Rattle.spell.specs.declared.Spell.{Spell}
 use Rattle.spell.specs.Order.{lexical, earlierOf, listedBefore, orderedBy}
 use Rattle.spell.specs.Listing.{Each}

@@ -4,9 +4,9 @@ use Rattle.packing.specs.Words.{valueOf}
 use Rattle.packing.proofs.value_of.Statement.{statement}
 use Rattle.packing.proofs.value_of.Tie as tie
 
-returns-2 : tie.Need-returns-2
-returns-2 c = c .bits-of .ensures ∙ sym (ap valueOf (c .before .before .u2 .given .1))
-
 pub value-of-spec : {M : Type 1} → statement M
 value-of-spec =
-    tie.close (tie.spec (λ c. search needs) (λ c. search needs) (λ c. search needs) (λ c κs. search needs) (λ c. search needs) returns-2)
+    tie.close
+    (tie.spec
+    (λ c. search needs) (λ c. search needs) (λ c. search needs) (λ c κs. search needs) (λ c. search needs)
+    (λ c. c .bits-of .ensures ∙ sym (ap valueOf (c .before .before .u2 .given .1))))
