@@ -3,3 +3,4 @@ pub mod Widths
 pub mod Places
 pub mod Puts
 pub mod Claims
+pub mod Cases

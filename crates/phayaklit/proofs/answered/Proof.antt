@@ -3,8 +3,5 @@ use Rattle.basis.proofs.Prelude.{refl}
 use Rattle.phayaklit.proofs.answered.Statement.{statement}
 use Rattle.phayaklit.proofs.answered.Tie as tie
 
-returns : tie.Need-returns
-returns c = refl
-
 pub answered-spec : {M : Type 1} → statement M
-answered-spec = tie.close (tie.spec returns)
+answered-spec = tie.close (tie.spec (λ c. refl))

@@ -3,8 +3,5 @@ use Rattle.basis.proofs.Prelude.{needs}
 use Rattle.phayaklit.proofs.phayaklit_days.Statement.{statement}
 use Rattle.phayaklit.proofs.phayaklit_days.Tie as tie
 
-returns : tie.Need-returns
-returns c = rw (c .answered .ensures) (c .before .before .before .days .ensures)
-
 pub phayaklit-days-spec : {M : Type 1} → statement M
-phayaklit-days-spec = tie.close (tie.spec (λ c κs. search needs) (λ c κs. search needs) (λ c. search needs) returns)
+phayaklit-days-spec = tie.close (tie.spec (λ c κs. search needs) (λ c κs. search needs) (λ c. search needs) (λ c. rw (c .answered .ensures) (c .before .before .before .days .ensures)))

@@ -4,15 +4,13 @@ use Rattle.basis.proofs.Prelude.{needs}
 use Rattle.phayaklit.proofs.phayaklit_enter.Statement.{statement}
 use Rattle.phayaklit.proofs.phayaklit_enter.Tie as tie
 
-enter-requires : tie.Need-enter-requires
-enter-requires c κs = held _ _ (c .before .unpack .ensures) (c .before .before .before .pre)
-
-returns : tie.Need-returns
-returns c =
-    let asked = c .before .before in
-    let given = asked .before in
-    (edited _ _ _ _ _ _ (given .before .unpack .ensures) (c .put-back .ensures .0) (rw (← given .spell-in .ensures) (asked .enter .ensures)), c .put-back .ensures .1)
-
 pub phayaklit-enter-spec : {M : Type 1} → statement M
 phayaklit-enter-spec =
-    tie.close (tie.spec (λ c κs. search needs) (λ c κs. search needs) enter-requires (λ c κs. search needs) returns)
+    tie.close
+    (tie.spec
+    (λ c κs. search needs) (λ c κs. search needs)
+    (λ c κs. held _ _ (c .before .unpack .ensures) (c .before .before .before .pre))
+    (λ c κs. search needs)
+    (λ c.
+    let given = c .before .before .before in
+    (edited _ _ _ _ _ _ (given .before .unpack .ensures) (c .put-back .ensures .0) (rw (← given .spell-in .ensures) (c .before .before .enter .ensures)), c .put-back .ensures .1)))

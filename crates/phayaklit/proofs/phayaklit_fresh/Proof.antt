@@ -4,8 +4,5 @@ use Rattle.phayaklit.proofs.Host.{begun-fresh}
 use Rattle.phayaklit.proofs.phayaklit_fresh.Statement.{statement}
 use Rattle.phayaklit.proofs.phayaklit_fresh.Tie as tie
 
-returns : tie.Need-returns
-returns c = begun-fresh _ _ _ (c .pack .ensures) (c .before .before .fresh .ensures)
-
 pub phayaklit-fresh-spec : {M : Type 1} → statement M
-phayaklit-fresh-spec = tie.close (tie.spec (λ c κs. search needs) (λ c κs. search needs) returns)
+phayaklit-fresh-spec = tie.close (tie.spec (λ c κs. search needs) (λ c κs. search needs) (λ c. begun-fresh _ _ _ (c .pack .ensures) (c .before .before .fresh .ensures)))

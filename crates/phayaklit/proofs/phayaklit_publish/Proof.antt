@@ -4,15 +4,14 @@ use Rattle.basis.proofs.Prelude.{needs}
 use Rattle.phayaklit.proofs.phayaklit_publish.Statement.{statement}
 use Rattle.phayaklit.proofs.phayaklit_publish.Tie as tie
 
-publish-requires : tie.Need-publish-requires
-publish-requires c κs = held _ _ (c .before .unpack .ensures) (c .before .before .pre)
-
-returns : tie.Need-returns
-returns c =
-    let done = c .before in
-    let read = done .before .before in
-    published _ _ _ _ _ (read .unpack .ensures) (c .answered .ensures) (done .publish .ensures)
-
 pub phayaklit-publish-spec : {M : Type 1} → statement M
 phayaklit-publish-spec =
-    tie.close (tie.spec (λ c κs. search needs) publish-requires (λ c κs. search needs) returns)
+    tie.close
+    (tie.spec
+    (λ c κs. search needs)
+    (λ c κs. held _ _ (c .before .unpack .ensures) (c .before .before .pre))
+    (λ c κs. search needs)
+    (λ c.
+    let done = c .before in
+    let read = done .before .before in
+    published _ _ _ _ _ (read .unpack .ensures) (c .answered .ensures) (done .publish .ensures)))

@@ -4,8 +4,5 @@ use Rattle.phayaklit.proofs.Host.{laid}
 use Rattle.phayaklit.proofs.phayaklit_read.Statement.{statement}
 use Rattle.phayaklit.proofs.phayaklit_read.Tie as tie
 
-returns : tie.Need-returns
-returns c = (rw (c .pack .ensures .back) (c .before .before .before .read .ensures), laid _ _ (c .pack .ensures))
-
 pub phayaklit-read-spec : {M : Type 1} → statement M
-phayaklit-read-spec = tie.close (tie.spec (λ c κs. search needs) (λ c κs. search needs) returns)
+phayaklit-read-spec = tie.close (tie.spec (λ c κs. search needs) (λ c κs. search needs) (λ c. (rw (c .pack .ensures .back) (c .before .before .before .read .ensures), laid _ _ (c .pack .ensures))))

@@ -3,8 +3,5 @@ use Rattle.basis.proofs.Prelude.{needs}
 use Rattle.phayaklit.proofs.phayaklit_span.Statement.{statement}
 use Rattle.phayaklit.proofs.phayaklit_span.Tie as tie
 
-returns : tie.Need-returns
-returns c = λ days. rw (c .answered .ensures) (c .before .before .before .span .ensures days)
-
 pub phayaklit-span-spec : {M : Type 1} → statement M
-phayaklit-span-spec = tie.close (tie.spec (λ c κs. search needs) (λ c κs. search needs) (λ c. search needs) returns)
+phayaklit-span-spec = tie.close (tie.spec (λ c κs. search needs) (λ c κs. search needs) (λ c. search needs) (λ c. λ days. rw (c .answered .ensures) (c .before .before .before .span .ensures days)))

@@ -4,15 +4,14 @@ use Rattle.basis.proofs.Prelude.{needs}
 use Rattle.phayaklit.proofs.phayaklit_write.Statement.{statement}
 use Rattle.phayaklit.proofs.phayaklit_write.Tie as tie
 
-write-requires : tie.Need-write-requires
-write-requires c κs = held _ _ (c .before .unpack .ensures) (c .before .before .before .pre)
-
-returns : tie.Need-returns
-returns c =
-    let done = c .before .before .before in
-    let read = done .before .before in
-    rw (← read .unpack .ensures, c .answered .ensures) (done .write .ensures)
-
 pub phayaklit-write-spec : {M : Type 1} → statement M
 phayaklit-write-spec =
-    tie.close (tie.spec (λ c κs. search needs) write-requires (λ c κs. search needs) (λ c. search needs) returns)
+    tie.close
+    (tie.spec
+    (λ c κs. search needs)
+    (λ c κs. held _ _ (c .before .unpack .ensures) (c .before .before .before .pre))
+    (λ c κs. search needs) (λ c. search needs)
+    (λ c.
+    let done = c .before .before .before in
+    let read = done .before .before in
+    rw (← read .unpack .ensures, c .answered .ensures) (done .write .ensures)))

@@ -4,8 +4,5 @@ use Rattle.phayaklit.proofs.Host.{laid}
 use Rattle.phayaklit.proofs.put_back.Statement.{statement}
 use Rattle.phayaklit.proofs.put_back.Tie as tie
 
-returns : tie.Need-returns
-returns c = (rw (c .before .pack .ensures .back, c .answered .ensures), laid _ _ (c .before .pack .ensures))
-
 pub put-back-spec : {M : Type 1} → statement M
-put-back-spec = tie.close (tie.spec (λ c κs. search needs) (λ c κs. search needs) returns)
+put-back-spec = tie.close (tie.spec (λ c κs. search needs) (λ c κs. search needs) (λ c. (rw (c .before .pack .ensures .back, c .answered .ensures), laid _ _ (c .before .pack .ensures))))

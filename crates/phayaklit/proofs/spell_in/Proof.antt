@@ -3,8 +3,5 @@ use Rattle.basis.proofs.Prelude.{needs}
 use Rattle.phayaklit.proofs.spell_in.Statement.{statement}
 use Rattle.phayaklit.proofs.spell_in.Tie as tie
 
-returns : tie.Need-returns
-returns c = rw (c .urgency-of .ensures)
-
 pub spell-in-spec : {M : Type 1} → statement M
-spell-in-spec = tie.close (tie.spec (λ c κs. search needs) returns)
+spell-in-spec = tie.close (tie.spec (λ c κs. search needs) (λ c. rw (c .urgency-of .ensures)))

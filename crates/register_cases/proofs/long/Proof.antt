@@ -3,8 +3,9 @@ use Rattle.basis.proofs.Prelude.{sym, length-take-le, arith, needs}
 use Rattle.register_cases.proofs.long.Statement.{statement}
 use Rattle.register_cases.proofs.long.Tie as tie
 
-slice-aggregate-show : tie.Need-slice-aggregate-show
-slice-aggregate-show c = sym (length-take-le 65536 (c .before .before .before .args .text .now) (omega arith))
-
 pub long-spec : {M : Type 1} → statement M
-long-spec = tie.close (tie.spec slice-aggregate-show (λ c κs. search needs) (λ c κs. search needs) (λ c. search needs))
+long-spec =
+    tie.close
+    (tie.spec
+    (λ c. sym (length-take-le 65536 (c .before .before .before .args .text .now) (omega arith)))
+    (λ c κs. search needs) (λ c κs. search needs) (λ c. search needs))
