@@ -1,7 +1,7 @@
 -- A decimal is read as it was written, and what is read is what is written. Assumes nothing.
 use Rattle.basis.proofs.Prelude.{_∙_, _≡_, refl, sym, _%_, _*_, _+_, _-_, _/_, _<_, _≤_, suc, zero, ℕ, List, [], _∷_, false, true, inl, inr, eqb, decLe, arith, eq-eqb, eqb-false, eqb-true, le-leb, le-ltb, lt-leb, lt-ltb, ne-eqb}
-use Rattle.fields.specs.Fields.{Found, found, unreadable, onward, passed, isDigit, readDigits, readDecimal, readLength, readNumber, digitsOf, decimalOf}
-use Rattle.fields.proofs.Bytes.{which, never, digit-is, low-not, digit-low, digit-high, write-passed}
+use Rattle.fields.specs.Fields.{found, unreadable, passed, isDigit, readDigits, readDecimal, readLength, readNumber, digitsOf, decimalOf}
+use Rattle.fields.proofs.Bytes.{which, never, digit-is, low-not, digit-low, digit-high, ended-back}
 use Rattle.fields.proofs.Widths.{limit, more}
 
 -- ---- one more digit
@@ -111,14 +111,7 @@ module _ (top : ℕ) where
     ]
 
     pub length-back : (e : ℕ) (s : List ℕ) (n : ℕ) (rest : List ℕ) → readLength top e s ≡ found n rest → (n ≤ top) × (top < limit k → s ≡ digitsOf k n (e ∷ rest))
-    length-back e s n rest h = go (readDecimal top s) refl h
-      where
-        go : (f : Found ℕ) → readDecimal top s ≡ f → onward f (passed e) ≡ found n rest → (n ≤ top) × (top < limit k → s ≡ digitsOf k n (e ∷ rest))
-        go unreadable d h = absurd (never h)
-        go (found m t) d h =
-            let p = write-passed e m t n rest h in
-            let w = decimal-back s m t d in
-            (omega (arith, p .0, w .0), λ l. w .1 l ∙ rw (p .0, p .1))
+    length-back e s n rest h = decimal-back s n (e ∷ rest) (ended-back e (readDecimal top s) n rest h)
 
 pub length-within : (top e : ℕ) (s : List ℕ) (n : ℕ) (rest : List ℕ) → readLength top e s ≡ found n rest → n ≤ top
 length-within top e s n rest h = length-back top 0 e s n rest h .0

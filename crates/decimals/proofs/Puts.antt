@@ -1,7 +1,7 @@
 -- The digits of a number, put into a list from the last to the first. Assumes nothing.
-use Rattle.basis.proofs.Prelude.{_∙_, _≡_, ap, refl, sym, _%_, _+_, _-_, _/_, _<_, _≤_, ℕ, List, _∷_, drop, length, set, arith}
+use Rattle.basis.proofs.Prelude.{_∙_, _≡_, ap, sym, _%_, _+_, _-_, _/_, _<_, _≤_, ℕ, List, _∷_, drop, length, set, arith}
 use Rattle.fields.specs.Fields.{digitsOf, decimalOf, wideText, numberText}
-use Rattle.fields.proofs.Puts.{Put, put-one, put-place}
+use Rattle.fields.proofs.Puts.{Put, put-here, put-one, put-place}
 use Rattle.fields.proofs.Widths.{limit, more-by, digits-width}
 use Rattle.decimals.proofs.Decimals.{digits-one, digits-more}
 
@@ -30,13 +30,11 @@ module _ {n : ℕ} {rest entry buf : List ℕ} {i v : ℕ} (d : Digits n rest en
   digits-step h =
       let p = put-one (48 + v % 10) (d .so-far) digits-room in
       record {
-        so-far = record { sized = p .sized; inside = p .inside; kept = p .kept; written = refl };
+        so-far = put-here p;
         small = omega (arith, d .small);
         short = d .short;
         ahead = rw (p .written) (sym (digits-more 19 v (drop i buf) h (d .small)) ∙ d .ahead);
       }
 
   pub digits-last : v < 10 → Put entry (set buf (i - 1) (48 + v)) (i - 1) (digitsOf 19 n rest)
-  digits-last h =
-      let p = put-one (48 + v) (d .so-far) digits-room in
-      record { sized = p .sized; inside = p .inside; kept = p .kept; written = p .written ∙ sym (digits-one 19 v (drop i buf) h) ∙ d .ahead }
+  digits-last h = rw (← d .ahead, digits-one 19 v (drop i buf) h) (put-one (48 + v) (d .so-far) digits-room)

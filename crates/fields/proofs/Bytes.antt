@@ -1,6 +1,6 @@
 -- Single bytes: those that are digits, and the byte that ends a field. Assumes nothing.
-use Rattle.basis.proofs.Prelude.{_≡_, refl, _<_, _≤_, ℕ, List, [], _∷_, Bool, false, true, _⊎_, inl, inr, eqb, leb, arith, eqb-true, le-leb, leb-true, lt-leb, both}
-use Rattle.fields.specs.Fields.{found, unreadable, passed, isDigit}
+use Rattle.basis.proofs.Prelude.{_≡_, refl, _<_, _≤_, ℕ, List, [], _∷_, Bool, false, true, _⊎_, inl, inr, eqb, leb, arith, eqb-true, le-leb, leb-true, lt-leb, both, by-test}
+use Rattle.fields.specs.Fields.{Found, found, unreadable, onward, passed, isDigit}
 
 pub which : (t : Bool) → (t ≡ true) ⊎ (t ≡ false)
 which true = inl refl
@@ -23,11 +23,10 @@ pub digit-high : (b : ℕ) → isDigit b ≡ true → b ≤ 57
 digit-high b h = leb-true b 57 (both (leb 48 b) (leb b 57) h .1)
 
 -- ---- the byte that ends a field
--- the byte that was passed stands before what follows
-pub write-passed : {A : Type 0} (e : ℕ) (a : A) (s : List ℕ) (x : A) (rest : List ℕ) → passed e a s ≡ found x rest → (a ≡ x) × (s ≡ e ∷ rest)
+-- it stands before what follows, after what was read
+pub ended-back : {A : Type 0} (e : ℕ) (f : Found A) (x : A) (rest : List ℕ) → onward f (passed e) ≡ found x rest → f ≡ found x (e ∷ rest)
 unfolding passed
-write-passed e a [] x rest h = absurd (never h)
-write-passed e a (b ∷ s) x rest h = elim (which (eqb b e)) [
-  | inl t ↦ let here = rw t at h in let same = eqb-true b e t in (cc, cc)
-  | inr t ↦ absurd (never (rw t at h))
-]
+ended-back e unreadable x rest h = absurd (never h)
+ended-back e (found a []) x rest h = absurd (never h)
+ended-back e (found a (b ∷ s)) x rest h =
+    by-test (eqb b e) (λ t. let here = rw t at h in let same = eqb-true b e t in cc) (λ t. absurd (never (rw t at h)))

@@ -15,6 +15,10 @@ pub record Put (entry exit : List ℕ) (r : ℕ) (text : List ℕ) : Type 0 wher
 pub put-none : (l : List ℕ) (i : ℕ) → i ≤ length l → Put l l i (drop i l)
 put-none l i h = record { sized = refl; inside = h; kept = refl; written = refl }
 
+-- whatever was put is what stands there
+pub put-here : {entry exit : List ℕ} {r : ℕ} {text : List ℕ} → Put entry exit r text → Put entry exit r (drop r exit)
+put-here p = record { sized = p .sized; inside = p .inside; kept = p .kept; written = refl }
+
 -- so many places are taken
 pub put-place : {entry exit : List ℕ} {r : ℕ} {text : List ℕ} → Put entry exit r text → r + length text ≡ length entry
 put-place {entry} {exit} {r} {text} p = omega (arith, p .sized, p .inside, ap length (p .written), length-drop r exit)

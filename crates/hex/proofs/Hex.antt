@@ -1,7 +1,7 @@
 -- Eight hex digits are read as they were written, and what is read is what is written. Assumes nothing.
 use Rattle.basis.proofs.Prelude.{_∙_, _≡_, refl, sym, _%_, _*_, _+_, _-_, _/_, _<_, _≤_, suc, zero, ℕ, List, [], _∷_, inl, inr, leb, add-one, decLe, arith, eq-eqb, le-leb, le-ltb, leb-true, lt-leb, lt-ltb}
-use Rattle.fields.specs.Fields.{Found, found, unreadable, onward, passed, isDigit, hexDigit, hexOf, hexValue, readHex, readBits}
-use Rattle.fields.proofs.Bytes.{which, never, digit-is, digit-low, digit-high, write-passed}
+use Rattle.fields.specs.Fields.{found, unreadable, passed, isDigit, hexDigit, hexOf, hexValue, readHex, readBits}
+use Rattle.fields.proofs.Bytes.{which, never, digit-is, digit-low, digit-high, ended-back}
 
 -- ---- one digit
 value-digit : (d : ℕ) → d < 16 → hexValue (hexDigit d) ≡ d
@@ -118,13 +118,5 @@ write-hex (suc j) k v (b ∷ s) n rest h e = elim (decLe 16 (hexValue b)) [
 ]
 
 pub write-bits : (e : ℕ) (s : List ℕ) (n : ℕ) (rest : List ℕ) → readBits e s ≡ found n rest → (n < 4294967296) × (s ≡ hexOf 8 n (e ∷ rest))
-write-bits e s n rest h = go (readHex 8 0 s) refl h
-  where
-    go : (f : Found ℕ) → readHex 8 0 s ≡ f → onward f (passed e) ≡ found n rest → (n < 4294967296) × (s ≡ hexOf 8 n (e ∷ rest))
-    go unreadable d h = absurd (never h)
-    go (found m t) d h =
-        let p = write-passed e m t n rest h in
-        let w = write-hex 8 0 0 s m t (unfold limit in omega arith) d in
-        let small : m < 4294967296 = unfold limit in (w .0) in
-        let whole : s ≡ hexOf 8 m t = unfold hexOf in (w .1) in
-        (omega (arith, p .0), whole ∙ rw (p .0, p .1))
+unfolding limit hexOf
+write-bits e s n rest h = write-hex 8 0 0 s n (e ∷ rest) (omega arith) (ended-back e (readHex 8 0 s) n rest h)

@@ -1,7 +1,7 @@
 -- Eight hex digits, put into a list from the last to the first. Assumes nothing.
 use Rattle.basis.proofs.Prelude.{_∙_, _≡_, refl, sym, _%_, _+_, _-_, _/_, _<_, _≤_, suc, ℕ, List, _∷_, drop, length, set, arith}
 use Rattle.fields.specs.Fields.{hexDigit, hexOf}
-use Rattle.fields.proofs.Puts.{Put, put-one}
+use Rattle.fields.proofs.Puts.{Put, put-here, put-one}
 
 -- the eight hex digits of n before rest: k of them stand from the place i on
 pub record Hexes (n : ℕ) (rest entry buf : List ℕ) (i v k : ℕ) : Type 0 where
@@ -28,7 +28,7 @@ module _ {n : ℕ} {rest entry buf : List ℕ} {i v k : ℕ} (d : Hexes n rest e
       let left : 8 - k ≡ suc (8 - (k + 1)) = omega arith in
       let p = put-one (hexDigit (v % 16)) (d .so-far) (hexes-room h) in
       record {
-        so-far = record { sized = p .sized; inside = p .inside; kept = p .kept; written = refl };
+        so-far = put-here p;
         few = omega arith;
         here = omega (arith, d .here, d .short);
         short = d .short;
@@ -38,5 +38,5 @@ module _ {n : ℕ} {rest entry buf : List ℕ} {i v k : ℕ} (d : Hexes n rest e
   pub hexes-last : 8 ≤ k → Put entry buf i (hexOf 8 n rest)
   hexes-last h =
       let done : 8 - k ≡ 0 = omega arith in
-      let p = d .so-far in
-      record { sized = p .sized; inside = p .inside; kept = p .kept; written = sym (hex-none v (drop i buf)) ∙ (rw done at (d .ahead)) }
+      let whole : hexOf 0 v (drop i buf) ≡ hexOf 8 n rest = rw done at (d .ahead) in
+      rw (← whole, hex-none v (drop i buf)) (d .so-far)

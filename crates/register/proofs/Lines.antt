@@ -1,5 +1,5 @@
 -- A line is read as it was written, and what is read is what is written. Assumes nothing.
-use Rattle.basis.proofs.Prelude.{_∙_, _≡_, ap, refl, subst, sym, _<_, _≤_, ℕ, List, [], _∷_, false, false≢true, not, true, inl, inr, eqb, leb, arith, eqb-true, leb-true, both}
+use Rattle.basis.proofs.Prelude.{_∙_, _≡_, ap, refl, subst, sym, _<_, _≤_, ℕ, List, [], _∷_, false, not, true, inl, inr, eqb, leb, arith, eqb-true, leb-true, both, by-test, clash}
 use lib.Ieee.{Float, binary32, isNan, toBits, ofBits}
 use lib.Ieee.Bits.{ofBits-toBits, toBits-ofBits, ofBits-fits}
 use Rattle.spell.specs.declared.Urgency.{Urgency}
@@ -10,7 +10,7 @@ use Rattle.spell.proofs.Entered.{entered}
 use Rattle.spell.specs.Listing.{HeldUrgency, Sound}
 use Rattle.fields.specs.Fields.{Found, found, unreadable, onward, passed, readNumber, readBits, decimalOf}
 use Rattle.register.specs.Text.{readLetter, readValue, readUrgency, readLine, urgencyText, lineText}
-use Rattle.fields.proofs.Bytes.{which, never, write-passed}
+use Rattle.fields.proofs.Bytes.{which, never, ended-back}
 use Rattle.decimals.proofs.Decimals.{read-number, write-number}
 use Rattle.hex.proofs.Hex.{read-bits, write-bits}
 
@@ -58,17 +58,13 @@ step unreadable f b t e = absurd (never e)
 write-letter : (s : List ℕ) (l : ℕ) (rest : List ℕ) → readLetter s ≡ found l rest → (s ≡ l ∷ 9 ∷ rest) × ((eqb l 71 ≡ false) → l ≡ 67)
 unfolding readLetter
 write-letter [] l rest e = absurd (never e)
-write-letter (b ∷ s) l rest e = elim (which (eqb b 71)) [
-  | inl g ↦
-      let p = write-passed 9 b s l rest (rw g at e) in
-      (rw (p .0, p .1), λ n. absurd (false≢true (sym n ∙ (rw (p .0) at g))))
-  | inr g ↦ elim (which (eqb b 67)) [
-    | inl k ↦
-        let p = write-passed 9 b s l rest (rw (g, k) at e) in
-        (rw (p .0, p .1), λ n. sym (p .0) ∙ eqb-true b 67 k)
-    | inr k ↦ absurd (never (rw (g, k) at e))
-  ]
-]
+write-letter (b ∷ s) l rest e =
+    by-test (eqb b 71)
+    (λ g. let p = ended-back 9 (found b s) l rest (rw g at e) in let is : b ≡ l = cc in (cc, λ n. absurd (clash (rw is at g) n)))
+    (λ g.
+    by-test (eqb b 67)
+    (λ k. let p = ended-back 9 (found b s) l rest (rw (g, k) at e) in let is : b ≡ l = cc in (cc, λ n. sym is ∙ eqb-true b 67 k))
+    (λ k. absurd (never (rw (g, k) at e))))
 
 bits-back : (n : ℕ) → n < 4294967296 → urgencyOk (Reading (ofBits binary32 n)) ≡ true → toBits binary32 (ofBits binary32 n) ≡ n
 bits-back n h e =

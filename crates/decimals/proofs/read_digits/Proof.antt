@@ -1,8 +1,8 @@
 -- `decimals::read_digits` meets its contract. The invariant: reading on from the place i with the value v gives what was to be read. Assumes nothing.
-use Rattle.basis.proofs.Prelude.{_∙_, _≡_, refl, sym, _*_, _+_, _-_, _<_, _≤_, true, drop, getD, length, arith, not-false, not-true}
+use Rattle.basis.proofs.Prelude.{_∙_, _≡_, refl, sym, _*_, _+_, _-_, _<_, _≤_, true, drop, getD, length, arith, le-leb, lt-leb, not-false, not-true}
 use Rattle.fields.specs.Fields.{unreadable, isDigit, readDigits}
 use Rattle.fields.proofs.Bytes.{digit-low, digit-high}
-use Rattle.decimals.proofs.Places.{digits-on-at, digits-above-at, digits-end-at, digits-past}
+use Rattle.decimals.proofs.Places.{digits-at, digits-past}
 use Rattle.decimals.proofs.read_digits.Statement.{statement}
 use Rattle.decimals.proofs.read_digits.Tie as tie
 
@@ -27,7 +27,7 @@ above : (c : tie.Else1 Inv-loop μ-loop) →
 above c h =
     let l = c .before .before .before .before in
     let a = l .before .before .args in
-    sym (l .loop .inv .1 ∙ digits-above-at (a .text .now) (l .loop .i) (a .limit) (l .loop .v) (omega arith) (digit c .0) h)
+    sym (l .loop .inv .1 ∙ digits-at (a .text .now) (l .loop .i) (a .limit) (l .loop .v) (omega arith) ∙ rw (digit c .0, lt-leb _ (a .limit) h))
 
 pub read-digits-spec : {M : Type 1} → statement M
 read-digits-spec =
@@ -40,7 +40,7 @@ read-digits-spec =
     (λ c.
     let l = c .before .before .before .before in
     let a = l .before .before .args in
-    sym (l .loop .inv .1 ∙ digits-end-at (a .text .now) (l .loop .i) (a .limit) (l .loop .v) (omega arith) (sym (c .before .is-digit .ensures) ∙ not-true _ (c .if1 .taken))))
+    sym (l .loop .inv .1 ∙ digits-at (a .text .now) (l .loop .i) (a .limit) (l .loop .v) (omega arith) ∙ rw (sym (c .before .is-digit .ensures) ∙ not-true _ (c .if1 .taken))))
     (λ c. above (c .before) (omega arith))  -- v > tenth
     (λ c. digit (c .before) .1) (λ c. omega (arith, digit (c .before) .2))  -- (b - ZERO) as u64
     (λ c. omega arith) (λ c. omega arith)
@@ -50,7 +50,8 @@ read-digits-spec =
     (λ c.
     let l = c .before .before .before .before .before .before in
     let a = l .before .before .args in
-    (omega arith, l .loop .inv .1 ∙ digits-on-at (a .text .now) (l .loop .i) (a .limit) (l .loop .v) (omega arith) (digit (c .before .before) .0) (omega arith)))
+    let fits : 10 * l .loop .v + (getD (a .text .now) (l .loop .i) 0 - 48) ≤ a .limit = omega arith in
+    (fits, l .loop .inv .1 ∙ digits-at (a .text .now) (l .loop .i) (a .limit) (l .loop .v) (omega arith) ∙ rw (digit (c .before .before) .0, le-leb _ (a .limit) fits)))
     -- the text's end
     (λ c.
     let l = c .before in

@@ -1,8 +1,8 @@
 -- `hex::read_hex` meets its contract. The invariant: reading the digits left from the place i with the value v gives what was to be read. Assumes nothing.
-use Rattle.basis.proofs.Prelude.{_∙_, _≡_, sym, _*_, _+_, _-_, _<_, _≤_, suc, drop, arith}
-use Rattle.fields.specs.Fields.{readHex}
+use Rattle.basis.proofs.Prelude.{_∙_, _≡_, sym, _*_, _+_, _-_, _<_, _≤_, suc, drop, getD, arith, le-ltb, lt-ltb}
+use Rattle.fields.specs.Fields.{hexValue, readHex}
 use Rattle.hex.proofs.Hex.{no-more, limit, digit-fits, none-read}
-use Rattle.hex.proofs.Places.{hex-past-at, hex-bad-at, hex-on-at}
+use Rattle.hex.proofs.Places.{hex-at, hex-past}
 use Rattle.hex.proofs.read_hex.Statement.{statement}
 use Rattle.hex.proofs.read_hex.Tie as tie
 
@@ -32,14 +32,14 @@ read-hex-spec =
     let l = c .before .before in
     let a = l .before .before .args in
     let left : a .digits - l .loop .k ≡ suc (a .digits - (l .loop .k + 1)) = omega arith in
-    sym (l .loop .inv .2 ∙ rw left (hex-past-at (a .text .now) (l .loop .i) (a .digits - (l .loop .k + 1)) (l .loop .v) (omega arith))))
+    sym (l .loop .inv .2 ∙ rw left (hex-past (a .text .now) (l .loop .i) (a .digits - (l .loop .k + 1)) (l .loop .v) (omega arith))))
     (λ c. omega arith) (λ c κs. tt)
     -- no digit
     (λ c.
     let l = c .before .before .before .before .before in
     let a = l .before .before .args in
     let left : a .digits - l .loop .k ≡ suc (a .digits - (l .loop .k + 1)) = omega arith in
-    sym (l .loop .inv .2 ∙ rw left (hex-bad-at (a .text .now) (l .loop .i) (a .digits - (l .loop .k + 1)) (l .loop .v) (omega arith) (omega (arith, c .before .hex-value .ensures)))))
+    sym (l .loop .inv .2 ∙ rw left (hex-at (a .text .now) (l .loop .i) (a .digits - (l .loop .k + 1)) (l .loop .v) (omega arith) ∙ rw (le-ltb (hexValue (getD (a .text .now) (l .loop .i) 0)) 16 (omega (arith, c .before .hex-value .ensures))))))
     (λ c. omega (arith, fitting c .0)) (λ c. omega (arith, fitting c .0))  -- 16 * v + d
     (λ c. omega arith) (λ c. omega arith) (λ c. omega arith)
     -- the loop goes on
@@ -48,7 +48,7 @@ read-hex-spec =
     let a = l .before .before .args in
     let left : a .digits - l .loop .k ≡ suc (a .digits - (l .loop .k + 1)) = omega arith in
     let d = c .before .hex-value .ensures in
-    (omega arith, fitting c .1, l .loop .inv .2 ∙ rw (left, d) (hex-on-at (a .text .now) (l .loop .i) (a .digits - (l .loop .k + 1)) (l .loop .v) (omega arith) (omega arith))))
+    (omega arith, fitting c .1, l .loop .inv .2 ∙ rw (left, d) (hex-at (a .text .now) (l .loop .i) (a .digits - (l .loop .k + 1)) (l .loop .v) (omega arith) ∙ rw (lt-ltb (hexValue (getD (a .text .now) (l .loop .i) 0)) 16 (omega arith)))))
     (λ c.
     let l = c .before in
     let done : l .before .before .args .digits - l .loop .k ≡ 0 = omega arith in
