@@ -1,7 +1,8 @@
 -- A stream, computed. Assumes nothing.
 use Rattle.basis.proofs.Prelude.{_≡_, refl, ℕ, List, [], _++_, _∷_}
 use Rattle.fields.specs.Fields.{passed, readDigits, readDecimal}
-use Rattle.requests.specs.Requests.{begins, askedBy, askedOf, following}
+use Rattle.requests.specs.Words.{table, begins, headOf}
+use Rattle.requests.specs.Requests.{askedBy, askedOf, following}
 use Rattle.framing.specs.Stream.{begun, kept, wants, settled, lineFed, feed, onward, cutFrom, cut, leftBy, left, cutPieces}
 
 -- `publish`
@@ -22,11 +23,11 @@ rest = 100 ∷ 97 ∷ []
 
 -- two requests, the second with the bytes after it, and a third that is not whole
 pub stream-cut : cut (publishLine ++ readLine ++ three ++ rest) ≡ record { line = publishLine; payload = [] } ∷ record { line = readLine; payload = three } ∷ []
-unfolding kept following wants settled lineFed feed onward cutFrom begins askedBy askedOf passed readDigits readDecimal
+unfolding kept following wants settled lineFed feed onward cutFrom table begins headOf askedBy askedOf passed readDigits readDecimal
 stream-cut = refl
 
 -- the same in three pieces, cut within a line and within a text
 pub pieces-cut : cutPieces begun ((112 ∷ 117 ∷ []) ∷ (98 ∷ 108 ∷ 105 ∷ 115 ∷ 104 ∷ 10 ∷ 114 ∷ 101 ∷ 97 ∷ 100 ∷ 9 ∷ 51 ∷ 10 ∷ 97 ∷ []) ∷ (10 ∷ 99 ∷ 100 ∷ 97 ∷ []) ∷ [])
     ≡ record { line = publishLine; payload = [] } ∷ record { line = readLine; payload = three } ∷ []
-unfolding kept following wants settled lineFed feed onward cutFrom leftBy left cutPieces begins askedBy askedOf passed readDigits readDecimal
+unfolding kept following wants settled lineFed feed onward cutFrom leftBy left cutPieces table begins headOf askedBy askedOf passed readDigits readDecimal
 pieces-cut = refl

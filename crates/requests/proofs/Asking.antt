@@ -4,12 +4,16 @@ use Rattle.fields.specs.Fields.{Found, found, unreadable, readNumber, readLengt
 use Rattle.decimals.proofs.Decimals.{length-within}
 use Rattle.register.specs.Text.{readLine}
 use Rattle.model.specs.declared.Call.{Call}
-use Rattle.model.specs.declared.Call.the-variants.{Enter, Amend, Strike, TakeBack, Publish, Write, Ask}
-use Rattle.model.specs.declared.Question.the-variants.{Day, Cover, Days}
-use Rattle.requests.specs.declared.Word.{Word}
-use Rattle.requests.specs.declared.Word.the-variants.{Enter as EnterWord, Amend as AmendWord, Strike as StrikeWord, TakeBack as TakeBackWord, Publish as PublishWord, Write as WriteWord, Day as DayWord, Span as SpanWord, Cover as CoverWord, Days as DaysWord, NoDays as NoDaysWord, Room as RoomWord, Read as ReadWord, Unknown}
+use Rattle.model.specs.declared.Call.the-variants.{Ask}
+use Rattle.model.specs.declared.Question.the-variants.{Days}
 use Rattle.requests.specs.declared.Request.{Request}
-use Rattle.requests.specs.Requests.{Asked, asksCall, asksRoom, asksRead, malformed, asks, ended, asking, bare, readSpan, DayList, lastDay, nextDay, readDays, askDays, wordOf, askedBy, askedOf, isDays, daysOf}
+use Rattle.requests.specs.declared.Layout.{Layout}
+use Rattle.requests.specs.declared.Layout.the-variants.{Alone, Spell, Number, Pair, Days as DayFields, Length, Unknown}
+use Rattle.requests.specs.declared.LengthWord.{LengthWord}
+use Rattle.requests.specs.declared.LengthWord.the-variants.{Room, Read}
+use Rattle.requests.specs.declared.Head.{Head}
+use Rattle.requests.specs.Words.{table, headOf, spellCall, numberCall, pairCall, limitOf}
+use Rattle.requests.specs.Requests.{Asked, asksCall, asksRoom, asksRead, malformed, asks, asking, ended, lengthAsks, DayList, lastDay, nextDay, readDays, askDays, askedBy, daysBy, askedOf, daysOf}
 use Rattle.requests.specs.Parsing.{requestOf, askedFrom, daysIn, roomIn, Parses}
 
 -- the days of a call are the first of a list that begins with xs, at most n of them; a room is at most 65,536
@@ -19,36 +23,36 @@ Sound (asksRoom k) xs n = k ≤ 65536
 Sound (asksRead k) xs n = Unit {0}
 Sound malformed xs n = Unit {0}
 
-sound-call : {A : Type 0} (f : Found A) (k : A → Call) (xs : List ℕ) (n : ℕ) → Sound (asking f (λ x. asks (k x))) xs n
+-- what is the whole line asks no days
+sound-ended : (a : Asked) (s xs : List ℕ) (n : ℕ) → Sound a xs n → Sound (ended a s) xs n
 unfolding Sound
-sound-call (found a rest) k xs n = (λ _. refl, omega arith)
-sound-call unreadable k xs n = tt
+sound-ended a [] xs n h = h
+sound-ended a (b ∷ s) xs n h = tt
 
-sound-bare : (c : Call) (s xs : List ℕ) (n : ℕ) → Sound (bare c s) xs n
+sound-call : (c : Call) (n : ℕ) → Sound (asks c) [] n
 unfolding Sound
-sound-bare c [] xs n = (λ _. refl, omega arith)
-sound-bare c (b ∷ s) xs n = tt
+sound-call c n = (λ _. refl, omega arith)
 
-sound-room : (f : Found ℕ) (xs : List ℕ) (n : ℕ) → ((k : ℕ) (rest : List ℕ) → f ≡ found k rest → k ≤ 65536) → Sound (asking (ended f) asksRoom) xs n
+sound-asking : {A : Type 0} (f : Found A) (k : A → List ℕ → Asked) (n : ℕ) → ((a : A) (rest : List ℕ) → f ≡ found a rest → Sound (k a rest) [] n) → Sound (asking f k) [] n
 unfolding Sound
-sound-room (found k []) xs n h = h k [] refl
-sound-room (found k (b ∷ rest)) xs n h = tt
-sound-room unreadable xs n h = tt
+sound-asking (found a rest) k n h = h a rest refl
+sound-asking unreadable k n h = tt
 
-sound-read : (f : Found ℕ) (xs : List ℕ) (n : ℕ) → Sound (asking f asksRead) xs n
+sound-length : (w : LengthWord) (k n : ℕ) → k ≤ limitOf w → Sound (lengthAsks w k) [] n
 unfolding Sound
-sound-read (found k rest) xs n = tt
-sound-read unreadable xs n = tt
+sound-length Room k n h = h
+sound-length Read k n h = tt
 
 -- no more days are read than there is room for
 days-few : (n : ℕ) (s : List ℕ) → length (readDays n s .days) ≤ n
 unfolding readDays
 days-few zero s = omega arith
-days-few (suc n) s = go (readNumber 9 s) (ended (readNumber 10 s)) (λ t. days-few n t)
+days-few (suc n) s = go (readNumber 9 s) (readNumber 10 s) (λ t. days-few n t)
   where
     go : (f g : Found ℕ) → ((t : List ℕ) → length (readDays n t .days) ≤ n) → length (nextDay f (readDays n) (lastDay g) .days) ≤ suc n
     go (found d rest) g h = omega (arith, h rest)
-    go unreadable (found d rest) h = omega arith
+    go unreadable (found d []) h = omega arith
+    go unreadable (found d (b ∷ rest)) h = omega arith
     go unreadable unreadable h = omega arith
 
 sound-days : (l : DayList) (n : ℕ) → length (l .days) ≤ n → Sound (askDays l) (l .days) n
@@ -59,30 +63,23 @@ sound-days l n h = go (l .whole)
     go true = (λ rest. take-at (l .days) rest (length (l .days)) refl, h)
     go false = tt
 
-sound-by : (w : Word) (n : ℕ) (s : List ℕ) → Sound (askedBy w n s) (cond (isDays w) (readDays n (drop 5 s) .days) []) n
-unfolding askedBy isDays
-sound-by EnterWord n s = sound-call (ended (readLine (drop 6 s))) Enter [] n
-sound-by AmendWord n s = sound-call (ended (readLine (drop 6 s))) Amend [] n
-sound-by StrikeWord n s = sound-call (ended (readNumber 10 (drop 7 s))) Strike [] n
-sound-by TakeBackWord n s = sound-bare TakeBack (drop 10 s) [] n
-sound-by PublishWord n s = sound-bare Publish (drop 8 s) [] n
-sound-by WriteWord n s = sound-bare Write (drop 6 s) [] n
-sound-by DayWord n s = sound-call (ended (readNumber 10 (drop 4 s))) (λ d. Ask (Day d)) [] n
-sound-by SpanWord n s = sound-call (readSpan (drop 5 s)) (λ c. c) [] n
-sound-by CoverWord n s = sound-call (ended (readNumber 10 (drop 6 s))) (λ k. Ask (Cover k)) [] n
-sound-by DaysWord n s = sound-days (readDays n (drop 5 s)) n (days-few n (drop 5 s))
-sound-by NoDaysWord n s = sound-bare (Ask Days) (drop 5 s) [] n
-sound-by RoomWord n s = sound-room (readLength 65536 10 (drop 5 s)) [] n (λ k rest e. length-within 65536 10 (drop 5 s) k rest e)
-sound-by ReadWord n s = sound-read (ended (readLength 9999999999 10 (drop 5 s))) [] n
+sound-by : (l : Layout) (n : ℕ) (s : List ℕ) → Sound (askedBy l n s) (daysBy l n s) n
+unfolding askedBy daysBy
+sound-by (Alone c) n s = sound-ended _ s [] n (sound-call c n)
+sound-by (Spell w) n s = sound-asking (readLine s) _ n (λ x rest e. sound-ended _ rest [] n (sound-call (spellCall w x) n))
+sound-by (Number w) n s = sound-asking (readNumber 10 s) _ n (λ k rest e. sound-ended _ rest [] n (sound-call (numberCall w k) n))
+sound-by Pair n s = sound-asking (readNumber 9 s) _ n (λ a s1 e. sound-asking (readNumber 10 s1) _ n (λ b rest e1. sound-ended _ rest [] n (sound-call (pairCall a b) n)))
+sound-by DayFields n s = sound-days (readDays n s) n (days-few n s)
+sound-by (Length w) n s = sound-asking (readLength (limitOf w) 10 s) _ n (λ k rest e. sound-ended _ rest [] n (sound-length w k n (length-within (limitOf w) 10 s k rest e)))
 sound-by Unknown n s = unfold Sound in tt
 
 sound : (n : ℕ) (s : List ℕ) → Sound (askedOf n s) (daysOf n s) n
 unfolding askedOf daysOf
-sound n s = go (leb (length s) 65536)
+sound n s = go (headOf table s) (leb (length s) 65536)
   where
-    go : (b : Bool) → Sound (cond b (askedBy (wordOf s) n s) malformed) (cond (b && isDays (wordOf s)) (readDays n (drop 5 s) .days) []) n
-    go true = sound-by (wordOf s) n s
-    go false = unfold Sound in tt
+    go : (h : Head) (b : Bool) → Sound (cond b (askedBy (h .layout) n (drop (h .at) s)) malformed) (cond b (daysBy (h .layout) n (drop (h .at) s)) []) n
+    go h true = sound-by (h .layout) n (drop (h .at) s)
+    go h false = unfold Sound in tt
 
 -- ---- a parsed line
 held : (a : Asked) (xs rest : List ℕ) (n : ℕ) → Sound a xs n → askedFrom (requestOf a) (xs ++ rest) ≡ a

@@ -10,7 +10,8 @@ use Rattle.fields.specs.Fields.{passed, readDigits, readDecimal, hexValue, read
 use Rattle.register.specs.Text.{readLetter, readValue, readUrgency, readLine}
 use Rattle.model.specs.declared.Call.the-variants.{Enter, Amend, Strike, TakeBack, Publish, Write, Ask}
 use Rattle.model.specs.declared.Question.the-variants.{Day, Span, Cover, Days}
-use Rattle.requests.specs.Requests.{Asked, begins, asksCall, asks, asksRoom, asksRead, malformed, readDays, askedBy, askedOf}
+use Rattle.requests.specs.Words.{table as words, begins, headOf}
+use Rattle.requests.specs.Requests.{Asked, asksCall, asks, asksRoom, asksRead, malformed, readDays, askedBy, askedOf}
 
 -- the bytes of a text as docs/PROTOCOL.md shows it: a space stands for a tab
 unfoldable pub spelled : String → List ℕ
@@ -59,5 +60,5 @@ edges =
     ∷ []
 
 pub lines-ask : map (λ x. askedOf 10 (spelled (x .0))) (table ++ edges) ≡ map (λ x. x .1) (table ++ edges)
-unfolding spelled begins askedBy askedOf readDays passed readDigits readDecimal hexValue readHex readLetter readValue readUrgency readLine
+unfolding spelled words begins headOf askedBy askedOf readDays passed readDigits readDecimal hexValue readHex readLetter readValue readUrgency readLine
 lines-ask = refl

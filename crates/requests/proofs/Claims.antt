@@ -1,13 +1,14 @@
 -- What a line asks, in the words of the protocol. Assumes nothing.
-use Rattle.basis.proofs.Prelude.{_≡_, refl, _+_, ℕ, List, drop}
+use Rattle.basis.proofs.Prelude.{_≡_, refl, _+_, ℕ, List}
 use Rattle.register.specs.Text.{readLine}
 use Rattle.model.specs.declared.Call.the-variants.{Enter}
-use Rattle.requests.specs.declared.Word.the-variants.{Enter as EnterWord}
-use Rattle.requests.specs.Requests.{asks, ended, asking, askedBy, askedOf}
+use Rattle.requests.specs.declared.Layout.the-variants.{Spell}
+use Rattle.requests.specs.declared.SpellWord.the-variants.{Enter as EnterWord}
+use Rattle.requests.specs.Requests.{asks, asking, ended, askedBy, askedOf}
 use Rattle.requests.proofs.Enough.{days-room}
 
 -- THE FIELDS OF `enter` are read exactly as those of a register line, with nothing after its LF
-pub enter-line : (room : ℕ) (s : List ℕ) → askedBy EnterWord room s ≡ asking (ended (readLine (drop 6 s))) (λ x. asks (Enter x))
+pub enter-line : (room : ℕ) (s : List ℕ) → askedBy (Spell EnterWord) room s ≡ asking (readLine s) (λ x. ended (asks (Enter x)))
 unfolding askedBy
 enter-line room s = refl
 

@@ -5,9 +5,9 @@ use Rattle.model.specs.declared.Call.the-variants.{Ask}
 use Rattle.model.specs.declared.Question.the-variants.{Days}
 use Rattle.requests.specs.declared.Request.{Request}
 use Rattle.requests.specs.declared.Request.the-variants.{Call as RequestCall, Malformed as RequestMalformed}
-use Rattle.requests.specs.Requests.{DayList, lastDay, ended, readDays}
+use Rattle.requests.specs.Requests.{DayList, lastDay, readDays}
 use Rattle.buffer.specs.Buffer.{over}
-use Rattle.requests.specs.Parsing.{after, ReadsDays}
+use Rattle.requests.specs.Contracts.{after, ReadsDays}
 
 -- lists that agree from a place on agree from every later one
 agree : (a b : List ℕ) (k n : ℕ) → drop k a ≡ drop k b → k ≤ n → drop n a ≡ drop n b
@@ -17,14 +17,14 @@ agree a b k n e h =
 
 -- ---- the last day
 module _ (days : List ℕ) (k : ℕ) (h : k < length days) where
-  pub last-none : (f : Found ℕ) → f ≡ unreadable → ReadsDays (after (take k days) (lastDay f)) days RequestMalformed days
+  pub last-none : (f : Found ℕ) → lastDay f ≡ record { days = []; whole = false } → ReadsDays (after (take k days) (lastDay f)) days RequestMalformed days
   last-none f e =
       let all : days ≡ over (take k days ++ []) days
       = rw (append-nil (take k days), length-take-le k days (omega arith)) (sym (take-append-drop k days)) in
       record { answer = rw e; places = rw e all; sized = refl }
 
-  pub last-one : (f : Found ℕ) (d : ℕ) (rest : List ℕ) → f ≡ found d rest → ReadsDays (after (take k days) (lastDay f)) days (RequestCall (Ask Days) (k + 1)) (set days k d)
-  last-one f d rest e =
+  pub last-one : (f : Found ℕ) (d : ℕ) → f ≡ found d [] → ReadsDays (after (take k days) (lastDay f)) days (RequestCall (Ask Days) (k + 1)) (set days k d)
+  last-one f d e =
       let long : length (take k days ++ (d ∷ [])) ≡ suc k = omega (arith, length-append (take k days) (d ∷ []), length-take-le k days (omega arith)) in
       let count : k + 1 ≡ length (take k days ++ (d ∷ [])) = omega arith in
       record {
@@ -45,7 +45,7 @@ more-days : (room d : ℕ) (s rest : List ℕ) → readNumber 9 s ≡ found d re
 unfolding readDays
 more-days room d s rest e = rw e
 
-no-more : (room : ℕ) (s : List ℕ) → readNumber 9 s ≡ unreadable → readDays (suc room) s ≡ lastDay (ended (readNumber 10 s))
+no-more : (room : ℕ) (s : List ℕ) → readNumber 9 s ≡ unreadable → readDays (suc room) s ≡ lastDay (readNumber 10 s)
 unfolding readDays
 no-more room s e = rw e
 
@@ -77,9 +77,9 @@ module _ {l : DayList} {line entry days : List ℕ} {at k : ℕ} (p : SoFar l li
       }
 
   pub sofar-last : (r : Request) (exit : List ℕ) → readNumber 9 (drop at line) ≡ unreadable
-      → ReadsDays (after (take k days) (lastDay (ended (readNumber 10 (drop at line))))) days r exit → ReadsDays l entry r exit
+      → ReadsDays (after (take k days) (lastDay (readNumber 10 (drop at line)))) days r exit → ReadsDays l entry r exit
   sofar-last r exit e q =
-      let last = lastDay (ended (readNumber 10 (drop at line))) in
+      let last = lastDay (readNumber 10 (drop at line)) in
       let now : readDays (length entry - k) (drop at line) ≡ last = rw left (no-more (length entry - (k + 1)) (drop at line) e) in
       let is : l ≡ after (take k days) last = p .ahead ∙ ap (after (take k days)) now in
       let long : k ≤ length (take k days ++ last .days) = omega (arith, length-append (take k days) (last .days), length-take-le k days (omega (arith, p .sized))) in

@@ -3,9 +3,11 @@ use Rattle.basis.proofs.Prelude.{_≡_, ap, refl, sym, _*_, _+_, _≤_, suc, ze
 use Rattle.fields.specs.Fields.{Found, found, unreadable, readNumber}
 use Rattle.fields.proofs.Widths.{decimal-wide}
 use Rattle.decimals.proofs.Decimals.{write-number}
-use Rattle.requests.specs.declared.Word.{Word}
-use Rattle.requests.specs.declared.Word.the-variants.{Enter as EnterWord, Amend as AmendWord, Strike as StrikeWord, TakeBack as TakeBackWord, Publish as PublishWord, Write as WriteWord, Day as DayWord, Span as SpanWord, Cover as CoverWord, Days as DaysWord, NoDays as NoDaysWord, Room as RoomWord, Read as ReadWord, Unknown}
-use Rattle.requests.specs.Requests.{malformed, ended, lastDay, nextDay, readDays, askDays, wordOf, askedBy, askedOf}
+use Rattle.requests.specs.declared.Layout.{Layout}
+use Rattle.requests.specs.declared.Layout.the-variants.{Alone, Spell, Number, Pair, Days, Length, Unknown}
+use Rattle.requests.specs.declared.Head.{Head}
+use Rattle.requests.specs.Words.{table, headOf}
+use Rattle.requests.specs.Requests.{malformed, lastDay, nextDay, readDays, askDays, askedBy, askedOf}
 
 -- a number and the byte that ends it take two bytes or more
 number-takes : (e : ℕ) (s : List ℕ) (d : ℕ) (rest : List ℕ) → readNumber e s ≡ found d rest → 2 + length rest ≤ length s
@@ -23,7 +25,7 @@ unfolding readDays
 none-days zero s h = refl
 none-days (suc m) s h = go (readNumber 9 s) (readNumber 10 s) (none-short 9 s h) (none-short 10 s h)
   where
-    go : (f g : Found ℕ) → f ≡ unreadable → g ≡ unreadable → nextDay f (readDays m) (lastDay (ended g)) ≡ record { days = []; whole = false }
+    go : (f g : Found ℕ) → f ≡ unreadable → g ≡ unreadable → nextDay f (readDays m) (lastDay g) ≡ record { days = []; whole = false }
     go f g e k = rw (e, k)
 
 days-enough : (n j : ℕ) (s : List ℕ) → length s ≤ 2 * n + 1 → readDays n s ≡ readDays (n + j) s
@@ -34,32 +36,25 @@ days-enough (suc n) j s h =
     rw up (go (readNumber 9 s) refl (λ t. days-enough n j t))
   where
     go : (f : Found ℕ) → readNumber 9 s ≡ f → ((t : List ℕ) → length t ≤ 2 * n + 1 → readDays n t ≡ readDays (n + j) t)
-        → nextDay f (readDays n) (lastDay (ended (readNumber 10 s))) ≡ nextDay f (readDays (n + j)) (lastDay (ended (readNumber 10 s)))
+        → nextDay f (readDays n) (lastDay (readNumber 10 s)) ≡ nextDay f (readDays (n + j)) (lastDay (readNumber 10 s))
     go (found d rest) k more = rw (more rest (let t = number-takes 9 s d rest k in omega arith))
     go unreadable k more = refl
 
-by-enough : (w : Word) (n j : ℕ) (s : List ℕ) → length (drop 5 s) ≤ 2 * n + 1 → askedBy w n s ≡ askedBy w (n + j) s
+by-enough : (l : Layout) (n j : ℕ) (s : List ℕ) → length s ≤ 2 * n + 1 → askedBy l n s ≡ askedBy l (n + j) s
 unfolding askedBy
-by-enough EnterWord n j s h = refl
-by-enough AmendWord n j s h = refl
-by-enough StrikeWord n j s h = refl
-by-enough TakeBackWord n j s h = refl
-by-enough PublishWord n j s h = refl
-by-enough WriteWord n j s h = refl
-by-enough DayWord n j s h = refl
-by-enough SpanWord n j s h = refl
-by-enough CoverWord n j s h = refl
-by-enough DaysWord n j s h = ap askDays (days-enough n j (drop 5 s) h)
-by-enough NoDaysWord n j s h = refl
-by-enough RoomWord n j s h = refl
-by-enough ReadWord n j s h = refl
+by-enough (Alone c) n j s h = refl
+by-enough (Spell w) n j s h = refl
+by-enough (Number w) n j s h = refl
+by-enough Pair n j s h = refl
+by-enough Days n j s h = ap askDays (days-enough n j s h)
+by-enough (Length w) n j s h = refl
 by-enough Unknown n j s h = refl
 
 -- WHAT A LINE ASKS is the same with more room for its days
 pub days-room : (j : ℕ) (s : List ℕ) → askedOf 32768 s ≡ askedOf (32768 + j) s
 unfolding askedOf
-days-room j s = go (leb (length s) 65536) refl
+days-room j s = go (headOf table s) (leb (length s) 65536) refl
   where
-    go : (b : Bool) → leb (length s) 65536 ≡ b → cond b (askedBy (wordOf s) 32768 s) malformed ≡ cond b (askedBy (wordOf s) (32768 + j) s) malformed
-    go true e = by-enough (wordOf s) 32768 j s (omega (arith, leb-true (length s) 65536 e, length-drop 5 s))
-    go false e = refl
+    go : (h : Head) (b : Bool) → leb (length s) 65536 ≡ b → cond b (askedBy (h .layout) 32768 (drop (h .at) s)) malformed ≡ cond b (askedBy (h .layout) (32768 + j) (drop (h .at) s)) malformed
+    go h true e = by-enough (h .layout) 32768 j (drop (h .at) s) (omega (arith, leb-true (length s) 65536 e, length-drop (h .at) s))
+    go h false e = refl

@@ -1,8 +1,8 @@
 pub mod Words
-pub mod Fields
+pub mod Layouts
+pub mod Parsed
 pub mod DayLists
-pub mod Forms
-pub mod Following
+pub mod Announced
 pub mod Asking
 pub mod Enough
 pub mod Claims

@@ -1,8 +1,12 @@
--- The word that a line begins with: byte by byte. Assumes nothing.
-use Rattle.basis.proofs.Prelude.{_≡_, _+_, _<_, _≤_, ℕ, List, false, true, drop, getD, length, decLe, arith, lt-ltb}
+-- The word that a line begins with: byte by byte, and by the table. Assumes nothing.
+use Prim.Native.String.{String}
+use Rattle.basis.proofs.Prelude.{_≡_, refl, _+_, _<_, _≤_, ℕ, List, [], _∷_, Bool, cond, false, true, drop, getD, length, decLe, arith, lt-ltb}
 use Rattle.fields.specs.Fields.{isAt}
 use Rattle.fields.proofs.Places.{here, past-end, at-inside}
-use Rattle.requests.specs.Requests.{begins}
+use Rattle.requests.specs.declared.Layout.{Layout}
+use Rattle.requests.specs.declared.Layout.the-variants.{Unknown}
+use Rattle.requests.specs.declared.Head.{Head}
+use Rattle.requests.specs.Words.{begins, bytesOf, headOr, headOf}
 
 module _ (w s : List ℕ) (i : ℕ) where
   pub begins-on : i < length w → isAt s i (getD w i 0) ≡ true → begins (drop i w) (drop i s) ≡ begins (drop (i + 1) w) (drop (i + 1) s)
@@ -23,3 +27,13 @@ module _ (w s : List ℕ) (i : ℕ) where
   pub begins-all : length w ≤ i → begins (drop i w) (drop i s) ≡ true
   unfolding begins
   begins-all h = rw (past-end w i h)
+
+pub untried : (s : List ℕ) → record { layout = Unknown; at = 0 } ≡ headOf [] s
+unfolding headOf
+untried s = refl
+
+-- a row of the table tried before the rows after it
+pub tried : (s : List ℕ) (row : String × Layout) (rows : List (String × Layout)) {h h′ : Head}
+    → h′ ≡ headOr (bytesOf (row .0)) (row .1) s h → h ≡ headOf rows s → h′ ≡ headOf (row ∷ rows) s
+unfolding headOf
+tried s row rows e k = rw (e, k)

@@ -1,2 +1,4 @@
+pub mod Words
 pub mod Requests
 pub mod Parsing
+pub mod Contracts

@@ -1,20 +1,12 @@
 -- What the program's answer says of a request's line, and what is left in the list lent for days. Assumes nothing.
 use Prim.Native.Nat.{ℕ}
 use mathlib.Core.Path.{_≡_}
-use mathlib.Core.List.{List, _++_}
-use lib.ListN.{length, take, drop}
-use Rattle.spell.specs.declared.Spell.{Spell}
-use Rattle.fields.specs.declared.Field.{Field}
-use Rattle.fields.specs.declared.Field.the-variants.{Value as FieldValue, Malformed as FieldMalformed}
-use Rattle.fields.specs.declared.Length.{Length}
-use Rattle.fields.specs.declared.Length.the-variants.{Value as LengthValue, Malformed as LengthMalformed}
-use Rattle.register.specs.declared.Line.{Line}
-use Rattle.register.specs.declared.Line.the-variants.{Value as LineValue, Malformed as LineMalformed}
-use Rattle.model.specs.declared.Call.{Call}
+use mathlib.Core.List.{List}
+use lib.ListN.{length, take}
 use Rattle.buffer.specs.Buffer.{over}
 use Rattle.requests.specs.declared.Request.{Request}
 use Rattle.requests.specs.declared.Request.the-variants.{Call as RequestCall, Room as RequestRoom, Read as RequestRead, Malformed as RequestMalformed}
-use Rattle.requests.specs.Requests.{Asked, asksCall, asksRoom, asksRead, malformed, askDays, DayList, askedOf, following, daysOf}
+use Rattle.requests.specs.Requests.{Asked, asksCall, asksRoom, asksRead, malformed, askedOf, following, daysOf}
 
 -- the program's form of what is asked: the days of a call stand in the first places of the lent list, and their count beside it
 abbrev pub requestOf : Asked → Request
@@ -29,29 +21,9 @@ pub record Parses (line days : List ℕ) (r : Request) (days′ : List ℕ) : Ty
   pub places : days′ ≡ over (daysOf (length days) line) days
   pub sized : length days′ ≡ length days
 
--- days that stand before others
-abbrev pub after : List ℕ → DayList → DayList
-after ds l = record { days = ds ++ l .days; whole = l .whole }
-
--- the same of a list of days
-pub record ReadsDays (l : DayList) (days : List ℕ) (r : Request) (days′ : List ℕ) : Type 0 where
-  pub answer : r ≡ requestOf (askDays l)
-  pub places : days′ ≡ over (l .days) days
-  pub sized : length days′ ≡ length days
-
--- ---- A request by its last field
-
-abbrev pub lineAsked : (Spell → Call) → Line → Request
-lineAsked f (LineValue s next) = RequestCall (f s) 0
-lineAsked f LineMalformed = RequestMalformed
-
-abbrev pub numberAsked : (ℕ → Call) → Field → Request
-numberAsked f (FieldValue n next) = RequestCall (f n) 0
-numberAsked f FieldMalformed = RequestMalformed
-
-abbrev pub lengthAsked : (ℕ → Request) → Length → Request
-lengthAsked f (LengthValue n next) = f n
-lengthAsked f LengthMalformed = RequestMalformed
+-- r bytes follow the line, whatever room there is for days
+abbrev pub Announces : List ℕ → ℕ → Type 0
+Announces line r = (room : ℕ) → r ≡ following (askedOf room line)
 
 -- ---- What the program's form asks
 
@@ -75,13 +47,3 @@ roomIn (RequestCall c k) = 0
 roomIn (RequestRoom n) = n
 roomIn (RequestRead n) = 0
 roomIn RequestMalformed = 0
-
--- ---- The text after a line
-
-abbrev pub announcedIn : Length → ℕ
-announcedIn (LengthValue n next) = n
-announcedIn LengthMalformed = 0
-
--- r bytes follow the line, whatever room there is for days
-abbrev pub Announces : List ℕ → ℕ → Type 0
-Announces line r = (room : ℕ) → r ≡ following (askedOf room line)

@@ -1,19 +1,18 @@
 // The requests of the program `serve`: what the bytes of a line ask, as its protocol gives them.
 ghost use mathlib.Core.Path.{_≡_};
-ghost use mathlib.Core.Bool.{cond};
 ghost use Prim.Native.Nat.{_<_};
 ghost use lib.ListN.{length, take, drop};
-ghost use Rattle.fields.specs.Fields.{readNumber, readLength};
-ghost use Rattle.fields.specs.Answers.{fieldOf, lengthOf};
-ghost use Rattle.register.specs.Text.{readLine};
-ghost use Rattle.register.specs.Answers.{lineOf};
-ghost use Rattle.requests.specs.Requests.{begins, wordOf, ended, asking, asks, readSpan, bare, lastDay, readDays};
-ghost use Rattle.requests.specs.Parsing.{requestOf, lineAsked, numberAsked, lengthAsked, after, ReadsDays, Parses, announcedIn, Announces};
+ghost use Rattle.requests.specs.Words.{begins, headOr, headOf, table, spellCall, numberCall, limitOf};
+ghost use Rattle.requests.specs.Requests.{lastDay, readDays};
+ghost use Rattle.fields.specs.Fields.{readNumber};
+ghost use Rattle.requests.specs.Contracts.{Asks, ifEnded, lengthRequest, after, ReadsDays, followingIn};
+ghost use Rattle.requests.specs.Parsing.{Parses, Announces};
 use fields::Field;
 use fields::Length;
 use model::Call;
 use model::Question;
 use register::Line;
+use spell::Spell;
 
 const TAB: u8 = 9;
 
@@ -27,22 +26,44 @@ const LARGEST_ROOM: u64 = 65536;
 
 const LARGEST_LENGTH: u64 = 9999999999;
 
-// The word that a request begins with, `NoDays` for `days` with no day after it.
-pub enum Word {
+// What follows a request's word. Where several words share a layout, it says which of them it is.
+pub enum Layout {
+    // nothing: the word is the whole line, and asks this call
+    Alone(Call),
+    // the six fields of a spell
+    Spell(SpellWord),
+    // a number
+    Number(NumberWord),
+    // two numbers, the days of a span
+    Pair,
+    // one day or more
+    Days,
+    // a decimal up to a limit
+    Length(LengthWord),
+    // no word of the table
+    Unknown,
+}
+
+pub enum SpellWord {
     Enter,
     Amend,
+}
+
+pub enum NumberWord {
     Strike,
-    TakeBack,
-    Publish,
-    Write,
     Day,
-    Span,
     Cover,
-    Days,
-    NoDays,
+}
+
+pub enum LengthWord {
     Room,
     Read,
-    Unknown,
+}
+
+// The layout of a line's fields, and the place after its word.
+pub struct Head {
+    pub layout: Layout,
+    pub at: usize,
 }
 
 // A call with the count of its days, a room, the length of a text to read, or a line of no form.
@@ -69,169 +90,148 @@ fn begins(line: &[u8], word: &[u8]) -> bool
     true
 }
 
-// The word w where the line begins with its bytes, or else the word that was found before.
-fn word_or(line: &[u8], bytes: &[u8], w: Word, found: Word) -> Word
-    ensures { λ r. ⌜ r ≡ cond (begins (now (bytes .entry)) (now (line .entry))) w found ⌝ }
+// The head of a line that begins with the word, or else the one that was found before.
+fn head_or(line: &[u8], word: &[u8], layout: Layout, found: Head) -> Head
+    ensures { λ r. ⌜ r ≡ headOr (now (word .entry)) layout (now (line .entry)) found ⌝ }
 {
-    if begins(line, bytes) {
-        return w;
+    if begins(line, word) {
+        return Head {
+            layout,
+            at: word.len(),
+        };
     }
     found
 }
 
-// The word of a line, tried from the last of the table to the first.
-fn word_of(line: &[u8]) -> Word
-    ensures { λ r. ⌜ r ≡ wordOf (now (line .entry)) ⌝ }
+// The head of a line, the words of the table tried from the last to the first.
+fn head_of(line: &[u8]) -> Head
+    ensures { λ r. ⌜ r ≡ headOf table (now (line .entry)) ⌝ }
 {
-    let w = word_or(line, b"read\t", Word::Read, Word::Unknown);
-    let w = word_or(line, b"room\t", Word::Room, w);
-    let w = word_or(line, b"days\n", Word::NoDays, w);
-    let w = word_or(line, b"days\t", Word::Days, w);
-    let w = word_or(line, b"cover\t", Word::Cover, w);
-    let w = word_or(line, b"span\t", Word::Span, w);
-    let w = word_or(line, b"day\t", Word::Day, w);
-    let w = word_or(line, b"write\n", Word::Write, w);
-    let w = word_or(line, b"publish\n", Word::Publish, w);
-    let w = word_or(line, b"take-back\n", Word::TakeBack, w);
-    let w = word_or(line, b"strike\t", Word::Strike, w);
-    let w = word_or(line, b"amend\t", Word::Amend, w);
-    word_or(line, b"enter\t", Word::Enter, w)
-}
-
-// ---- The last field of a line: nothing follows its LF
-
-fn last_number(line: &[u8], at: usize) -> Field
-    ensures { λ r. ⌜ fieldOf (now (line .entry)) r ≡ ended (readNumber 10 (drop at (now (line .entry)))) ⌝ }
-{
-    let Field::Value(n, next) = decimals::read_number(line, at, LF) else {
-        return Field::Malformed;
+    let h = Head {
+        layout: Layout::Unknown,
+        at: 0,
     };
-    if next < line.len() {
-        return Field::Malformed;
-    }
-    Field::Value(n, next)
+    let h = head_or(line, b"enter\t", Layout::Spell(SpellWord::Enter), h);
+    let h = head_or(line, b"amend\t", Layout::Spell(SpellWord::Amend), h);
+    let h = head_or(line, b"strike\t", Layout::Number(NumberWord::Strike), h);
+    let h = head_or(line, b"take-back\n", Layout::Alone(Call::TakeBack), h);
+    let h = head_or(line, b"publish\n", Layout::Alone(Call::Publish), h);
+    let h = head_or(line, b"write\n", Layout::Alone(Call::Write), h);
+    let h = head_or(line, b"day\t", Layout::Number(NumberWord::Day), h);
+    let h = head_or(line, b"span\t", Layout::Pair, h);
+    let h = head_or(line, b"cover\t", Layout::Number(NumberWord::Cover), h);
+    let h = head_or(line, b"days\t", Layout::Days, h);
+    let h = head_or(line, b"days\n", Layout::Alone(Call::Ask(Question::Days)), h);
+    let h = head_or(line, b"room\t", Layout::Length(LengthWord::Room), h);
+    head_or(line, b"read\t", Layout::Length(LengthWord::Read), h)
 }
 
-fn last_length(line: &[u8], at: usize, limit: u64) -> Length
-    ensures { λ r. ⌜ lengthOf (now (line .entry)) r ≡ ended (readLength limit 10 (drop at (now (line .entry)))) ⌝ }
-{
-    let Length::Value(n, next) = decimals::read_length(line, at, LF, limit) else {
-        return Length::Malformed;
-    };
-    if next < line.len() {
-        return Length::Malformed;
-    }
-    Length::Value(n, next)
-}
+// ---- The fields, by their layout
 
-// The six fields of a register line.
-fn last_line(line: &[u8], at: usize) -> Line
-    ensures { λ r. ⌜ lineOf (now (line .entry)) r ≡ ended (readLine (drop at (now (line .entry)))) ⌝ }
-{
-    let Line::Value(s, next) = register_read::read_line(line, at) else {
-        return Line::Malformed;
-    };
-    if next < line.len() {
-        return Line::Malformed;
-    }
-    Line::Value(s, next)
-}
-
-// ---- The forms
-
-fn enter_asked(l: Line) -> Request
-    ensures { λ r. ⌜ r ≡ lineAsked Call.Enter l ⌝ }
-{
-    match l {
-        Line::Value(s, _) => Request::Call(Call::Enter(s), 0),
-        Line::Malformed => Request::Malformed,
-    }
-}
-
-fn amend_asked(l: Line) -> Request
-    ensures { λ r. ⌜ r ≡ lineAsked Call.Amend l ⌝ }
-{
-    match l {
-        Line::Value(s, _) => Request::Call(Call::Amend(s), 0),
-        Line::Malformed => Request::Malformed,
-    }
-}
-
-fn strike_asked(f: Field) -> Request
-    ensures { λ r. ⌜ r ≡ numberAsked Call.Strike f ⌝ }
-{
-    match f {
-        Field::Value(n, _) => Request::Call(Call::Strike(n), 0),
-        Field::Malformed => Request::Malformed,
-    }
-}
-
-fn day_asked(f: Field) -> Request
-    ensures { λ r. ⌜ r ≡ numberAsked (λ d. Call.Ask (Question.Day d)) f ⌝ }
-{
-    match f {
-        Field::Value(d, _) => Request::Call(Call::Ask(Question::Day(d)), 0),
-        Field::Malformed => Request::Malformed,
-    }
-}
-
-fn cover_asked(f: Field) -> Request
-    ensures { λ r. ⌜ r ≡ numberAsked (λ n. Call.Ask (Question.Cover n)) f ⌝ }
-{
-    match f {
-        Field::Value(n, _) => Request::Call(Call::Ask(Question::Cover(n)), 0),
-        Field::Malformed => Request::Malformed,
-    }
-}
-
-fn room_asked(l: Length) -> Request
-    ensures { λ r. ⌜ r ≡ lengthAsked Request.Room l ⌝ }
-{
-    match l {
-        Length::Value(n, _) => Request::Room(n as usize),
-        Length::Malformed => Request::Malformed,
-    }
-}
-
-fn read_asked(l: Length) -> Request
-    ensures { λ r. ⌜ r ≡ lengthAsked Request.Read l ⌝ }
-{
-    match l {
-        Length::Value(n, _) => Request::Read(n),
-        Length::Malformed => Request::Malformed,
-    }
-}
-
-fn span_asked(line: &[u8]) -> Request
-    ensures { λ r. ⌜ r ≡ requestOf (asking (readSpan (drop 5 (now (line .entry)))) asks) ⌝ }
-{
-    let Field::Value(a, next) = decimals::read_number(line, 5, TAB) else {
-        return Request::Malformed;
-    };
-    let Field::Value(b, _) = last_number(line, next) else {
-        return Request::Malformed;
-    };
-    Request::Call(Call::Ask(Question::Span(a, b)), 0)
-}
-
-// A call whose word is the whole line, up to `end`.
-fn bare(line: &[u8], end: usize, call: Call) -> Request
-    ensures { λ r. ⌜ r ≡ requestOf (bare call (drop end (now (line .entry)))) ⌝ }
+// A request where the line ends at `end`.
+fn if_ended(line: &[u8], end: usize, request: Request) -> Request
+    ensures { λ r. ⌜ r ≡ ifEnded request (drop end (now (line .entry))) ⌝ }
 {
     if end < line.len() {
         return Request::Malformed;
     }
-    Request::Call(call, 0)
+    request
+}
+
+// The call of a word with a spell's fields.
+fn spell_call(w: SpellWord, s: Spell) -> Call
+    ensures { λ r. ⌜ r ≡ spellCall w s ⌝ }
+{
+    match w {
+        SpellWord::Enter => Call::Enter(s),
+        SpellWord::Amend => Call::Amend(s),
+    }
+}
+
+fn spell_asked(line: &[u8], at: usize, w: SpellWord) -> Request
+    ensures { λ r. ⌜ Asks (Layout.Spell w) (drop at (now (line .entry))) r ⌝ }
+{
+    let Line::Value(s, next) = register_read::read_line(line, at) else {
+        return Request::Malformed;
+    };
+    if_ended(line, next, Request::Call(spell_call(w, s), 0))
+}
+
+// The call of a word with a number.
+fn number_call(w: NumberWord, n: u16) -> Call
+    ensures { λ r. ⌜ r ≡ numberCall w n ⌝ }
+{
+    match w {
+        NumberWord::Strike => Call::Strike(n),
+        NumberWord::Day => Call::Ask(Question::Day(n)),
+        NumberWord::Cover => Call::Ask(Question::Cover(n)),
+    }
+}
+
+fn number_asked(line: &[u8], at: usize, w: NumberWord) -> Request
+    ensures { λ r. ⌜ Asks (Layout.Number w) (drop at (now (line .entry))) r ⌝ }
+{
+    let Field::Value(n, next) = decimals::read_number(line, at, LF) else {
+        return Request::Malformed;
+    };
+    if_ended(line, next, Request::Call(number_call(w, n), 0))
+}
+
+fn pair_asked(line: &[u8], at: usize) -> Request
+    ensures { λ r. ⌜ Asks Layout.Pair (drop at (now (line .entry))) r ⌝ }
+{
+    let Field::Value(a, i) = decimals::read_number(line, at, TAB) else {
+        return Request::Malformed;
+    };
+    let Field::Value(b, next) = decimals::read_number(line, i, LF) else {
+        return Request::Malformed;
+    };
+    if_ended(
+        line,
+        next,
+        Request::Call(Call::Ask(Question::Span(a, b)), 0),
+    )
+}
+
+// The largest decimal of a word, and what it asks.
+fn limit_of(w: LengthWord) -> u64
+    ensures { λ r. ⌜ r ≡ limitOf w ⌝ }
+{
+    match w {
+        LengthWord::Room => LARGEST_ROOM,
+        LengthWord::Read => LARGEST_LENGTH,
+    }
+}
+
+fn length_request(w: LengthWord, n: u64) -> Request
+    ensures { λ r. ⌜ r ≡ lengthRequest w n ⌝ }
+{
+    match w {
+        LengthWord::Room => Request::Room(n as usize),
+        LengthWord::Read => Request::Read(n),
+    }
+}
+
+fn length_asked(line: &[u8], at: usize, w: LengthWord) -> Request
+    ensures { λ r. ⌜ Asks (Layout.Length w) (drop at (now (line .entry))) r ⌝ }
+{
+    let Length::Value(n, next) = decimals::read_length(line, at, LF, limit_of(w)) else {
+        return Request::Malformed;
+    };
+    if_ended(line, next, length_request(w, n))
 }
 
 // The last day, at the place k of the list.
 fn last_day(line: &[u8], at: usize, days: &mut [u16], k: usize) -> Request
     requires { ⌜ k < length (now days) ⌝ }
-    ensures { λ r. ⌜ ReadsDays (after (take k (now (days .entry))) (lastDay (ended (readNumber 10 (drop at (now (line .entry))))))) (now (days .entry)) r (now (days .exit)) ⌝ }
+    ensures { λ r. ⌜ ReadsDays (after (take k (now (days .entry))) (lastDay (readNumber 10 (drop at (now (line .entry)))))) (now (days .entry)) r (now (days .exit)) ⌝ }
 {
-    let Field::Value(d, _) = last_number(line, at) else {
+    let Field::Value(d, next) = decimals::read_number(line, at, LF) else {
         return Request::Malformed;
     };
+    if next < line.len() {
+        return Request::Malformed;
+    }
     days[k] = d;
     Request::Call(Call::Ask(Question::Days), k + 1)
 }
@@ -260,34 +260,31 @@ pub fn parse(line: &[u8], days: &mut [u16]) -> Request
     if line.len() > LONGEST_LINE {
         return Request::Malformed;
     }
-    let word = word_of(line);
-    match word {
-        Word::Enter => enter_asked(last_line(line, 6)),
-        Word::Amend => amend_asked(last_line(line, 6)),
-        Word::Strike => strike_asked(last_number(line, 7)),
-        Word::TakeBack => bare(line, 10, Call::TakeBack),
-        Word::Publish => bare(line, 8, Call::Publish),
-        Word::Write => bare(line, 6, Call::Write),
-        Word::Day => day_asked(last_number(line, 4)),
-        Word::Span => span_asked(line),
-        Word::Cover => cover_asked(last_number(line, 6)),
-        Word::Days => read_days(line, 5, days),
-        Word::NoDays => bare(line, 5, Call::Ask(Question::Days)),
-        Word::Room => room_asked(last_length(line, 5, LARGEST_ROOM)),
-        Word::Read => read_asked(last_length(line, 5, LARGEST_LENGTH)),
-        Word::Unknown => Request::Malformed,
+    let head = head_of(line);
+    let at = head.at;
+    let layout = head.layout;
+    match layout {
+        Layout::Alone(call) => if_ended(line, at, Request::Call(call, 0)),
+        Layout::Spell(w) => spell_asked(line, at, w),
+        Layout::Number(w) => number_asked(line, at, w),
+        Layout::Pair => pair_asked(line, at),
+        Layout::Days => read_days(line, at, days),
+        Layout::Length(w) => length_asked(line, at, w),
+        Layout::Unknown => Request::Malformed,
     }
 }
 
 // ---- The text after a line
 
-// The length that is read, or none.
-fn announced(l: Length) -> u64
-    ensures { λ r. ⌜ r ≡ announcedIn l ⌝ }
+// The length of the text that a request announces.
+fn following(request: Request) -> u64
+    ensures { λ r. ⌜ r ≡ followingIn request ⌝ }
 {
-    match l {
-        Length::Value(n, _) => n,
-        Length::Malformed => 0,
+    match request {
+        Request::Read(n) => n,
+        Request::Call(_, _) => 0,
+        Request::Room(_) => 0,
+        Request::Malformed => 0,
     }
 }
 
@@ -302,5 +299,5 @@ pub fn text_length(line: &[u8]) -> u64
     if !begins(line, b"read\t") {
         return 0;
     }
-    announced(last_length(line, 5, LARGEST_LENGTH))
+    following(length_asked(line, 5, LengthWord::Read))
 }

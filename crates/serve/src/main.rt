@@ -14,11 +14,11 @@ use input::Input;
 use libc::STDERR_FILENO;
 use libc::STDIN_FILENO;
 use libc::STDOUT_FILENO;
+use replies::OUT;
 use service::Service;
 use stabbing::INDEX;
 use wire::Answered;
 use wire::DAYS;
-use wire::OUT;
 use wire::ROOM;
 
 const DASH: u8 = 45;

@@ -12,9 +12,10 @@ use Rattle.calendar.specs.Calendar.{daysOk}
 use Rattle.model.specs.Questions.{onAny, rising, filter, comparisonsOf}
 use Rattle.model.specs.Effects.{settle}
 use Rattle.model.specs.Model.{takeBack, cover, ask, effectOf}
-use Rattle.requests.specs.Requests.{begins, readDays, askedBy, askedOf}
+use Rattle.requests.specs.Words.{table, begins, headOf}
+use Rattle.requests.specs.Requests.{readDays, askedBy, askedOf}
 use Rattle.requests.proofs.Cases.{spelled}
-use Rattle.wire.specs.Replies.{refusedText, stoppedText, listedText, severalText, writtenText, foundText, acceptedText, callText, readingText}
+use Rattle.replies.specs.Replies.{refusedText, stoppedText, listedText, severalText, writtenText, shapeText, callText, readingText}
 use Rattle.wire.specs.Conversation.{Sent, opening, registerOf, turnOf, converse}
 
 -- a request and its answer: the line, the bytes after the line of a `read`, and the answer's bytes
@@ -57,8 +58,8 @@ edges =
 
 -- THE PROTOCOL'S EXAMPLE, and the edges
 pub example : map (λ c. converse opening (map sent c)) (session ∷ edges ∷ []) ≡ map (map (λ x. spelled (x .2))) (session ∷ edges ∷ [])
-unfolding spelled converse turnOf registerOf callText readingText acceptedText foundText refusedText stoppedText listedText severalText writtenText
-    begins askedBy askedOf readDays digitsOf decimalOf hexDigit hexOf numbersText passed readDigits readDecimal hexValue readHex
+unfolding spelled converse turnOf registerOf callText readingText shapeText refusedText stoppedText listedText severalText writtenText
+    table begins headOf askedBy askedOf readDays digitsOf decimalOf hexDigit hexOf numbersText passed readDigits readDecimal hexValue readHex
     lineText textOnto readLetter readValue readUrgency readLine follows lineRefusal lineAnswer nextLine readLines readText
     settle effectOf takeBack ask cover enterRefusal strikeRefusal insertBy remember earlierOf stands isNan toBits ofBits
     onAny daysOk rising filter comparisonsOf below keep count head next parent child leftSibling lastChild fitsAt start onPath formula

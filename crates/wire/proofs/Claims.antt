@@ -9,7 +9,7 @@ use Rattle.wire.specs.declared.Answered.{Answered}
 use Rattle.wire.specs.Conversation.{Conv, Sent, opening, turn, turnOf, converse, converseOn}
 use Rattle.wire.specs.Answering.{roomOf, Restarted}
 use Rattle.wire.specs.History.{Spoken, none, then}
-use Rattle.wire.proofs.Sending.{sends-bytes}
+use Rattle.replies.proofs.Sending.{sends-bytes}
 use Rattle.wire.proofs.Serving.{room-same}
 
 -- A WHOLE CONVERSATION on a service, blocks and a room that stand for v has the answers of `converse` from v

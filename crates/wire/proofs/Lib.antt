@@ -1,4 +1,3 @@
-pub mod Sending
 pub mod Shown
 pub mod Bounds
 pub mod Replying

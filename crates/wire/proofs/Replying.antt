@@ -1,33 +1,17 @@
 -- A call's answer on the wire is the account's: the bytes that are put, and the state that is left. Assumes nothing.
 use Rattle.basis.proofs.Prelude.{_∙_, _≡_, ap, refl, sym, _≤_, ℕ, List, length, length-replicate, eq-eqb, ne-eqb}
 use Rattle.model.specs.declared.Call.{Call}
-use Rattle.model.specs.declared.Question.{Question}
 use Rattle.model.specs.Model.{State, Request, Answer, step}
 use Rattle.service.specs.declared.Service.{Service}
-use Rattle.service.specs.declared.Outcome.{Outcome}
 use Rattle.service.specs.declared.Stepped.{Stepped}
 use Rattle.service.specs.Service.{Blocks, Given, asking, answerOf, Met}
 use Rattle.service.proofs.Represented.{stateOf, stands}
-use Rattle.wire.specs.Replies.{refusedText, foundText, acceptedText, callText}
+use Rattle.replies.specs.Replies.{callText}
+use Rattle.replies.specs.Sending.{Sends, Fits}
 use Rattle.wire.specs.Conversation.{lent, callOf}
-use Rattle.wire.specs.Answering.{Sends, Fits, Called}
+use Rattle.wire.specs.Answering.{Called}
 use Rattle.wire.proofs.Bounds.{fits-step}
 use Rattle.wire.proofs.Shown.{Same, same-step, same-call}
-
--- ---- the bytes of an outcome
-module _ (call : Call) (o : Outcome) (ns ts out exit : List ℕ) (r : ℕ) where
-  pub sends-refused : (o .refusal ≡ 0 → ⊥) → Sends (refusedText (o .refusal)) out r exit → Sends (callText call (answerOf o ns ts)) out r exit
-  unfolding callText
-  sends-refused h s = rw (ne-eqb (o .refusal) 0 h) s
-
-  pub sends-accepted : o .refusal ≡ 0 → (c : Call) → call ≡ c → Sends (acceptedText c (answerOf o ns ts)) out r exit → Sends (callText call (answerOf o ns ts)) out r exit
-  unfolding callText
-  sends-accepted h c e s = rw (eq-eqb (o .refusal) 0 h, e) s
-
--- a question that is known to be another is answered by the bytes of that one
-pub sends-found : (w : Question) (o : Outcome) (ns out exit : List ℕ) (r : ℕ) (w′ : Question) → w ≡ w′
-    → Sends (foundText w′ (o .count) (o .comparisons) ns) out r exit → Sends (foundText w (o .count) (o .comparisons) ns) out r exit
-sends-found w o ns out exit r w′ e s = rw e s
 
 -- ---- the answers of a given service have the numbers that their bytes ask for
 module _ (sv : Service) (bs : Blocks) (g : Given sv bs) where

@@ -2,10 +2,11 @@
 use Rattle.basis.proofs.Prelude.{_∙_, _≡_, ap, refl, sym, ℕ, List, _++_, Bool, cond, false, true, leb, drop, length, take, take-at}
 use Rattle.refusal.specs.Table.{accepted, shortBuffer}
 use Rattle.model.specs.declared.Call.{Call}
-use Rattle.model.specs.declared.Call.the-variants.{Enter, Amend, Strike, TakeBack, Publish, Write, Ask}
 use Rattle.model.specs.Effects.{State, Request, Answer, After, Effect, refused, done, gives, writes, refuse, settle}
 use Rattle.model.specs.Model.{effectOf, stepOf}
-use Rattle.wire.specs.Replies.{writtenText, foundText, acceptedText, callText}
+use Rattle.replies.specs.declared.Shape.{Shape}
+use Rattle.replies.specs.declared.Shape.the-variants.{Ok, Text, Listed, Several}
+use Rattle.replies.specs.Replies.{writtenText, listedText, severalText, shapeOf, shapeText, callText}
 
 -- what is shown of an answer: of its lists as many places as it counts
 abbrev shown : Answer → Answer
@@ -56,16 +57,13 @@ module _ (m : State) (c : Call) (ds ns ns′ ts ts′ : List ℕ) (en : length n
   same-step d = same-settle (effectOf d ds m)
 
 -- what is the same is answered by the same bytes
-same-accepted : (c : Call) (x y : After) → Same x y → acceptedText c (x .answer) ≡ acceptedText c (y .answer)
-unfolding acceptedText
-same-accepted (Enter s) x y e = refl
-same-accepted (Amend s) x y e = refl
-same-accepted (Strike k) x y e = refl
-same-accepted TakeBack x y e = refl
-same-accepted Publish x y e = refl
-same-accepted Write x y e = ap (λ (a : Answer). writtenText (a .length) (a .text)) (e .answer)
-same-accepted (Ask w) x y e = ap (λ (a : Answer). foundText w (a .count) (a .comparisons) (a .numbers)) (e .answer)
+same-shape : (w : Shape) (x y : After) → Same x y → shapeText w (x .answer) ≡ shapeText w (y .answer)
+unfolding shapeText
+same-shape Ok x y e = refl
+same-shape Text x y e = ap (λ (a : Answer). writtenText (a .length) (a .text)) (e .answer)
+same-shape Listed x y e = ap (λ (a : Answer). listedText (a .count) (a .comparisons) (a .numbers)) (e .answer)
+same-shape Several x y e = ap (λ (a : Answer). severalText (a .count) (a .numbers)) (e .answer)
 
 pub same-call : (c : Call) (x y : After) → Same x y → callText c (x .answer) ≡ callText c (y .answer)
 unfolding callText
-same-call c x y e = rw (same-accepted c x y e, ap (λ (a : Answer). a .refusal) (e .answer))
+same-call c x y e = rw (same-shape (shapeOf c) x y e, ap (λ (a : Answer). a .refusal) (e .answer))

@@ -9,9 +9,10 @@ use Rattle.service.specs.Service.{Blocks, Represents, Given, Begins}
 use Rattle.service.proofs.Represented.{represented}
 use Rattle.wire.specs.declared.Answered.{Answered}
 use Rattle.requests.specs.Requests.{asksCall, asksRoom, asksRead, malformed}
-use Rattle.wire.specs.Replies.{okText, malformedText, stoppedText, readingText}
+use Rattle.replies.specs.Replies.{okText, malformedText, stoppedText, readingText}
+use Rattle.replies.specs.Sending.{Sends}
 use Rattle.wire.specs.Conversation.{registerOf, turnOf}
-use Rattle.wire.specs.Answering.{Sends, Called, Restarted, Answers, lentOf}
+use Rattle.wire.specs.Answering.{Called, Restarted, Answers, lentOf}
 
 -- ---- a reading
 module _ (room n : ℕ) (payload : List ℕ) (bs : Blocks) (out out′ : List ℕ) (place : ℕ) where

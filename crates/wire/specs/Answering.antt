@@ -1,34 +1,19 @@
--- What the program leaves of an answer in the list that it is lent, and the postcondition of a request. Assumes nothing.
-use Prim.Native.Nat.{ℕ, _-_, _≤_}
+-- The postcondition of a request. Assumes nothing.
+use Prim.Native.Nat.{ℕ, _≤_}
 use mathlib.Core.Path.{_≡_}
 use mathlib.Core.Bool.{cond}
 use mathlib.Core.List.{List, _++_}
 use lib.Dec.{leb}
-use lib.ListN.{length, take, drop}
+use lib.ListN.{take, drop}
 use Rattle.model.specs.declared.Call.{Call}
-use Rattle.model.specs.Model.{State, Request, Answer, step}
+use Rattle.model.specs.Model.{State, Request, step}
 use Rattle.service.specs.declared.Service.{Service}
 use Rattle.service.specs.Service.{Blocks, Represents, Given}
+use Rattle.replies.specs.Sending.{Sends}
 use Rattle.wire.specs.declared.Answered.{Answered}
 use Rattle.wire.specs.Conversation.{Conv, Turn, callOf, turnBy, turnOf}
 use Rattle.requests.specs.Requests.{Asked, asksCall, asksRoom, asksRead, malformed, askedOf, daysOf}
 use Rattle.buffer.specs.Buffer.{over}
-
--- the text at the end of the list, from the place r on, and the places before it as they were
-pub record Sends (t entry : List ℕ) (r : ℕ) (exit : List ℕ) : Type 0 where
-  pub fits : length t ≤ length entry
-  pub place : r ≡ length entry - length t
-  pub places : exit ≡ take (length entry - length t) entry ++ t
-
--- what an answer's numbers must be for its bytes: each has a decimal, and the lists are as long as it says
-pub record Fits (a : Answer) : Type 0 where
-  pub count : a .count ≤ 1024
-  pub listed : a .count ≤ length (a .numbers)
-  pub comparisons : a .comparisons ≤ 65535
-  pub bytes : a .length ≤ 65535
-  pub written : a .length ≤ length (a .text)
-
--- ---- The postcondition of a request
 
 -- the answer of a turn, with the service and the blocks that stand for the conversation after it
 pub record Taken (t : Turn) (out : List ℕ) (r : Answered) (bs′ : Blocks) (out′ : List ℕ) : Type 0 where

@@ -10,7 +10,7 @@ use Rattle.register.specs.Text.Register.{bad}
 use Rattle.model.specs.declared.Call.{Call}
 use Rattle.model.specs.Model.{State, fresh, begun, Request, After, step}
 use Rattle.requests.specs.Requests.{Asked, asksCall, asksRoom, asksRead, malformed, askedOf}
-use Rattle.wire.specs.Replies.{okText, malformedText, callText, readingText}
+use Rattle.replies.specs.Replies.{okText, malformedText, callText, readingText}
 
 -- the account's state, and how many places later questions and writes are lent
 pub record Conv : Type 0 where

@@ -1,4 +1,3 @@
-pub mod Replies
 pub mod Conversation
 pub mod Answering
 pub mod History

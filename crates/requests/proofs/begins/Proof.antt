@@ -1,6 +1,6 @@
 -- `requests::begins` meets its contract. The invariant: the rest of the line is to begin with the rest of the word. Assumes nothing.
 use Rattle.basis.proofs.Prelude.{_∙_, _≡_, refl, sym, _-_, _≤_, drop, length, arith, needs, not-false, not-true}
-use Rattle.requests.specs.Requests.{begins}
+use Rattle.requests.specs.Words.{begins}
 use Rattle.requests.proofs.Words.{begins-on, begins-not, begins-all}
 use Rattle.requests.proofs.begins.Statement.{statement}
 use Rattle.requests.proofs.begins.Tie as tie

@@ -1,11 +1,8 @@
 -- `requests::text_length` meets its contract: a line that is too long, one with another word, and a `read`. Assumes nothing.
 use Rattle.basis.proofs.Prelude.{_∙_, sym, needs, not-false, not-true}
-use Rattle.requests.proofs.Following.{long-none, other-none, read-announces}
+use Rattle.requests.proofs.Announced.{long-none, other-none, read-announces}
 use Rattle.requests.proofs.text_length.Statement.{statement}
 use Rattle.requests.proofs.text_length.Tie as tie
-
-returns : tie.Need-returns
-returns c = long-none _ (c .if1 .taken)
 
 returns-2 : tie.Need-returns-2
 returns-2 c =
@@ -13,10 +10,10 @@ returns-2 c =
     other-none _ (begun .before .before .if1 .left) (sym (begun .begins .ensures) ∙ not-true _ (c .if2 .taken))
 
 returns-3 : tie.Need-returns-3
-returns-3 c =
+returns-3 c room =
     let known = c .before .before in
     let begun = known .before in
-    λ room. c .announced .ensures ∙ read-announces _ (begun .before .before .if1 .left) (sym (begun .begins .ensures) ∙ not-false _ (known .if2 .left)) (c .before .last-length .result) (c .before .last-length .ensures) room
+    c .following .ensures ∙ read-announces _ (begun .before .before .if1 .left) (sym (begun .begins .ensures) ∙ not-false _ (known .if2 .left)) _ (c .before .length-asked .ensures) room
 
 pub text-length-spec : {M : Type 1} → statement M
-text-length-spec = tie.close (tie.spec returns (λ c. search needs) (λ c κs. search needs) returns-2 (λ c κs. search needs) (λ c κs. search needs) returns-3)
+text-length-spec = tie.close (tie.spec (λ c. long-none _ (c .if1 .taken)) (λ c. search needs) (λ c κs. search needs) returns-2 (λ c κs. search needs) (λ c κs. search needs) returns-3)

@@ -1,0 +1,19 @@
+-- `replies::put_stopped` meets its contract. Assumes nothing.
+use Rattle.basis.proofs.Prelude.{arith, needs}
+use Rattle.replies.specs.Replies.{refusedWord, stoppedText}
+use Rattle.replies.proofs.Sending.{put-end, put-sends, on-number, on-bytes}
+use Rattle.replies.proofs.put_stopped.Statement.{statement}
+use Rattle.replies.proofs.put_stopped.Tie as tie
+
+returns : tie.Need-returns
+unfolding stoppedText
+returns c =
+    let number = c .before .before .before in
+    let line = number .before .before in
+    let start = line .before .before in
+    let p = on-number (put-end (start .args .out .now) 131072 (omega (arith, start .good))) (start .args .line) 10 (omega arith) (line .put-number .ensures) in
+    let q = on-number (p .0) (start .args .number) 9 (omega (arith, p .1)) (number .put-number2 .ensures) in
+    put-sends (on-bytes (q .0) refusedWord (omega (arith, p .1, q .1)) (c .put-bytes .ensures) .0)
+
+pub put-stopped-spec : {M : Type 1} → statement M
+put-stopped-spec = tie.close (tie.spec (λ c κs. search needs) (λ c κs. search needs) (λ c. search needs) (λ c κs. search needs) returns)

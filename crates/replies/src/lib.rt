@@ -1,0 +1,161 @@
+// The answers of the program `serve`, byte for byte as its protocol gives them.
+ghost use mathlib.Core.Path.{_≡_};
+ghost use Prim.Native.Nat.{_≤_};
+ghost use lib.ListN.{length, take};
+ghost use Rattle.fields.specs.Answers.{Puts};
+ghost use Rattle.service.specs.Service.{answerOf};
+ghost use Rattle.replies.specs.Replies.{okText, malformedText, bytesText, refusedText, stoppedText, listedText, severalText, writtenText, questionShape, shapeOf, callText};
+ghost use Rattle.replies.specs.Sending.{Sends, Fits};
+use model::Call;
+use model::Question;
+use refusal::ACCEPTED;
+use service::Outcome;
+
+const TAB: u8 = 9;
+
+const LF: u8 = 10;
+
+const DASH: u8 = 45;
+
+// The places of the list that is lent for an answer: every answer is shorter.
+pub const OUT: usize = 131072;
+
+// The shape of an accepted call's answer.
+pub enum Shape {
+    // done, and no more
+    Ok,
+    // a text
+    Text,
+    // numbers with their comparisons
+    Listed,
+    // numbers without
+    Several,
+}
+
+// An answer is put into the end of a list from its last byte to its first: each writer puts its bytes before the
+// place `at` and returns the place where they begin.
+
+// The bytes before the place `at`. Nothing is written where there is no room for them.
+fn put_bytes(out: &mut [u8], at: usize, text: &[u8]) -> usize
+    ensures { λ r. ⌜ Puts (length (now (text .entry))) (bytesText (now (text .entry))) (now (out .entry)) at r (now (out .exit)) ⌝ }
+{
+    let n = text.len();
+    if at < n {
+        return at;
+    }
+    if out.len() < at {
+        return at;
+    }
+    let start = at - n;
+    bytes::copy(text, &mut out[start..at]);
+    start
+}
+
+pub fn put_ok(out: &mut [u8; OUT]) -> usize
+    ensures { λ r. ⌜ Sends okText (now (out .entry)) r (now (out .exit)) ⌝ }
+{
+    put_bytes(out, OUT, b"ok\n")
+}
+
+pub fn put_malformed(out: &mut [u8; OUT]) -> usize
+    ensures { λ r. ⌜ Sends malformedText (now (out .entry)) r (now (out .exit)) ⌝ }
+{
+    put_bytes(out, OUT, b"malformed\n")
+}
+
+// A refused call.
+fn put_refused(out: &mut [u8; OUT], number: u16) -> usize
+    ensures { λ r. ⌜ Sends (refusedText number) (now (out .entry)) r (now (out .exit)) ⌝ }
+{
+    let at = decimals::put_number(out, OUT, number, LF);
+    put_bytes(out, at, b"refused\t")
+}
+
+// A refused reading.
+pub fn put_stopped(out: &mut [u8; OUT], number: u16, line: u16) -> usize
+    ensures { λ r. ⌜ Sends (stoppedText number line) (now (out .entry)) r (now (out .exit)) ⌝ }
+{
+    let i = decimals::put_number(out, OUT, line, LF);
+    let j = decimals::put_number(out, i, number, TAB);
+    put_bytes(out, j, b"refused\t")
+}
+
+// The numbers of a question that reports its comparisons.
+fn put_listed(out: &mut [u8; OUT], count: u16, comparisons: u16, numbers: &[u16]) -> usize
+    requires { ⌜ length (now numbers) ≤ 1024 ⌝ }
+    ensures { λ r. ⌜ Sends (listedText count comparisons (now (numbers .entry))) (now (out .entry)) r (now (out .exit)) ⌝ }
+{
+    let end = decimals::end_before(numbers.len());
+    let i = decimals::put_numbers(out, OUT, numbers);
+    let j = decimals::put_number(out, i, comparisons, end);
+    let k = decimals::put_number(out, j, count, TAB);
+    put_bytes(out, k, b"listed\t")
+}
+
+// The numbers of a days question, which reports none.
+fn put_several(out: &mut [u8; OUT], count: u16, numbers: &[u16]) -> usize
+    requires { ⌜ length (now numbers) ≤ 1024 ⌝ }
+    ensures { λ r. ⌜ Sends (severalText count (now (numbers .entry))) (now (out .entry)) r (now (out .exit)) ⌝ }
+{
+    let end = decimals::end_before(numbers.len());
+    let i = decimals::put_numbers(out, OUT, numbers);
+    let j = fields::put_byte(out, i, end);
+    let k = fields::put_byte(out, j, DASH);
+    let m = decimals::put_number(out, k, count, TAB);
+    put_bytes(out, m, b"listed\t")
+}
+
+// A written text.
+fn put_written(out: &mut [u8; OUT], count: u16, text: &[u8]) -> usize
+    requires { ⌜ length (now text) ≤ 65536 ⌝ }
+    ensures { λ r. ⌜ Sends (writtenText count (now (text .entry))) (now (out .entry)) r (now (out .exit)) ⌝ }
+{
+    let i = put_bytes(out, OUT, text);
+    let j = decimals::put_number(out, i, count, LF);
+    put_bytes(out, j, b"text\t")
+}
+
+// The shape of a question's answer, and of any call's.
+fn question_shape(question: Question) -> Shape
+    ensures { λ r. ⌜ r ≡ questionShape question ⌝ }
+{
+    match question {
+        Question::Day(_) => Shape::Listed,
+        Question::Span(_, _) => Shape::Listed,
+        Question::Cover(_) => Shape::Listed,
+        Question::Days => Shape::Several,
+    }
+}
+
+fn shape_of(call: Call) -> Shape
+    ensures { λ r. ⌜ r ≡ shapeOf call ⌝ }
+{
+    match call {
+        Call::Enter(_) => Shape::Ok,
+        Call::Amend(_) => Shape::Ok,
+        Call::Strike(_) => Shape::Ok,
+        Call::TakeBack => Shape::Ok,
+        Call::Publish => Shape::Ok,
+        Call::Write => Shape::Text,
+        Call::Ask(question) => question_shape(question),
+    }
+}
+
+// The answer of any call.
+pub fn put_reply(out: &mut [u8; OUT], call: Call, o: Outcome, numbers: &[u16], text: &[u8]) -> usize
+    requires { ⌜ Fits (answerOf o (now numbers) (now text)) ⌝ }
+    ensures { λ r. ⌜ Sends (callText call (answerOf o (now (numbers .entry)) (now (text .entry)))) (now (out .entry)) r (now (out .exit)) ⌝ }
+{
+    if o.refusal != ACCEPTED {
+        return put_refused(out, o.refusal);
+    }
+    let k = o.count;
+    let n = o.length;
+    let shape = shape_of(call);
+    match shape {
+        Shape::Ok => put_ok(out),
+        Shape::Text => put_written(out, n as u16, &text[..n]),
+        Shape::Listed => put_listed(out, k as u16, o.comparisons as u16, &numbers[..k]),
+        Shape::Several => put_several(out, k as u16, &numbers[..k]),
+    }
+}
