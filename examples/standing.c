@@ -47,6 +47,9 @@ static void enter_and_ask(void) {
     listed("span 9 to 10", phayaklit_span(published[0], 9, 10, numbers, PHAYAKLIT_SPELLS), numbers);
     listed("cover of 14", phayaklit_cover(published[0], 14, numbers, PHAYAKLIT_SPELLS), numbers);
     listed("days 4 and 11", phayaklit_days(published[0], days, 2, numbers, PHAYAKLIT_SPELLS), numbers);
+    phayaklit_reply reviewed = phayaklit_mask(published[0], 4, 0x81, numbers, PHAYAKLIT_SPELLS);
+    listed("the mask of days 4 and 11", reviewed, numbers);
+    printf("the mask of days 4 and 11: %zu days ticked\n", reviewed.ticked);
 }
 
 static void write_and_read_back(void) {

@@ -49,7 +49,7 @@ fn said(call: &str, result: Result<(), Refusal>) {
 fn listed(question: &str, places: usize, ask: impl FnOnce(&mut [u16]) -> Result<Listed, Refusal>) {
     let mut numbers = [0; phayaklit::SPELLS];
     let answer = ask(&mut numbers[..places]);
-    let Listed { count, looks } = answer.unwrap_or(Listed { count: 0, looks: 0 });
+    let Listed { count, looks, .. } = answer.unwrap_or_default();
     let numbers: String = numbers[..count].iter().map(|number| format!(" {number}")).collect();
     println!("{question}: {}, {count} spells, {looks} looks:{numbers}", outcome(&answer));
 }
@@ -70,6 +70,9 @@ fn enter_and_ask(service: &mut Service, index: &mut Index) {
     listed("span 9 to 10", all, |numbers| published.span(9, 10, numbers));
     listed("cover of 14", all, |numbers| published.cover(14, numbers));
     listed("days 4 and 11", all, |numbers| published.days(&[4, 11], numbers));
+    listed("the mask of days 4 and 11", all, |numbers| published.mask(4, 0x81, numbers));
+    let reviewed = published.mask(4, 0x81, &mut [0; phayaklit::SPELLS]);
+    println!("the mask of days 4 and 11: {} days ticked", reviewed.map_or(0, |listed| listed.ticked));
 }
 
 fn print_opened(call: &str, opened: Result<(), Misread>) {

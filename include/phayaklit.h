@@ -73,7 +73,7 @@ extern "C" {
 
 /* The version of these functions and of what the blocks hold; phayaklit_version returns that of the archive. Blocks that one
  * version wrote are no blocks of another one. */
-#define PHAYAKLIT_VERSION 1
+#define PHAYAKLIT_VERSION 2
 
 /* The sizes of the two blocks, in words of 16 bits. */
 #define PHAYAKLIT_SERVICE_WORDS 7746
@@ -125,12 +125,13 @@ typedef struct phayaklit_entry {
 } phayaklit_entry;
 
 /* What a call answers: the refusal's number or 0; how many spells a question lists; the looks of day, span and cover; the
- * length of a written text. What a call does not report is 0. */
+ * length of a written text; how many days a mask ticks. What a call does not report is 0. */
 typedef struct phayaklit_reply {
     uint16_t refusal;
     size_t count;
     size_t looks;
     size_t length;
+    size_t ticked;
 } phayaklit_reply;
 
 /* What reading answers: the refusal's number with its line, counted from 1, or 0 and 0. */
@@ -216,6 +217,10 @@ phayaklit_reply phayaklit_cover(const uint16_t *index, uint16_t number, uint16_t
 /* The spells that contain at least one of the days, which rise strictly. No looks are reported. Refusals: 3, 10, 11. */
 phayaklit_reply phayaklit_days(const uint16_t *index, const uint16_t *days, size_t days_length, uint16_t *numbers,
                                size_t numbers_length);
+
+/* The spells that contain at least one of the ticked days: bit i of the mask, bit 0 the lowest, ticks the day base + i. `ticked` is how
+ * many days are ticked. No looks are reported. An empty mask lists nobody, whatever its base. Refusals: 3, 11. */
+phayaklit_reply phayaklit_mask(const uint16_t *index, uint16_t base, uint64_t mask, uint16_t *numbers, size_t numbers_length);
 
 #ifdef __cplusplus
 }

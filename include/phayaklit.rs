@@ -13,7 +13,7 @@ use core::error::Error;
 use core::fmt::{self, Display, Formatter};
 
 /// The version of the functions and of what the blocks hold, as this module knows them; `version` is the archive's.
-pub const VERSION: u32 = 1;
+pub const VERSION: u32 = 2;
 
 /// The sizes of the two blocks, in words.
 pub const SERVICE_WORDS: usize = 7746;
@@ -118,11 +118,13 @@ pub struct Spell {
     pub urgency: Urgency,
 }
 
-/// The answer of a question beside its list: how many spells it lists, and the looks (0 for several days).
-#[derive(Clone, Copy, PartialEq, Eq, Debug)]
+/// The answer of a question beside its list: how many spells it lists, the looks (0 for several days and for a mask), and how many days
+/// a mask ticks.
+#[derive(Clone, Copy, PartialEq, Eq, Debug, Default)]
 pub struct Listed {
     pub count: usize,
     pub looks: usize,
+    pub ticked: usize,
 }
 
 /// A refused register text: why, and on which line, counted from 1.
@@ -303,10 +305,15 @@ impl<'a> Published<'a> {
         let (asked, length) = (days.as_ptr(), days.len());
         listed(unsafe { ffi::phayaklit_days(self.0.as_ptr(), asked, length, numbers.as_mut_ptr(), numbers.len()) })
     }
+
+    /// The spells that contain at least one of the ticked days: bit i of the mask, bit 0 the lowest, ticks the day base + i.
+    pub fn mask(self, base: u16, mask: u64, numbers: &mut [u16]) -> Result<Listed, Refusal> {
+        listed(unsafe { ffi::phayaklit_mask(self.0.as_ptr(), base, mask, numbers.as_mut_ptr(), numbers.len()) })
+    }
 }
 
 fn listed(reply: ffi::Reply) -> Result<Listed, Refusal> {
-    accepted(reply.refusal).map(|()| Listed { count: reply.count, looks: reply.looks })
+    accepted(reply.refusal).map(|()| Listed { count: reply.count, looks: reply.looks, ticked: reply.ticked })
 }
 
 impl From<Spell> for ffi::Entry {
@@ -340,6 +347,7 @@ mod ffi {
         pub count: usize,
         pub looks: usize,
         pub length: usize,
+        pub ticked: usize,
     }
 
     #[repr(C)]
@@ -352,9 +360,9 @@ mod ffi {
         assert!(offset_of!(Entry, number) == 0 && offset_of!(Entry, candidate) == 2 && offset_of!(Entry, first) == 4);
         assert!(offset_of!(Entry, last) == 6 && offset_of!(Entry, kind) == 8 && offset_of!(Entry, value) == 12);
         assert!(offset_of!(Reply, refusal) == 0 && offset_of!(Reply, count) == 8);
-        assert!(offset_of!(Reply, looks) == 16 && offset_of!(Reply, length) == 24);
+        assert!(offset_of!(Reply, looks) == 16 && offset_of!(Reply, length) == 24 && offset_of!(Reply, ticked) == 32);
         assert!(offset_of!(Opened, refusal) == 0 && offset_of!(Opened, line) == 2);
-        assert!(size_of::<Entry>() == 16 && size_of::<Reply>() == 32 && size_of::<Opened>() == 4);
+        assert!(size_of::<Entry>() == 16 && size_of::<Reply>() == 40 && size_of::<Opened>() == 4);
     };
 
     #[link(name = "phayaklit", kind = "static")]
@@ -379,5 +387,6 @@ mod ffi {
             numbers: *mut u16,
             length: usize,
         ) -> Reply;
+        pub fn phayaklit_mask(index: *const u16, base: u16, mask: u64, numbers: *mut u16, length: usize) -> Reply;
     }
 }

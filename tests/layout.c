@@ -19,7 +19,8 @@ static_assert(offsetof(phayaklit_reply, refusal) == 0, "refusal");
 static_assert(offsetof(phayaklit_reply, count) == 8, "count");
 static_assert(offsetof(phayaklit_reply, looks) == 16, "looks");
 static_assert(offsetof(phayaklit_reply, length) == 24, "length");
-static_assert(sizeof(phayaklit_reply) == 32, "reply");
+static_assert(offsetof(phayaklit_reply, ticked) == 32, "ticked");
+static_assert(sizeof(phayaklit_reply) == 40, "reply");
 
 static_assert(offsetof(phayaklit_opened, refusal) == 0, "refusal");
 static_assert(offsetof(phayaklit_opened, line) == 2, "line");
@@ -48,6 +49,12 @@ static void replied(const char *call, phayaklit_reply reply, uint16_t refusal, s
     same(what, reply.looks, looks);
     snprintf(what, sizeof what, "%s: length", call);
     same(what, reply.length, length);
+}
+
+/* A mask with its number of days ticked, which other calls have as 0. */
+static void ticked(const char *call, phayaklit_reply reply, uint16_t refusal, size_t count, size_t days) {
+    replied(call, reply, refusal, count, 0, 0);
+    same(call, reply.ticked, days);
 }
 
 /* Each field is set by its name, and not by its place. */
@@ -91,6 +98,11 @@ int main(void) {
     same("read: line", opened.line, 0);
     replied("publish", phayaklit_publish(service, published), 0, 0, 0, 0);
     replied("day 7", phayaklit_day(published, 7, numbers, PHAYAKLIT_SPELLS), 0, 3, 4, 0);
+    same("day 7: ticked", phayaklit_day(published, 7, numbers, PHAYAKLIT_SPELLS).ticked, 0);
+    ticked("the mask of days 4 and 11", phayaklit_mask(published, 4, 0x81, numbers, PHAYAKLIT_SPELLS), 0, 3, 2);
+    ticked("a mask off the calendar", phayaklit_mask(published, 65535, UINT64_C(1) << 63, numbers, PHAYAKLIT_SPELLS), 3, 0, 0);
+    ticked("an empty mask into no place", phayaklit_mask(published, 65535, 0, numbers, 0), 0, 0, 0);
+    ticked("a mask into two places", phayaklit_mask(published, 4, 0x81, numbers, 2), 11, 0, 0);
     replied("write", phayaklit_write(service, text, sizeof text), 0, 0, 0, 94);
     opened = read_text("11\t7\t1\t10\tG\t2\n12\t8\t3\t4\tC\t3F800000\n13\n");
     same("a bad line: refusal", opened.refusal, PHAYAKLIT_MALFORMED);

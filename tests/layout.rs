@@ -57,12 +57,15 @@ fn main() -> Result<(), Box<dyn Error>> {
     let asked = first.published();
     let mut second = phayaklit::fresh_index(&mut two)?;
     let mut numbers = [0; phayaklit::SPELLS];
-    assert_eq!(second.published().day(7, &mut numbers)?, Listed { count: 0, looks: 0 });
+    assert_eq!(second.published().day(7, &mut numbers)?, Listed::default());
     service.publish(&mut second);
     for published in [asked, second.published()] {
-        assert_eq!(published.day(7, &mut numbers)?, Listed { count: 3, looks: 4 });
+        assert_eq!(published.day(7, &mut numbers)?, Listed { count: 3, looks: 4, ticked: 0 });
         assert_eq!(numbers[..4], [11, 13, 15, 0]);
     }
+    let reviewed = asked.mask(4, 0x81, &mut numbers)?;
+    assert_eq!((reviewed, &numbers[..4]), (Listed { count: 3, looks: 0, ticked: 2 }, &[11, 12, 15, 0][..]));
+    assert_eq!(asked.mask(65_535, 1 << 63, &mut numbers), Err(Refusal::OFF_CALENDAR));
     assert_eq!(first.words(), second.words());
     assert_eq!(service.write(&mut text)?, 94);
 

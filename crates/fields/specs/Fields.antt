@@ -110,3 +110,7 @@ readHex (suc k) v (b ∷ s) = cond (ltb (hexValue b) 16) (readHex k (16 * v + he
 -- eight hex digits and the byte e that ends them
 abbrev pub readBits : ℕ → List ℕ → Found ℕ
 readBits e s = onward (readHex 8 0 s) (passed e)
+
+-- sixteen, of a mask
+abbrev pub readMask : ℕ → List ℕ → Found ℕ
+readMask e s = onward (readHex 16 0 s) (passed e)

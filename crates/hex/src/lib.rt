@@ -3,7 +3,7 @@
 ghost use mathlib.Core.Path.{_≡_};
 ghost use Prim.Native.Nat.{_<_, _≤_};
 ghost use lib.ListN.{drop};
-ghost use Rattle.fields.specs.Fields.{hexValue, readHex, readBits, hexDigit, bitsText};
+ghost use Rattle.fields.specs.Fields.{hexValue, readHex, readBits, readMask, hexDigit, bitsText};
 ghost use Rattle.fields.specs.Answers.{lengthAt, lengthOf, Reads, Puts};
 use fields::Length;
 
@@ -59,6 +59,14 @@ pub fn read_bits(text: &[u8], at: usize, end: u8) -> Length
     ensures { λ r. ⌜ Reads lengthAt lengthOf (now (text .entry)) r (readBits end (drop at (now (text .entry)))) ⌝ }
 {
     let value = read_hex(text, at, 8);
+    fields::read_end(text, value, end)
+}
+
+// The sixteen hex digits of a mask of 64 bits at `at` and the byte that ends them.
+pub fn read_mask(text: &[u8], at: usize, end: u8) -> Length
+    ensures { λ r. ⌜ Reads lengthAt lengthOf (now (text .entry)) r (readMask end (drop at (now (text .entry)))) ⌝ }
+{
+    let value = read_hex(text, at, 16);
     fields::read_end(text, value, end)
 }
 

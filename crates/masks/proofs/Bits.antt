@@ -88,7 +88,15 @@ module _ (base mask : ℕ) where
   none-from zero i e = ticks-none i
   none-from (suc n) i e = ticks-not i n (not-set mask i (omega arith)) ∙ none-from n (suc i) (half mask i ∙ ap (λ (x : ℕ). x / 2) e)
 
-  -- they are as many as what is left has ones
+  -- they are as many as the bits at most
+  pub few-from : (n i : ℕ) → length (ticksFrom base mask i n) ≤ n
+  few-from zero i = rw (ticks-none i) (omega arith)
+  few-from (suc n) i = elim (low-bit (mask / 2 ^ i)) [
+    | inl e ↦ rw (ticks-not i n (not-set mask i e)) (omega (arith, few-from n (suc i)))
+    | inr e ↦ rw (ticks-set i n (is-set mask i e)) (omega (arith, few-from n (suc i)))
+  ]
+
+  -- and as many as what is left has ones
   pub count-from : (n i : ℕ) → mask / 2 ^ i < 2 ^ n → length (ticksFrom base mask i n) ≡ ones (mask / 2 ^ i)
   count-from zero i h =
       let z : mask / 2 ^ i ≡ 0 = omega arith in

@@ -2,22 +2,22 @@
 use Rattle.basis.proofs.Prelude.{_≡_, refl, ap, ℕ, zero, suc, _+_, _≤_, _<_, List, List·Memᴰ, [], _∷_, true, false, getD, length, take, length-append, take-append-seam, arith, by-test}
 use Prim.Native.Nat.{_^_}
 use native.Mathlib.Nat.{div-one}
-use lib.Count.{ones, ones-le}
+use lib.Count.{ones}
 use Rattle.buffer.specs.Buffer.{over}
 use Rattle.calendar.specs.Calendar.{daysOk}
 use Rattle.masks.specs.declared.Ticks.{Ticks}
 use Rattle.masks.specs.declared.Ticks.the-variants.{All, Off}
 use Rattle.masks.specs.Masks.{isSet, ticksFrom, ticks}
 use Rattle.masks.specs.Answers.{answered, Answer}
-use Rattle.masks.proofs.Bits.{none-from, count-from, rises-from, bit-of, of-bit}
+use Rattle.masks.proofs.Bits.{none-from, few-from, count-from, rises-from, bit-of, of-bit}
 
 module _ (base mask : ℕ) where
-  -- AS MANY as the mask has ones, and so at most 64
+  -- AS MANY as the mask has ones, and at most 64
   pub as-many : mask < 2 ^ 64 → length (ticks base mask) ≡ ones mask
   as-many fits = rw (div-one mask) at (count-from base mask 64 0 (rw (div-one mask) fits))
 
-  pub in-sheet : mask < 2 ^ 64 → length (ticks base mask) ≤ 64
-  in-sheet fits = rw (as-many fits) (ones-le 64 mask fits)
+  pub in-sheet : length (ticks base mask) ≤ 64
+  in-sheet = few-from base mask 64 0
 
   -- STRICTLY RISING: each is above the one before
   pub rises : (k : ℕ) → suc k < length (ticks base mask) → getD (ticks base mask) k 0 < getD (ticks base mask) (suc k) 0

@@ -79,7 +79,7 @@ module _ {base mask : ℕ} {held days : List ℕ} {left i n : ℕ} (t : Ticking 
         let inside = coming-in _ n _ _ comes in
         record {
           bit = omega (arith, step .within);
-          place = omega (arith, inside, in-sheet base mask (t .fits));
+          place = omega (arith, inside, in-sheet base mask);
           day = rw (coming-is _ n _ _ comes) at (each-on (ticks base mask) n (t .room .on) inside);
         }
 

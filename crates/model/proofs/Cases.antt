@@ -10,9 +10,10 @@ use Rattle.spell.specs.Same.{sameReading, sameOf}
 use Rattle.stabbing.specs.Tree.{below, keep, count, head, next, parent, child, leftSibling, lastChild, fitsAt, start, onPath, formula}
 use Rattle.model.specs.declared.Call.{Call}
 use Rattle.model.specs.declared.Call.the-variants.{Enter, Amend, Strike, TakeBack, Publish, Ask}
-use Rattle.model.specs.declared.Question.the-variants.{Day, Span, Cover, Days}
+use Rattle.model.specs.declared.Question.the-variants.{Day, Span, Cover, Days, Mask}
 use Rattle.model.specs.Edits.{insertBy, remove, idle, enterRefusal, amendRefusal, strikeRefusal, remember}
 use Rattle.calendar.specs.Calendar.{daysOk}
+use Rattle.masks.specs.Masks.{isSet, ticksFrom}
 use Rattle.model.specs.Questions.{onAny, rising, filter, comparisonsOf}
 use Rattle.model.specs.Effects.{settle}
 use Rattle.model.specs.Model.{fresh, Request, Answer, takeBack, cover, ask, effectOf, run}
@@ -136,6 +137,39 @@ pub refusals : map (λ (a : Answer). a .refusal) (run fresh refusing)
 unfolding run settle effectOf takeBack ask cover enterRefusal amendRefusal strikeRefusal insertBy remove remember earlierOf stands idle sameOf isNan toBits
     onAny daysOk rising filter comparisonsOf
 refusals = refl
+
+-- ---- Masks: the number of days ticked in front of the answer
+
+abbrev review : Answer → List ℕ
+review a = a .ticked ∷ told a
+
+abbrev nothing : ℕ → List ℕ
+nothing n = 0 ∷ plain n
+
+-- Days 4 and 11 of register A, as bits 0 and 7 of base 4. Days 0, 4,001 and 65,598 (bit 63 of base 65,535) are off the calendar. An empty
+-- mask of base 65,535 is accepted with no place lent, where a mask that lists somebody is refused with 11 and ticks none.
+abbrev reviewing : List Request
+reviewing = call (Ask (Mask 4 129))
+    ∷ call (Ask (Mask 0 1))
+    ∷ call (Ask (Mask 3937 9223372036854775808))
+    ∷ call (Ask (Mask 3938 9223372036854775808))
+    ∷ call (Ask (Mask 65535 9223372036854775808))
+    ∷ lent [] (Ask (Mask 65535 0))
+    ∷ lent [] (Ask (Mask 4 129))
+    ∷ []
+
+pub masks : map review (run fresh (entering ++ reviewing))
+    ≡ replicate 7 (nothing 0)
+    ++ ((2 ∷ 0 ∷ 3 ∷ 0 ∷ 11 ∷ 12 ∷ 15 ∷ 99 ∷ 99 ∷ 99 ∷ [])
+    ∷ nothing 3
+    ∷ (1 ∷ plain 0)
+    ∷ nothing 3
+    ∷ nothing 3
+    ∷ (0 ∷ 0 ∷ 0 ∷ 0 ∷ [])
+    ∷ (0 ∷ 11 ∷ 0 ∷ 0 ∷ [])
+    ∷ [])
+unfolding run settle effectOf ask enterRefusal insertBy remember earlierOf stands isNan toBits ofBits onAny daysOk rising filter ticksFrom isSet
+masks = refl
 
 -- ---- Edits, and what a day lists before and after they are published
 

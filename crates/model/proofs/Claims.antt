@@ -4,13 +4,15 @@ use Rattle.refusal.specs.Table.{accepted}
 use Rattle.spell.specs.declared.Spell.{Spell}
 use Rattle.spell.specs.Order.{ordered}
 use Rattle.spell.specs.Listing.{distinct}
+use Rattle.masks.specs.Masks.{ticks}
+use Rattle.masks.proofs.Claims.{in-sheet}
 use Rattle.model.specs.declared.Call.the-variants.{Publish, Ask}
-use Rattle.model.specs.declared.Question.the-variants.{Day, Span, Cover, Days}
+use Rattle.model.specs.declared.Question.the-variants.{Day, Span, Cover, Days, Mask}
 use Rattle.model.specs.Questions.{onDay, onSpan, covers, onAny, filter, listed, comparisonsOf}
 use Rattle.model.specs.Effects.{State, Request, Answer, After, Effect, refused, done, gives, writes, refuse, gave, settle}
-use Rattle.model.specs.Model.{ask, effectOf, stepOf, step}
+use Rattle.model.specs.Model.{several, ask, effectOf, stepOf, step}
 use Rattle.model.specs.Journal.{reads}
-use Rattle.model.proofs.Effects.{Comes, settles, Refusing, call-does, reads-every, every, day-does, span-does, cover-does, days-does}
+use Rattle.model.proofs.Effects.{Comes, settles, Refusing, call-does, reads-every, every, day-does, span-does, cover-does, several-does}
 use Rattle.model.proofs.Filter.{filter-in, in-filter, filter-ordered, filter-distinct}
 use Rattle.model.proofs.Bridge.{comparisons-le}
 
@@ -24,10 +26,10 @@ module _ (m : State) (q : Request) where
   fair-effect : (e : Effect) → Comes Fair m q e
   fair-effect (refused n) = inr refl
   fair-effect (done m′) = inl refl
-  fair-effect (gives ns c) = inl refl
+  fair-effect (gives ns c t) = inl refl
   fair-effect (writes t) = inl refl
 
-  -- A REFUSED CALL changes nothing: its count, looks and length are 0, and its lent lists keep every place
+  -- A REFUSED CALL changes nothing: its count, looks, length and days ticked are 0, and its lent lists keep every place
   pub refused-keeps : (step m q .answer .refusal ≡ accepted → ⊥) → step m q ≡ refuse (step m q .answer .refusal) m q
   refused-keeps h =
       let e : Effect = effectOf (q .call) (q .days) m in
@@ -35,15 +37,16 @@ module _ (m : State) (q : Request) where
 
   -- ---- The answer of a question
 
-  -- a's first places are the numbers of the published spells that pass t, its later places as before; its looks are c
-  pub record Lists (t : Spell → Bool) (c : ℕ) (a : Answer) : Type 0 where
+  -- a's first places are the numbers of the published spells that pass t, its later places as before; its looks are c, and n days are ticked
+  pub record Lists (t : Spell → Bool) (c n : ℕ) (a : Answer) : Type 0 where
     pub count : a .count ≡ length (listed t (m .published))
     pub numbers : a .numbers ≡ listed t (m .published) ++ drop (a .count) (q .numbers)
     pub comparisons : a .comparisons ≡ c
+    pub ticked : a .ticked ≡ n
     pub text : a .text ≡ q .text
 
-  lists : (t : Spell → Bool) (c : ℕ) → Lists t c (gave (listed t (m .published)) c m q .answer)
-  lists t c = record { count = refl; numbers = refl; comparisons = refl; text = refl }
+  lists : (t : Spell → Bool) (c n : ℕ) → Lists t c n (gave (listed t (m .published)) c n m q .answer)
+  lists t c n = record { count = refl; numbers = refl; comparisons = refl; ticked = refl; text = refl }
 
   -- P holds of the answer of an effect that is accepted
   abbrev Accepted : (Answer → Type 0) → Effect → Type 0
@@ -54,46 +57,56 @@ module _ (m : State) (q : Request) where
 
   -- AN ACCEPTED DAY lists the spells with first ≤ d ≤ last, its looks by the formula
   pub day-lists : (d : ℕ) → stepOf (Ask (Day d)) m q .answer .refusal ≡ accepted
-      → Lists (onDay d) (comparisonsOf d d (m .published)) (stepOf (Ask (Day d)) m q .answer)
+      → Lists (onDay d) (comparisonsOf d d (m .published)) 0 (stepOf (Ask (Day d)) m q .answer)
   unfolding effectOf
   day-lists d =
-      let P : Answer → Type 0 = Lists (onDay d) (comparisonsOf d d (m .published)) in
-      accepting P _ (λ no. day-does (Accepted P) no (m .published) d (q .days) (λ _. lists (onDay d) _))
+      let P : Answer → Type 0 = Lists (onDay d) (comparisonsOf d d (m .published)) 0 in
+      accepting P _ (λ no. day-does (Accepted P) no (m .published) d (q .days) (λ _. lists (onDay d) _ 0))
 
   -- AN ACCEPTED SPAN lists the spells with first ≤ b and last ≥ a, its looks by the formula
   pub span-lists : (a b : ℕ) → stepOf (Ask (Span a b)) m q .answer .refusal ≡ accepted
-      → Lists (onSpan a b) (comparisonsOf b a (m .published)) (stepOf (Ask (Span a b)) m q .answer)
+      → Lists (onSpan a b) (comparisonsOf b a (m .published)) 0 (stepOf (Ask (Span a b)) m q .answer)
   unfolding effectOf
   span-lists a b =
-      let P : Answer → Type 0 = Lists (onSpan a b) (comparisonsOf b a (m .published)) in
-      accepting P _ (λ no. span-does (Accepted P) no (m .published) a b (q .days) (λ _. lists (onSpan a b) _))
+      let P : Answer → Type 0 = Lists (onSpan a b) (comparisonsOf b a (m .published)) 0 in
+      accepting P _ (λ no. span-does (Accepted P) no (m .published) a b (q .days) (λ _. lists (onSpan a b) _ 0))
 
   -- the cover of a published spell x with the number k
   pub record Covers (k : ℕ) (a : Answer) : Type 0 where
     pub of : Spell
     pub published : List·Memᴰ of (m .published)
     pub number : of .number ≡ k
-    pub lists : Lists (covers of) (comparisonsOf (of .first) (of .last) (m .published)) a
+    pub lists : Lists (covers of) (comparisonsOf (of .first) (of .last) (m .published)) 0 a
 
   -- AN ACCEPTED COVER lists the spells with first ≤ the first and last ≥ the last of a published spell of that number
   pub cover-lists : (k : ℕ) → stepOf (Ask (Cover k)) m q .answer .refusal ≡ accepted → Covers k (stepOf (Ask (Cover k)) m q .answer)
   unfolding effectOf ask
   cover-lists k =
       accepting (Covers k) _ (λ no. cover-does (Accepted (Covers k)) no (m .published) k (m .published)
-      (λ x i e _. record { of = x; published = i; number = e; lists = lists (covers x) _ }))
+      (λ x i e _. record { of = x; published = i; number = e; lists = lists (covers x) _ 0 }))
+
+  several-lists : (ds : List ℕ) (n : ℕ) → settle (several ds n (m .published)) m q .answer .refusal ≡ accepted
+      → Lists (onAny ds) 0 n (settle (several ds n (m .published)) m q .answer)
+  several-lists ds n =
+      let P : Answer → Type 0 = Lists (onAny ds) 0 n in
+      accepting P _ (λ no. several-does (Accepted P) no (m .published) ds n (λ _. lists (onAny ds) 0 n))
 
   -- ACCEPTED DAYS list the spells that contain at least one of them, and report no looks
-  pub days-lists : stepOf (Ask Days) m q .answer .refusal ≡ accepted → Lists (onAny (q .days)) 0 (stepOf (Ask Days) m q .answer)
-  unfolding effectOf
-  days-lists =
-      let P : Answer → Type 0 = Lists (onAny (q .days)) 0 in
-      accepting P _ (λ no. days-does (Accepted P) no (m .published) (q .days) (λ _. lists (onAny (q .days)) 0))
+  pub days-lists : stepOf (Ask Days) m q .answer .refusal ≡ accepted → Lists (onAny (q .days)) 0 0 (stepOf (Ask Days) m q .answer)
+  unfolding effectOf ask
+  days-lists = several-lists (q .days) 0
+
+  -- AN ACCEPTED MASK lists the spells that contain at least one of the ticked days, and tells how many are ticked
+  pub mask-lists : (b k : ℕ) → stepOf (Ask (Mask b k)) m q .answer .refusal ≡ accepted
+      → Lists (onAny (ticks b k)) 0 (length (ticks b k)) (stepOf (Ask (Mask b k)) m q .answer)
+  unfolding effectOf ask
+  mask-lists b k = several-lists (ticks b k) (length (ticks b k))
 
   -- ---- What a call leaves as it is
 
   -- QUESTIONS AND WRITING leave the state as it is
   pub reads-keep : reads (q .call) ≡ true → step m q .state ≡ m
-  reads-keep = reads-every (λ x. x .state ≡ m) m q (record { refusing = λ n _. refl; asked = λ h l. refl; several = refl }) refl
+  reads-keep = reads-every (λ x. x .state ≡ m) m q (record { refusing = λ n _. refl; asked = λ h l. refl; several = refl; masked = λ b k. refl }) refl
 
   abbrev SamePublished : After → Type 0
   SamePublished x = x .state .published ≡ m .published
@@ -102,7 +115,7 @@ module _ (m : State) (q : Request) where
   pub published-kept : (q .call ≡ Publish → ⊥) → step m q .state .published ≡ m .published
   published-kept other =
       settles SamePublished m q refl (effectOf (q .call) (q .days) m)
-      (call-does (Comes SamePublished m q) (q .days) m (record { refusing = λ n _. refl; asked = λ h l. refl; several = refl }) refl (q .call)
+      (call-does (Comes SamePublished m q) (q .days) m (record { refusing = λ n _. refl; asked = λ h l. refl; several = refl; masked = λ b k. refl }) refl (q .call)
       (λ _ l p. refl) (λ e. absurd (other e)))
 
   -- ---- The looks
@@ -110,7 +123,15 @@ module _ (m : State) (q : Request) where
   -- THE LOOKS of any call are at most three times its count
   pub comparisons-few : step m q .answer .comparisons ≤ 3 * step m q .answer .count
   comparisons-few = every (λ x. x .answer .comparisons ≤ 3 * x .answer .count) m q
-      (record { refusing = λ n _. omega arith; asked = λ h l. comparisons-le h l (m .published); several = omega arith })
+      (record { refusing = λ n _. omega arith; asked = λ h l. comparisons-le h l (m .published); several = omega arith; masked = λ b k. omega arith })
+      (omega arith) (λ m′. omega arith)
+
+  -- ---- The days ticked
+
+  -- THE DAYS TICKED are at most 64
+  pub ticked-few : step m q .answer .ticked ≤ 64
+  ticked-few = every (λ x. x .answer .ticked ≤ 64) m q
+      (record { refusing = λ n _. omega arith; asked = λ h l. omega arith; several = omega arith; masked = λ b k. in-sheet b k })
       (omega arith) (λ m′. omega arith)
 
 -- ---- What is listed

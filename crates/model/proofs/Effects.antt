@@ -5,14 +5,15 @@ use Rattle.refusal.specs.Table.{accepted, offCalendar, reversed, unknownNumber,
 use Rattle.spell.specs.declared.Spell.{Spell}
 use Rattle.calendar.specs.Calendar.{isDay, daysOk}
 use Rattle.register.specs.Text.{writeAll}
+use Rattle.masks.specs.Masks.{ticks}
 use Rattle.model.specs.declared.Call.{Call}
 use Rattle.model.specs.declared.Call.the-variants.{Enter, Amend, Strike, TakeBack, Publish, Write, Ask}
 use Rattle.model.specs.declared.Question.{Question}
-use Rattle.model.specs.declared.Question.the-variants.{Day, Span, Cover, Days}
+use Rattle.model.specs.declared.Question.the-variants.{Day, Span, Cover, Days, Mask}
 use Rattle.model.specs.Edits.{insert, remove, replace, idle, enterRefusal, amendRefusal, strikeRefusal, takeBackRefusal, remember, frontOr, restOf}
 use Rattle.model.specs.Questions.{onAny, rising, listed}
 use Rattle.model.specs.Effects.{State, withStanding, Request, After, Effect, refused, done, gives, writes, refuse, gave, wrote, settle}
-use Rattle.model.specs.Model.{become, edit, amend, takeBack, publish, reaching, cover, ask, effectOf, step}
+use Rattle.model.specs.Model.{become, edit, amend, takeBack, publish, reaching, several, cover, ask, effectOf, step}
 use Rattle.model.specs.Journal.{reads}
 use Rattle.model.proofs.Rules.{fits-given, short-refused, text-fits, text-short}
 
@@ -23,17 +24,17 @@ module _ (P : After → Type 0) (m : State) (q : Request) where
   abbrev pub Comes : Effect → Type 0
   Comes (refused n) = P (refuse n m q)
   Comes (done m′) = P (refuse accepted m′ q)
-  Comes (gives ns c) = P (gave ns c m q)
+  Comes (gives ns c t) = P (gave ns c t m q)
   Comes (writes t) = P (wrote t m q)
 
   pub settles : P (refuse shortBuffer m q) → (e : Effect) → Comes e → P (settle e m q)
   unfolding settle
   settles short (refused n) p = p
   settles short (done m′) p = p
-  settles short (gives ns c) p =
+  settles short (gives ns c t) p =
       by-test (leb (length ns) (length (q .numbers)))
-      (λ e. rw (fits-given m q ns c (leb-true (length ns) (length (q .numbers)) e)) p)
-      (λ e. rw (short-refused m q ns c (leb-false (length ns) (length (q .numbers)) e)) short)
+      (λ e. rw (fits-given m q ns c t (leb-true (length ns) (length (q .numbers)) e)) p)
+      (λ e. rw (short-refused m q ns c t (leb-false (length ns) (length (q .numbers)) e)) short)
   settles short (writes t) p =
       by-test (leb (length t) (length (q .text)))
       (λ e. rw (text-fits m q t (leb-true (length t) (length (q .text)) e)) p)
@@ -62,7 +63,8 @@ module _ (F : Effect → Type 0) where
   pub record Asking (ds : List ℕ) (p : List Spell) : Type 0 where
     pub refusing : Refusing
     pub asked : (h l : ℕ) → F (reaching h l p)
-    pub several : F (gives (listed (onAny ds) p) 0)
+    pub several : F (gives (listed (onAny ds) p) 0 0)
+    pub masked : (base mask : ℕ) → F (gives (listed (onAny (ticks base mask)) p) 0 (length (ticks base mask)))
 
   module _ (no : Refusing) (p : List Spell) where
     pub day-does : (d : ℕ) (ds : List ℕ) → F (reaching d d p) → F (ask (Day d) ds p)
@@ -84,18 +86,19 @@ module _ (F : Effect → Type 0) where
         by-cases F (eqb (x .number) k) (λ e. asked x (List·Memᴰ·head refl) (eqb-true (x .number) k e))
         (λ _. cover-does k l (λ y i e. asked y (List·Memᴰ·tail i) e))
 
-    pub days-does : (ds : List ℕ) → F (gives (listed (onAny ds) p) 0) → F (ask Days ds p)
-    unfolding ask
-    days-does ds several =
+    -- days, and a mask, whose days are the ticked ones
+    pub several-does : (ds : List ℕ) (n : ℕ) → F (gives (listed (onAny ds) p) 0 n) → F (several ds n p)
+    several-does ds n asked =
         by-cases F (daysOk ds)
-        (λ _. by-cases F (rising ds) (λ _. several) (λ _. no unsortedDays (λ e. omega arith)))
+        (λ _. by-cases F (rising ds) (λ _. asked) (λ _. no unsortedDays (λ e. omega arith)))
         (λ _. no offCalendar (λ e. omega arith))
 
   pub asks-does : {ds : List ℕ} {p : List Spell} → Asking ds p → (w : Question) → F (ask w ds p)
   asks-does {ds} {p} a (Day d) = day-does (a .refusing) p d ds (a .asked d d)
   asks-does {ds} {p} a (Span b c) = span-does (a .refusing) p b c ds (a .asked c b)
   asks-does {ds} {p} a (Cover k) = unfold ask in cover-does (a .refusing) p k p (λ x i e. a .asked (x .first) (x .last))
-  asks-does {ds} {p} a Days = days-does (a .refusing) p ds (a .several)
+  asks-does {ds} {p} a Days = unfold ask in several-does (a .refusing) p ds 0 (a .several)
+  asks-does {ds} {p} a (Mask b k) = unfold ask in several-does (a .refusing) p (ticks b k) (length (ticks b k)) (a .masked b k)
 
   module _ (ds : List ℕ) (m : State) (a : Asking ds (m .published)) (written : F (writes (writeAll (m .standing)))) where
     -- any call: an edit or a take back may leave any standing list and any past

@@ -82,7 +82,7 @@ module _ (P : Spell → Type 0) where
     call-keeps TakeBack b = back-keeps (m .past) (k .past) (k .depth)
     call-keeps Publish b = record { standing = k .standing; past = k .past; depth = k .depth; published = k .standing }
     call-keeps Write b = k
-    call-keeps (Ask w) b = asks-does Keeps (record { refusing = λ n _. k; asked = λ h l. k; several = k }) w
+    call-keeps (Ask w) b = asks-does Keeps (record { refusing = λ n _. k; asked = λ h l. k; several = k; masked = λ b n. k }) w
 
     pub step-kept : Brings P (q .call) → Kept P (step m q .state)
     step-kept b = settles (λ (x : After). Kept P (x .state)) m q k (effectOf (q .call) (q .days) m) (call-keeps (q .call) b)

@@ -3,6 +3,7 @@ pub mod Effects
 pub mod Filter
 pub mod Bridge
 pub mod Claims
+pub mod Masks
 pub mod Checks
 pub mod Edits
 pub mod Idle

@@ -32,13 +32,13 @@ module _ (m : State) (q : Request) where
   -- ---- The short list
 
   -- NUMBERS THAT FIT the lent list are given, and others are refused with 11; so is a text
-  pub fits-given : (ns : List ℕ) (looks : ℕ) → length ns ≤ length (q .numbers) → settle (gives ns looks) m q ≡ gave ns looks m q
+  pub fits-given : (ns : List ℕ) (looks ticked : ℕ) → length ns ≤ length (q .numbers) → settle (gives ns looks ticked) m q ≡ gave ns looks ticked m q
   unfolding settle
-  fits-given ns looks h = rw (le-leb (length ns) (length (q .numbers)) h)
+  fits-given ns looks ticked h = rw (le-leb (length ns) (length (q .numbers)) h)
 
-  pub short-refused : (ns : List ℕ) (looks : ℕ) → length (q .numbers) < length ns → settle (gives ns looks) m q ≡ refuse shortBuffer m q
+  pub short-refused : (ns : List ℕ) (looks ticked : ℕ) → length (q .numbers) < length ns → settle (gives ns looks ticked) m q ≡ refuse shortBuffer m q
   unfolding settle
-  short-refused ns looks h = rw (lt-leb (length ns) (length (q .numbers)) h)
+  short-refused ns looks ticked h = rw (lt-leb (length ns) (length (q .numbers)) h)
 
   pub text-fits : (t : List ℕ) → length t ≤ length (q .text) → settle (writes t) m q ≡ wrote t m q
   unfolding settle

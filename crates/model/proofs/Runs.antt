@@ -8,15 +8,16 @@ use Rattle.spell.proofs.Order.{each-member, each-map}
 use Rattle.register.specs.Text.{writeAll, readText}
 use Rattle.register.specs.Text.Register.{good}
 use Rattle.register.proofs.Claims.{list-again}
+use Rattle.masks.specs.Masks.{ticks}
 use Rattle.model.specs.declared.Call.the-variants.{Amend, Ask}
 use Rattle.model.specs.declared.Question.{Question}
-use Rattle.model.specs.declared.Question.the-variants.{Day, Span, Cover, Days}
+use Rattle.model.specs.declared.Question.the-variants.{Day, Span, Cover, Days, Mask}
 use Rattle.model.specs.Edits.{idle}
 use Rattle.model.specs.Questions.{reaches, onDay, onSpan, covers, onAny, filter}
 use Rattle.model.specs.Effects.{refuse}
 use Rattle.model.specs.Model.{State, Request, Answer, stepOf, step, run}
 use Rattle.model.specs.Reached.{Begun, after, Kept, Passes, Brings}
-use Rattle.model.proofs.Claims.{Lists, day-lists, span-lists, cover-lists, days-lists, listed-exactly, listed-ordered, listed-once}
+use Rattle.model.proofs.Claims.{Lists, day-lists, span-lists, cover-lists, days-lists, mask-lists, listed-exactly, listed-ordered, listed-once}
 use Rattle.model.proofs.Edits.{one-spell}
 use Rattle.model.proofs.Idle.{idle-itself, idle-member}
 use Rattle.model.proofs.Editing.{idle-keeps}
@@ -66,12 +67,17 @@ always-real {m₀} begin calls b s sound =
 
 -- ---- The answers of the questions
 
+-- the spell x contains at least one of the days
+abbrev pub Contains : List ℕ → Spell → Type 0
+Contains ds x = (d : ℕ) × List·Memᴰ d ds × (x .first ≤ d) × (d ≤ x .last)
+
 -- what the line of a question says of the spell x; ds are the days of a days question, p is the published list
 abbrev pub Fits : Question → List ℕ → List Spell → Spell → Type 0
 Fits (Day d) ds p x = (x .first ≤ d) × (d ≤ x .last)
 Fits (Span a b) ds p x = (x .first ≤ b) × (a ≤ x .last)
 Fits (Cover k) ds p x = (y : Spell) × List·Memᴰ y p × (y .number ≡ k) × (x .first ≤ y .first) × (y .last ≤ x .last)
-Fits Days ds p x = (d : ℕ) × List·Memᴰ d ds × (x .first ≤ d) × (d ≤ x .last)
+Fits Days ds p x = Contains ds x
+Fits (Mask b k) ds p x = Contains (ticks b k) x
 
 -- the answer a is the numbers of the spells that fit, each once, in the order, in the first places of the lent list, with their count;
 -- later places keep what they held
@@ -89,7 +95,7 @@ reaching h l x = (
   λ f. rw (le-leb (x .first) h (f .0), le-leb l (x .last) (f .1)),
 )
 
-on-any : (ds : List ℕ) (x : Spell) → onAny ds x ≡ true → Fits Days ds [] x
+on-any : (ds : List ℕ) (x : Spell) → onAny ds x ≡ true → Contains ds x
 unfolding onAny
 on-any [] x e = absurd (false≢true e)
 on-any (d ∷ ds) x e = elim (either (onDay d x) (onAny ds x) e) [
@@ -107,9 +113,12 @@ any-on (e ∷ ds) x d i f = go (onDay e x) refl (List·Memᴰ·cases-cons i) (λ
     go false h (inl s) on = absurd (false≢true (sym h ∙ ap (λ (z : ℕ). onDay z x) (sym s) ∙ reaching d d x .1 f))
     go false h (inr j) on = on j
 
+on-days : (ds : List ℕ) (x : Spell) → (onAny ds x ≡ true) ↔ Contains ds x
+on-days ds x = (on-any ds x, λ f. any-on ds x (f .0) (f .1) (f .2, f .3))
+
 module _ (m : State) (unique : distinct (m .published) ≡ true) (sorted : ordered (m .published) ≡ true) (q : Request) where
-  answered : (w : Question) (t : Spell → Bool) {c : ℕ} {a : Answer} → ((x : Spell) → (t x ≡ true) ↔ Fits w (q .days) (m .published) x)
-      → Lists m q t c a → Answered m q w a
+  answered : (w : Question) (t : Spell → Bool) {c n : ℕ} {a : Answer} → ((x : Spell) → (t x ≡ true) ↔ Fits w (q .days) (m .published) x)
+      → Lists m q t c n a → Answered m q w a
   answered w t is l =
       let e = listed-exactly t (m .published) in
       record {
@@ -132,7 +141,8 @@ module _ (m : State) (unique : distinct (m .published) ≡ true) (sorted : order
             let same = one-spell (m .published) unique (f .0) (c .of) (f .1) (c .published) (f .2 ∙ sym (c .number)) in
             reaching (c .of .first) (c .of .last) x .1 (rw same at (f .3), rw same at (f .4)),
       )) (c .lists)
-  answers Days r = answered Days (onAny (q .days)) (λ x. (on-any (q .days) x, λ f. any-on (q .days) x (f .0) (f .1) (f .2, f .3))) (days-lists m q r)
+  answers Days r = answered Days (onAny (q .days)) (on-days (q .days)) (days-lists m q r)
+  answers (Mask b k) r = answered (Mask b k) (onAny (ticks b k)) (on-days (ticks b k)) (mask-lists m q b k r)
 
 -- EACH ONCE, IN THE ORDER: after every list of calls, begun fresh or on any text, an accepted question's answer is the numbers of the
 -- published spells that fit, each once, in the order, and their count

@@ -35,12 +35,13 @@ pub record Request : Type 0 where
   pub numbers : List ℕ
   pub text : List ℕ
 
--- the refusal's number or 0; k; the looks; the length of a written text; every place of the lent lists
+-- the refusal's number or 0; k; the looks; the length of a written text; the number of days ticked; every place of the lent lists
 pub record Answer : Type 0 where
   pub refusal : ℕ
   pub count : ℕ
   pub comparisons : ℕ
   pub length : ℕ
+  pub ticked : ℕ
   pub numbers : List ℕ
   pub text : List ℕ
 
@@ -55,32 +56,32 @@ pub data Effect : Type 0 where
   refused : ℕ → Effect
   -- it is accepted, leaves this state, and answers no more
   done : State → Effect
-  -- it gives these spell numbers, with so many looks
-  gives : List ℕ → ℕ → Effect
+  -- it gives these spell numbers, with so many looks and so many days ticked
+  gives : List ℕ → ℕ → ℕ → Effect
   -- it writes this text
   writes : List ℕ → Effect
 
 -- ---- What comes of it
 
--- a number and no more: count, looks and length are 0, and the lent lists keep every place
+-- a number and no more: count, looks, length and days ticked are 0, and the lent lists keep every place
 abbrev pub refuse : ℕ → State → Request → After
 refuse n m q = record {
   state = m;
-  answer = record { refusal = n; count = 0; comparisons = 0; length = 0; numbers = q .numbers; text = q .text };
+  answer = record { refusal = n; count = 0; comparisons = 0; length = 0; ticked = 0; numbers = q .numbers; text = q .text };
 }
 
--- spell numbers, their count and the looks
-abbrev pub gave : List ℕ → ℕ → State → Request → After
-gave ns looks m q = record {
+-- spell numbers, their count, the looks and the days ticked
+abbrev pub gave : List ℕ → ℕ → ℕ → State → Request → After
+gave ns looks ticked m q = record {
   state = m;
-  answer = record { refusal = accepted; count = length ns; comparisons = looks; length = 0; numbers = over ns (q .numbers); text = q .text };
+  answer = record { refusal = accepted; count = length ns; comparisons = looks; length = 0; ticked = ticked; numbers = over ns (q .numbers); text = q .text };
 }
 
 -- a text and its length
 abbrev pub wrote : List ℕ → State → Request → After
 wrote t m q = record {
   state = m;
-  answer = record { refusal = accepted; count = 0; comparisons = 0; length = length t; numbers = q .numbers; text = over t (q .text) };
+  answer = record { refusal = accepted; count = 0; comparisons = 0; length = length t; ticked = 0; numbers = q .numbers; text = over t (q .text) };
 }
 
 -- An effect on the state m, of the request q. A refused call changes nothing; numbers or a text that exceed the lent list are
@@ -88,5 +89,5 @@ wrote t m q = record {
 unfoldable pub settle : Effect → State → Request → After
 settle (refused n) m q = refuse n m q
 settle (done m′) m q = refuse accepted m′ q
-settle (gives ns looks) m q = cond (leb (length ns) (length (q .numbers))) (gave ns looks m q) (refuse shortBuffer m q)
+settle (gives ns looks ticked) m q = cond (leb (length ns) (length (q .numbers))) (gave ns looks ticked m q) (refuse shortBuffer m q)
 settle (writes t) m q = cond (leb (length t) (length (q .text))) (wrote t m q) (refuse shortBuffer m q)

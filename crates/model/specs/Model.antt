@@ -4,15 +4,17 @@ use Prim.Native.Nat.{ℕ}
 use mathlib.Core.Bool.{_&&_, cond}
 use mathlib.Core.List.{List, [], _∷_}
 use lib.Dec.{leb, eqb}
+use lib.ListN.{length}
 use Rattle.refusal.specs.Table.{accepted, offCalendar, reversed, unknownNumber, unsortedDays}
 use Rattle.spell.specs.declared.Spell.{Spell}
 use Rattle.calendar.specs.Calendar.{isDay, daysOk}
+use Rattle.masks.specs.Masks.{ticks}
 use Rattle.register.specs.Text.{Register, writeAll}
 use Rattle.register.specs.Text.Register.{good, bad}
 use Rattle.model.specs.declared.Call.{Call}
 use Rattle.model.specs.declared.Call.the-variants.{Enter, Amend, Strike, TakeBack, Publish, Write, Ask}
 use Rattle.model.specs.declared.Question.{Question}
-use Rattle.model.specs.declared.Question.the-variants.{Day, Span, Cover, Days}
+use Rattle.model.specs.declared.Question.the-variants.{Day, Span, Cover, Days, Mask}
 use Rattle.model.specs.Edits.{insert, remove, replace, idle, enterRefusal, amendRefusal, strikeRefusal, takeBackRefusal, remember, frontOr, restOf}
 use Rattle.model.specs.Questions.{reaches, onAny, rising, listed, comparisonsOf}
 use Rattle.model.specs.Effects.{Effect, refused, done, gives, writes, settle}
@@ -68,19 +70,25 @@ publish m = done (withPublished (m .standing) m)
 
 -- the spells with first ≤ h and last ≥ l, with their looks
 abbrev pub reaching : ℕ → ℕ → List Spell → Effect
-reaching h l p = gives (listed (reaches h l) p) (comparisonsOf h l p)
+reaching h l p = gives (listed (reaches h l) p) (comparisonsOf h l p) 0
+
+-- the spells that contain at least one of the days ds: 3 over all, then 10; no looks are reported. So many days are ticked.
+abbrev pub several : List ℕ → ℕ → List Spell → Effect
+several ds ticked p = cond (daysOk ds) (cond (rising ds) (gives (listed (onAny ds) p) 0 ticked) (refused unsortedDays)) (refused offCalendar)
 
 -- cover of the spell with the number k among those of a list
 unfoldable pub cover : ℕ → List Spell → List Spell → Effect
 cover k [] p = refused unknownNumber
 cover k (x ∷ l) p = cond (eqb (x .number) k) (reaching (x .first) (x .last) p) (cover k l p)
 
--- day: 3. Span: 3, 4. Cover: 7. Days, of the list ds: 3 over all, then 10; no looks are reported. Then 11, of each.
+-- day: 3. Span: 3, 4. Cover: 7. Days, of the list ds. Mask (document 02, W2): the days question for the ticked days, with their number. Then 11,
+-- of each.
 unfoldable pub ask : Question → List ℕ → List Spell → Effect
 ask (Day d) ds p = cond (isDay d) (reaching d d p) (refused offCalendar)
 ask (Span a b) ds p = cond (isDay a && isDay b) (cond (leb a b) (reaching b a p) (refused reversed)) (refused offCalendar)
 ask (Cover k) ds p = cover k p p
-ask Days ds p = cond (daysOk ds) (cond (rising ds) (gives (listed (onAny ds) p) 0) (refused unsortedDays)) (refused offCalendar)
+ask Days ds p = several ds 0 p
+ask (Mask base mask) ds p = several (ticks base mask) (length (ticks base mask)) p
 
 -- ---- Any call, and a whole list of calls
 

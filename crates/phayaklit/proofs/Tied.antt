@@ -5,7 +5,7 @@ use contract.Lifetimes.{Lfts}
 use denote.Ref.{RefT, now}
 use Rattle.register.specs.Text.{readText}
 use Rattle.model.specs.declared.Call.the-variants.{Enter, Amend, Strike, TakeBack, Publish, Write, Ask}
-use Rattle.model.specs.declared.Question.the-variants.{Day, Span, Cover, Days}
+use Rattle.model.specs.declared.Question.the-variants.{Day, Span, Cover, Days, Mask}
 use Rattle.model.specs.Model.{fresh, begun}
 use Rattle.service.specs.Places.{freshService}
 use Rattle.service.specs.Packed.{packed, unpacked}
@@ -27,6 +27,7 @@ use Rattle.phayaklit.proofs.phayaklit_day.Reads as day-reads
 use Rattle.phayaklit.proofs.phayaklit_span.Reads as span-reads
 use Rattle.phayaklit.proofs.phayaklit_cover.Reads as cover-reads
 use Rattle.phayaklit.proofs.phayaklit_days.Reads as days-reads
+use Rattle.phayaklit.proofs.phayaklit_mask.Reads as mask-reads
 use Rattle.phayaklit.proofs.phayaklit_fresh_index.Reads as fresh-index-reads
 use Rattle.phayaklit.proofs.phayaklit_version.Reads as version-reads
 
@@ -97,6 +98,11 @@ module _ (κs : Lfts 2) (index numbers numbers′ : RefT (List ℕ)) (r : Reply)
       → Called words (blocks (now index)) (asking (Ask (Cover n)) days (now numbers) text) r words (blocks (now index)) (now numbers′) text
   cover-called n met = asked (Cover n) r (λ p. met p days)
 
+  pub mask-called : (b k : ℕ)
+      → (mask-reads.Pre κs (index, (b, (k, (numbers, tt)))) → mask-reads.Post κs (index, (b, (k, (numbers, tt)))) r (index, (b, (k, (numbers′, tt)))))
+      → Called words (blocks (now index)) (asking (Ask (Mask b k)) days (now numbers) text) r words (blocks (now index)) (now numbers′) text
+  mask-called b k met = asked (Mask b k) r (λ p. met p days)
+
 pub days-called : (κs : Lfts 3) (index days numbers numbers′ : RefT (List ℕ)) (r : Reply) {words text : List ℕ}
     → (days-reads.Pre κs (index, (days, (numbers, tt))) → days-reads.Post κs (index, (days, (numbers, tt))) r (index, (days, (numbers′, tt))))
     → Called words (blocks (now index)) (asking (Ask Days) (now days) (now numbers) text) r words (blocks (now index)) (now numbers′) text
@@ -139,6 +145,9 @@ module _ (κs : Lfts 2) (index numbers : RefT (List ℕ)) where
 
   pub cover-asks : (n : ℕ) → cover-reads.Pre κs (index, (n, (numbers, tt))) ≡ Published (now index)
   cover-asks n = refl
+
+  pub mask-asks : (b k : ℕ) → mask-reads.Pre κs (index, (b, (k, (numbers, tt)))) ≡ Published (now index)
+  mask-asks b k = refl
 
 pub days-asks : (κs : Lfts 3) (index days numbers : RefT (List ℕ)) → days-reads.Pre κs (index, (days, (numbers, tt))) ≡ Published (now index)
 days-asks κs index days numbers = refl

@@ -15,7 +15,7 @@ use Rattle.phayaklit.specs.declared.Opened.{Opened}
 
 -- the version of the exported functions and of the two blocks
 abbrev pub version : ℕ
-version = 1
+version = 2
 
 -- the words of a service that the calls gave
 abbrev pub Held : List ℕ → Type 0
@@ -31,7 +31,7 @@ spellIn e = record { number = e .number; candidate = e .candidate; first = e .fi
 
 -- a reply is a call's outcome
 abbrev pub outcomeOf : Reply → Outcome
-outcomeOf r = record { refusal = r .refusal; count = r .count; comparisons = r .comparisons; length = r .length }
+outcomeOf r = record { refusal = r .refusal; count = r .count; comparisons = r .comparisons; length = r .length; ticked = r .ticked }
 
 -- a reply, and the words that a call leaves: what the call gave
 abbrev pub steppedOf : List ℕ → Reply → Stepped

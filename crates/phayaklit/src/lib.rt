@@ -30,13 +30,14 @@ pub struct Entry {
 }
 
 // What a call answers: the refusal's number or 0, how many spells are listed, the comparisons made (document 01's looks), the
-// length of a written text.
+// length of a written text, the number of days ticked.
 #[repr(C)]
 pub struct Reply {
     pub refusal: u16,
     pub count: usize,
     pub comparisons: usize,
     pub length: usize,
+    pub ticked: usize,
 }
 
 // What a reading answers: the refusal's number with its line, or 0 and 0.
@@ -67,6 +68,7 @@ fn answered(o: Outcome) -> Reply
         count: o.count,
         comparisons: o.comparisons,
         length: o.length,
+        ticked: o.ticked,
     }
 }
 
@@ -85,7 +87,7 @@ fn put_back(r: Stepped, words: &mut [u16; SERVICE]) -> Reply
 // ---- The version
 
 // The version of these functions and of the two blocks, as the header and the module for Rust name it.
-const VERSION: u32 = 1;
+const VERSION: u32 = 2;
 
 #[no_mangle]
 pub extern "C" fn phayaklit_version() -> u32
@@ -239,4 +241,19 @@ pub extern "C" fn phayaklit_days(index: &[u16; INDEX], days: &[u16], numbers: &m
     ensures { λ r. ⌜ Asked (blocks (now (index .entry))) Question.Days (now (days .entry)) (now (numbers .entry)) (outcomeOf r) (now (numbers .exit)) ⌝ }
 {
     answered(service::days(index, days, numbers))
+}
+
+// The ticked days of a base day and a mask, whose bit i is the base day + i: the spells that contain at least one of them, and how many
+// days are ticked.
+#[no_mangle]
+pub extern "C" fn phayaklit_mask(
+    index: &[u16; INDEX],
+    base: u16,
+    mask: u64,
+    numbers: &mut [u16],
+) -> Reply
+    requires { ⌜ Published (now index) ⌝ }
+    ensures { λ r. ⌜ ((days : List ℕ) → Asked (blocks (now (index .entry))) (Question.Mask base mask) days (now (numbers .entry)) (outcomeOf r) (now (numbers .exit))) ⌝ }
+{
+    answered(service::mask(index, base, mask, numbers))
 }

@@ -7,9 +7,10 @@ use Rattle.spell.specs.Listing.{stands}
 use Rattle.stabbing.specs.Tree.{below, keep, count, head, next, parent, child, leftSibling, lastChild, fitsAt, start, onPath, formula}
 use Rattle.model.specs.declared.Call.{Call}
 use Rattle.model.specs.declared.Call.the-variants.{Enter, Amend, Strike, TakeBack, Publish, Write, Ask}
-use Rattle.model.specs.declared.Question.the-variants.{Day, Span, Cover, Days}
+use Rattle.model.specs.declared.Question.the-variants.{Day, Span, Cover, Days, Mask}
 use Rattle.model.specs.Edits.{insertBy, enterRefusal, remember}
 use Rattle.calendar.specs.Calendar.{daysOk}
+use Rattle.masks.specs.Masks.{isSet, ticksFrom}
 use Rattle.model.specs.Questions.{onAny, rising, filter, comparisonsOf}
 use Rattle.model.specs.Effects.{settle}
 use Rattle.model.specs.Model.{Request, Answer, fresh, ask, effectOf, run}
@@ -18,14 +19,15 @@ use Rattle.packing.specs.Blocks.{written}
 use Rattle.replay.specs.Coded.{codeAt, callOf, nextOf, decodeFrom, decode, resultsOf, numbersOf, textsOf}
 
 -- enter 11, with a word of more than 16 bits; enter 12, with a reading; publish; day 3, lent three places; days 1 and 4, lent
--- two places; a number that no call has; and a code of three words
+-- two places; the mask of days 3 and 4, lent one place, which is short; a number that no call has; and a code of three words
 abbrev codes : List ℕ
 codes = (1 ∷ 65547 ∷ 7 ∷ 1 ∷ 10 ∷ 0 ∷ 2 ∷ 0 ∷ 0 ∷ 0 ∷ [])
     ++ (1 ∷ 12 ∷ 8 ∷ 3 ∷ 4 ∷ 1 ∷ 0x3F80_0000 ∷ 0 ∷ 0 ∷ 0 ∷ [])
     ++ (5 ∷ 0 ∷ 0 ∷ 0 ∷ 0 ∷ 0 ∷ 0 ∷ 0 ∷ 0 ∷ 0 ∷ [])
     ++ (7 ∷ 0 ∷ 0 ∷ 3 ∷ 0 ∷ 0 ∷ 0 ∷ 0 ∷ 3 ∷ 0 ∷ [])
     ++ (10 ∷ 0 ∷ 0 ∷ 0 ∷ 0 ∷ 0 ∷ 0 ∷ 2 ∷ 2 ∷ 0 ∷ [])
-    ++ (11 ∷ 0 ∷ 0 ∷ 0 ∷ 0 ∷ 0 ∷ 0 ∷ 0 ∷ 0 ∷ 0 ∷ [])
+    ++ (11 ∷ 0 ∷ 0 ∷ 3 ∷ 0 ∷ 0 ∷ 3 ∷ 0 ∷ 1 ∷ 0 ∷ [])
+    ++ (12 ∷ 0 ∷ 0 ∷ 0 ∷ 0 ∷ 0 ∷ 0 ∷ 0 ∷ 0 ∷ 0 ∷ [])
     ++ (1 ∷ 2 ∷ 3 ∷ [])
 
 abbrev lentDays : List ℕ
@@ -40,28 +42,29 @@ results n = replicate n 77
 abbrev coded : ℕ → List Request
 coded room = decode codes lentDays (results room) lentNumbers []
 
--- five calls, each with its parts
-pub decoded : coded 24
+-- six calls, each with its parts
+pub decoded : coded 35
     ≡ record { call = Enter (record { number = 11; candidate = 7; first = 1; last = 10; urgency = Grade 2 }); days = []; numbers = []; text = [] }
     ∷ record { call = Enter (record { number = 12; candidate = 8; first = 3; last = 4; urgency = Reading (ofBits binary32 0x3F80_0000) }); days = []; numbers = []; text = [] }
     ∷ record { call = Publish; days = []; numbers = []; text = [] }
     ∷ record { call = Ask (Day 3); days = []; numbers = 91 ∷ 92 ∷ 93 ∷ []; text = [] }
     ∷ record { call = Ask Days; days = 1 ∷ 4 ∷ []; numbers = 94 ∷ 95 ∷ []; text = [] }
+    ∷ record { call = Ask (Mask 3 3); days = []; numbers = 96 ∷ []; text = [] }
     ∷ []
 unfolding decodeFrom codeAt nextOf callOf
 decoded = refl
 
--- one call fewer where the fifth has three places for its results
-pub no-room : length (coded 19) ≡ 4
+-- one call fewer where the sixth has four places for its results
+pub no-room : length (coded 29) ≡ 5
 unfolding decodeFrom codeAt nextOf callOf
 no-room = refl
 
 -- their answers, from a fresh service, in the lists
-pub answered : (over (resultsOf (run fresh (coded 24))) (results 24)
-    ≡ (0 ∷ 0 ∷ 0 ∷ 0 ∷ []) ++ (0 ∷ 0 ∷ 0 ∷ 0 ∷ []) ++ (0 ∷ 0 ∷ 0 ∷ 0 ∷ []) ++ (0 ∷ 2 ∷ 0 ∷ 0 ∷ []) ++ (0 ∷ 2 ∷ 0 ∷ 0 ∷ []) ++ (77 ∷ 77 ∷ 77 ∷ 77 ∷ []))
-    × (over (numbersOf (run fresh (coded 24))) lentNumbers ≡ 11 ∷ 12 ∷ 93 ∷ 11 ∷ 12 ∷ 96 ∷ [])
+pub answered : (over (resultsOf (run fresh (coded 35))) (results 35)
+    ≡ replicate 15 0 ++ (0 ∷ 2 ∷ 0 ∷ 0 ∷ 0 ∷ []) ++ (0 ∷ 2 ∷ 0 ∷ 0 ∷ 0 ∷ []) ++ (11 ∷ 0 ∷ 0 ∷ 0 ∷ 0 ∷ []) ++ replicate 5 77)
+    × (over (numbersOf (run fresh (coded 35))) lentNumbers ≡ 11 ∷ 12 ∷ 93 ∷ 11 ∷ 12 ∷ 96 ∷ [])
 unfolding decodeFrom codeAt nextOf callOf written run settle effectOf ask enterRefusal insertBy remember earlierOf stands isNan toBits ofBits
-    onAny daysOk rising filter comparisonsOf below keep count head next parent child leftSibling lastChild fitsAt start onPath formula
+    onAny daysOk rising ticksFrom isSet filter comparisonsOf below keep count head next parent child leftSibling lastChild fitsAt start onPath formula
 answered = (refl, refl)
 
 -- ---- Every word of a code, and every place of an answer
@@ -74,23 +77,23 @@ abbrev lent : Call → Request
 lent c = record { call = c; days = 5 ∷ []; numbers = 6 ∷ 6 ∷ []; text = 7 ∷ 7 ∷ 7 ∷ [] }
 
 -- each call has its number, and takes the words that are its own
-pub each-call : decode (each 1 0 ++ each 2 1 ++ each 3 0 ++ each 4 0 ++ each 5 0 ++ each 6 0 ++ each 7 0 ++ each 8 0 ++ each 9 0 ++ each 10 0)
-    (replicate 10 5) (replicate 40 0) (replicate 20 6) (replicate 30 7)
+pub each-call : decode (each 1 0 ++ each 2 1 ++ each 3 0 ++ each 4 0 ++ each 5 0 ++ each 6 0 ++ each 7 0 ++ each 8 0 ++ each 9 0 ++ each 10 0 ++ each 11 0)
+    (replicate 11 5) (replicate 55 0) (replicate 22 6) (replicate 33 7)
     ≡ lent (Enter (record { number = 11; candidate = 12; first = 13; last = 14; urgency = Grade 15 }))
     ∷ lent (Amend (record { number = 11; candidate = 12; first = 13; last = 14; urgency = Reading (ofBits binary32 15) }))
     ∷ lent (Strike 11) ∷ lent TakeBack ∷ lent Publish ∷ lent Write
-    ∷ lent (Ask (Day 13)) ∷ lent (Ask (Span 13 14)) ∷ lent (Ask (Cover 11)) ∷ lent (Ask Days) ∷ []
+    ∷ lent (Ask (Day 13)) ∷ lent (Ask (Span 13 14)) ∷ lent (Ask (Cover 11)) ∷ lent (Ask Days) ∷ lent (Ask (Mask 13 15)) ∷ []
 unfolding decodeFrom codeAt nextOf callOf
 each-call = refl
 
 -- two answers with a value of its own in each place
 abbrev two : List Answer
 two =
-    record { refusal = 1; count = 2; comparisons = 3; length = 4; numbers = 21 ∷ 22 ∷ []; text = 31 ∷ [] }
-    ∷ record { refusal = 5; count = 6; comparisons = 7; length = 8; numbers = 23 ∷ []; text = 32 ∷ 33 ∷ [] } ∷ []
+    record { refusal = 1; count = 2; comparisons = 3; length = 4; ticked = 9; numbers = 21 ∷ 22 ∷ []; text = 31 ∷ [] }
+    ∷ record { refusal = 5; count = 6; comparisons = 7; length = 8; ticked = 10; numbers = 23 ∷ []; text = 32 ∷ 33 ∷ [] } ∷ []
 
--- the results stand by calls: refusal, count, comparisons, length; numbers and text end to end; the places after them are as they were
-pub each-place : (over (resultsOf two) (replicate 9 77) ≡ 1 ∷ 2 ∷ 3 ∷ 4 ∷ 5 ∷ 6 ∷ 7 ∷ 8 ∷ 77 ∷ [])
+-- the results stand by calls: refusal, count, comparisons, length, days ticked; numbers and text end to end; the places after them are as they were
+pub each-place : (over (resultsOf two) (replicate 11 77) ≡ 1 ∷ 2 ∷ 3 ∷ 4 ∷ 9 ∷ 5 ∷ 6 ∷ 7 ∷ 8 ∷ 10 ∷ 77 ∷ [])
     × ((over (numbersOf two) (replicate 4 77) ≡ 21 ∷ 22 ∷ 23 ∷ 77 ∷ [])
     × (over (textsOf two) (replicate 4 77) ≡ 31 ∷ 32 ∷ 33 ∷ 77 ∷ []))
 unfolding written

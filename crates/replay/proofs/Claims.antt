@@ -9,13 +9,13 @@ use Rattle.packing.specs.Words.{kindOf, valueOf, Narrow}
 use Rattle.packing.specs.Blocks.{written, Every}
 use Rattle.model.specs.declared.Call.{Call}
 use Rattle.model.specs.declared.Call.the-variants.{Enter, Amend, Strike, TakeBack, Publish, Write, Ask}
-use Rattle.model.specs.declared.Question.the-variants.{Day, Span, Cover, Days}
+use Rattle.model.specs.declared.Question.the-variants.{Day, Span, Cover, Days, Mask}
 use Rattle.model.specs.Model.{Request, run}
 use Rattle.replay.specs.declared.Code.{Code}
 use Rattle.replay.specs.declared.Next.the-variants.{Go}
 use Rattle.replay.specs.declared.Ran.{Ran}
 use Rattle.replay.specs.Coded.{codeWidth, resultWidth, low16, urgencyOf, word, codeAt, callOf, nextOf, decodeFrom, wholeOf, Holds, beginning, Replayed}
-use Rattle.replay.specs.Coding.{fieldsOf, Fits, Codable, Coding}
+use Rattle.replay.specs.Coding.{Value, urgent, masked, Fields, spellFields, fieldsOf, Wide, Fits, Codable, Coding}
 use Rattle.replay.proofs.Runs.{decode-go}
 
 -- ---- The words of a call
@@ -31,9 +31,18 @@ opOf (Ask (Day d)) = 7
 opOf (Ask (Span a b)) = 8
 opOf (Ask (Cover k)) = 9
 opOf (Ask Days) = 10
+opOf (Ask (Mask b k)) = 11
 
-abbrev wordsOf : ℕ → Spell → ℕ → ℕ → ℕ → List ℕ
-wordsOf op s d n t = op ∷ s .number ∷ s .candidate ∷ s .first ∷ s .last ∷ kindOf (s .urgency) ∷ valueOf (s .urgency) ∷ d ∷ n ∷ t ∷ []
+abbrev kindIn : Value → ℕ
+kindIn (urgent u) = kindOf u
+kindIn (masked k) = 0
+
+abbrev valueIn : Value → ℕ
+valueIn (urgent u) = valueOf u
+valueIn (masked k) = k
+
+abbrev wordsOf : ℕ → Fields → ℕ → ℕ → ℕ → List ℕ
+wordsOf op f d n t = op ∷ f .number ∷ f .candidate ∷ f .first ∷ f .last ∷ kindIn (f .value) ∷ valueIn (f .value) ∷ d ∷ n ∷ t ∷ []
 
 abbrev requestWords : Request → List ℕ
 requestWords q = wordsOf (opOf (q .call)) (fieldsOf (q .call)) (length (q .days)) (length (q .numbers)) (length (q .text))
@@ -52,9 +61,9 @@ urgency-back (Reading x) h = rw (mod-eq-of-lt (value-narrow (Reading x) h)) (ap 
 abbrev codeOf : Call → ℕ → ℕ → ℕ → List ℕ → Code
 codeOf c d n t rest = codeAt (wordsOf (opOf c) (fieldsOf c) d n t ++ rest) 0
 
-spell-back : (s : Spell) → Fits s
+spell-back : (s : Spell) → Fits (spellFields s)
     → record { number = low16 (s .number); candidate = low16 (s .candidate); first = low16 (s .first); last = low16 (s .last); urgency = urgencyOf (kindOf (s .urgency)) (valueOf (s .urgency)) } ≡ s
-spell-back s f = rw (mod-eq-of-lt (f .number), mod-eq-of-lt (f .candidate), mod-eq-of-lt (f .first), mod-eq-of-lt (f .last), urgency-back (s .urgency) (f .urgency))
+spell-back s f = rw (mod-eq-of-lt (f .number), mod-eq-of-lt (f .candidate), mod-eq-of-lt (f .first), mod-eq-of-lt (f .last), urgency-back (s .urgency) (f .value))
 
 call-back : (c : Call) (d n t : ℕ) (rest : List ℕ) → Fits (fieldsOf c) → callOf (codeOf c d n t rest) ≡ Go c
 unfolding codeAt callOf
@@ -69,6 +78,7 @@ call-back (Ask (Span a b)) d n t rest f =
     ap (λ (x : ℕ). Go (Ask (Span x (low16 b)))) (mod-eq-of-lt (f .first)) ∙ ap (λ (x : ℕ). Go (Ask (Span a x))) (mod-eq-of-lt (f .last))
 call-back (Ask (Cover k)) d n t rest f = ap (λ (x : ℕ). Go (Ask (Cover x))) (mod-eq-of-lt (f .number))
 call-back (Ask Days) d n t rest f = refl
+call-back (Ask (Mask b k)) d n t rest f = ap (λ (x : ℕ). Go (Ask (Mask x k))) (mod-eq-of-lt (f .first))
 
 -- and with room for its lists the call is made
 next-back : (q : Request) (rest : List ℕ) (d n t : ℕ) → Fits (fieldsOf (q .call))
@@ -150,7 +160,7 @@ unfolding written
 codes-long [] = refl
 codes-long (q ∷ qs) = omega (arith, codes-long qs)
 
-op-few : (c : Call) → opOf c ≤ 10
+op-few : (c : Call) → opOf c ≤ 11
 op-few (Enter s) = omega arith
 op-few (Amend s) = omega arith
 op-few (Strike k) = omega arith
@@ -161,17 +171,23 @@ op-few (Ask (Day d)) = omega arith
 op-few (Ask (Span a b)) = omega arith
 op-few (Ask (Cover k)) = omega arith
 op-few (Ask Days) = omega arith
+op-few (Ask (Mask b k)) = omega arith
 
-kind-few : (u : Urgency) → kindOf u ≤ 1
-kind-few (Grade g) = omega arith
-kind-few (Reading x) = omega arith
+kind-few : (v : Value) → kindIn v ≤ 1
+kind-few (urgent (Grade g)) = omega arith
+kind-few (urgent (Reading x)) = omega arith
+kind-few (masked k) = omega arith
+
+value-few : (v : Value) → Wide v → valueIn v < 18446744073709551616
+value-few (urgent u) h = omega (arith, value-narrow u h)
+value-few (masked k) h = h
 
 words-narrow : (qs : List Request) → Every Codable qs → Every (λ (w : ℕ). w < 18446744073709551616) (codesOf qs)
 unfolding written Every
 words-narrow [] f = tt
 words-narrow (q ∷ qs) f =
     let h = f .0 .call in
-    let u = fieldsOf (q .call) .urgency in (
+    let v = fieldsOf (q .call) .value in (
       omega (arith, op-few (q .call)),
       (
         omega (arith, h .number),
@@ -181,7 +197,7 @@ words-narrow (q ∷ qs) f =
             omega (arith, h .first),
             (
               omega (arith, h .last),
-              (omega (arith, kind-few u), (omega (arith, value-narrow u (h .urgency)), (f .0 .days, (f .0 .numbers, (f .0 .text, words-narrow qs (f .1)))))),
+              (omega (arith, kind-few v), (value-few v (h .value), (f .0 .days, (f .0 .numbers, (f .0 .text, words-narrow qs (f .1)))))),
             ),
           ),
         ),

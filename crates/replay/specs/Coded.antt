@@ -12,7 +12,7 @@ use Rattle.spell.specs.declared.Urgency.the-variants.{Grade, Reading}
 use Rattle.spell.specs.declared.Spell.{Spell}
 use Rattle.register.specs.Text.{readText}
 use Rattle.model.specs.declared.Call.the-variants.{Enter, Amend, Strike, TakeBack, Publish, Write, Ask}
-use Rattle.model.specs.declared.Question.the-variants.{Day, Span, Cover, Days}
+use Rattle.model.specs.declared.Question.the-variants.{Day, Span, Cover, Days, Mask}
 use Rattle.buffer.specs.Buffer.{over}
 use Rattle.packing.specs.Blocks.{written}
 use Rattle.model.specs.Model.{State, fresh, begun, refusalIn, lineIn, Request, Answer, run}
@@ -31,7 +31,7 @@ abbrev pub codeWidth : ℕ
 codeWidth = 10
 
 abbrev pub resultWidth : ℕ
-resultWidth = 4
+resultWidth = 5
 
 -- a number of 16 bits: a word's lowest
 abbrev pub low16 : ℕ → ℕ
@@ -81,7 +81,8 @@ callOf c =
     (cond (eqb (c .op) 7) (Go (Ask (Day (c .first))))
     (cond (eqb (c .op) 8) (Go (Ask (Span (c .first) (c .last))))
     (cond (eqb (c .op) 9) (Go (Ask (Cover (c .number))))
-    (cond (eqb (c .op) 10) (Go (Ask Days)) Stop)))))))))
+    (cond (eqb (c .op) 10) (Go (Ask Days))
+    (cond (eqb (c .op) 11) (Go (Ask (Mask (c .first) (c .value)))) Stop))))))))))
 
 -- none, too, where the lists of days, numbers and text have fewer places left than it is lent
 unfoldable pub nextOf : Code → ℕ → ℕ → ℕ → Next
@@ -116,7 +117,7 @@ decode codes days results numbers text = decodeFrom codes (wholeOf codes results
 
 -- a call's results
 abbrev pub told : Answer → List ℕ
-told a = a .refusal ∷ a .count ∷ a .comparisons ∷ a .length ∷ []
+told a = a .refusal ∷ a .count ∷ a .comparisons ∷ a .length ∷ a .ticked ∷ []
 
 -- a list with the results of the call k in their places
 abbrev pub tellAt : ℕ → Outcome → List ℕ → List ℕ

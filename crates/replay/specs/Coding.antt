@@ -1,33 +1,49 @@
--- Which lists of calls have words: every list whose numbers, days and readings are as wide as the program's. Assumes nothing.
+-- Which lists of calls have words: every list whose numbers, days, readings and masks are as wide as the program's. Assumes nothing.
 use Prim.Native.Nat.{ℕ, _*_, _≤_, _<_}
 use mathlib.Core.Path.{_≡_}
 use mathlib.Core.List.{List}
 use lib.ListN.{length}
-use Rattle.spell.specs.declared.Urgency.the-variants.{Grade}
+use Rattle.spell.specs.declared.Urgency.{Urgency}
 use Rattle.spell.specs.declared.Spell.{Spell}
 use Rattle.packing.specs.Words.{Narrow}
 use Rattle.packing.specs.Blocks.{written, Every}
 use Rattle.model.specs.declared.Call.{Call}
 use Rattle.model.specs.declared.Call.the-variants.{Enter, Amend, Strike, TakeBack, Publish, Write, Ask}
 use Rattle.model.specs.declared.Question.{Question}
-use Rattle.model.specs.declared.Question.the-variants.{Day, Span, Cover, Days}
+use Rattle.model.specs.declared.Question.the-variants.{Day, Span, Cover, Days, Mask}
 use Rattle.model.specs.Model.{Request}
 use Rattle.replay.specs.Coded.{resultWidth, decode}
 
--- ---- The fields that a call's code has: its spell, or its number and days in a spell's places, and 0 in the others
+-- ---- The fields that a call's code has: its spell's, or its number and days in their places, and 0 in the others
 
-abbrev pub fields : ℕ → ℕ → ℕ → Spell
-fields number first last = record { number = number; candidate = 0; first = first; last = last; urgency = Grade 0 }
+-- what the value's word holds: that of an urgency, or a mask
+pub data Value : Type 0 where
+  urgent : Urgency → Value
+  masked : ℕ → Value
 
-abbrev pub askedFields : Question → Spell
+pub record Fields : Type 0 where
+  pub number : ℕ
+  pub candidate : ℕ
+  pub first : ℕ
+  pub last : ℕ
+  pub value : Value
+
+abbrev pub spellFields : Spell → Fields
+spellFields s = record { number = s .number; candidate = s .candidate; first = s .first; last = s .last; value = urgent (s .urgency) }
+
+abbrev pub fields : ℕ → ℕ → ℕ → Fields
+fields number first last = record { number = number; candidate = 0; first = first; last = last; value = masked 0 }
+
+abbrev pub askedFields : Question → Fields
 askedFields (Day d) = fields 0 d 0
 askedFields (Span a b) = fields 0 a b
 askedFields (Cover k) = fields k 0 0
 askedFields Days = fields 0 0 0
+askedFields (Mask b k) = record { number = 0; candidate = 0; first = b; last = 0; value = masked k }
 
-abbrev pub fieldsOf : Call → Spell
-fieldsOf (Enter s) = s
-fieldsOf (Amend s) = s
+abbrev pub fieldsOf : Call → Fields
+fieldsOf (Enter s) = spellFields s
+fieldsOf (Amend s) = spellFields s
 fieldsOf (Strike k) = fields k 0 0
 fieldsOf TakeBack = fields 0 0 0
 fieldsOf Publish = fields 0 0 0
@@ -36,13 +52,17 @@ fieldsOf (Ask w) = askedFields w
 
 -- ---- What has a coding
 
--- numbers, days and grades are of 16 bits, and a reading is a 32-bit float
-pub record Fits (s : Spell) : Type 0 where
-  pub number : s .number < 65536
-  pub candidate : s .candidate < 65536
-  pub first : s .first < 65536
-  pub last : s .last < 65536
-  pub urgency : Narrow (s .urgency)
+-- numbers, days and grades are of 16 bits, a reading is a 32-bit float, and a mask has 64 bits
+abbrev pub Wide : Value → Type 0
+Wide (urgent u) = Narrow u
+Wide (masked k) = k < 18446744073709551616
+
+pub record Fits (f : Fields) : Type 0 where
+  pub number : f .number < 65536
+  pub candidate : f .candidate < 65536
+  pub first : f .first < 65536
+  pub last : f .last < 65536
+  pub value : Wide (f .value)
 
 -- a call with such fields, whose lent lists have lengths of 64 bits
 pub record Codable (q : Request) : Type 0 where

@@ -17,10 +17,11 @@ use stabbing::INDEX;
 // How many words code a call, and how many results a call has.
 const CODE: usize = 10;
 
-const RESULT: usize = 4;
+const RESULT: usize = 5;
 
 // A call in ten words: its number (1 enter, 2 amend, 3 strike, 4 take back, 5 publish, 6 write, 7 day, 8 span, 9 cover,
-// 10 days), the fields of a spell, and how many places of the lists of days, numbers and text it is lent.
+// 10 days, 11 mask), the fields of a spell, and how many places of the lists of days, numbers and text it is lent. A mask stands in the place
+// of the value, its base day in that of the first day.
 pub struct Code {
     pub op: u64,
     pub number: u16,
@@ -116,6 +117,7 @@ fn call_of(c: Code) -> Next
         8 => Next::Go(Call::Ask(Question::Span(c.first, c.last))),
         9 => Next::Go(Call::Ask(Question::Cover(c.number))),
         10 => Next::Go(Call::Ask(Question::Days)),
+        11 => Next::Go(Call::Ask(Question::Mask(c.first, c.value))),
         _ => Next::Stop,
     }
 }
@@ -159,6 +161,7 @@ fn tell(results: &mut [u64], k: usize, o: Outcome)
     results[at + 1] = o.count as u64;
     results[at + 2] = o.comparisons as u64;
     results[at + 3] = o.length as u64;
+    results[at + 4] = o.ticked as u64;
 }
 
 // The calls made on a service, and how many.

@@ -29,7 +29,7 @@ calls = (1 ∷ 13 ∷ 9 ∷ 5 ∷ 8 ∷ 0 ∷ 1 ∷ 0 ∷ 0 ∷ 0 ∷ [])
     ++ (4 ∷ 0 ∷ 0 ∷ 0 ∷ 0 ∷ 0 ∷ 0 ∷ 0 ∷ 0 ∷ 0 ∷ [])
 
 abbrev results : List ℕ
-results = replicate 44 77
+results = replicate 55 77
 
 abbrev numbers : List ℕ
 numbers = replicate 5 99
@@ -50,17 +50,17 @@ line = 49 ∷ 51 ∷ 9 ∷ 57 ∷ 9 ∷ 53 ∷ 9 ∷ 56 ∷ 9 ∷ 71 ∷ 9 ∷ 4
 pub record Seen : Type 0 where
   pub made : length answers ≡ 10
   pub told : over (resultsOf answers) results
-      ≡ (0 ∷ 0 ∷ 0 ∷ 0 ∷ [])
-      ++ (0 ∷ 0 ∷ 0 ∷ 0 ∷ [])
-      ++ (6 ∷ 0 ∷ 0 ∷ 0 ∷ [])
-      ++ (0 ∷ 0 ∷ 0 ∷ 0 ∷ [])
-      ++ (0 ∷ 2 ∷ 1 ∷ 0 ∷ [])
-      ++ (11 ∷ 0 ∷ 0 ∷ 0 ∷ [])
-      ++ (0 ∷ 0 ∷ 0 ∷ 0 ∷ [])
-      ++ (0 ∷ 0 ∷ 0 ∷ 13 ∷ [])
-      ++ (0 ∷ 0 ∷ 0 ∷ 0 ∷ [])
-      ++ (9 ∷ 0 ∷ 0 ∷ 0 ∷ [])
-      ++ (77 ∷ 77 ∷ 77 ∷ 77 ∷ [])
+      ≡ (0 ∷ 0 ∷ 0 ∷ 0 ∷ 0 ∷ [])
+      ++ (0 ∷ 0 ∷ 0 ∷ 0 ∷ 0 ∷ [])
+      ++ (6 ∷ 0 ∷ 0 ∷ 0 ∷ 0 ∷ [])
+      ++ (0 ∷ 0 ∷ 0 ∷ 0 ∷ 0 ∷ [])
+      ++ (0 ∷ 2 ∷ 1 ∷ 0 ∷ 0 ∷ [])
+      ++ (11 ∷ 0 ∷ 0 ∷ 0 ∷ 0 ∷ [])
+      ++ (0 ∷ 0 ∷ 0 ∷ 0 ∷ 0 ∷ [])
+      ++ (0 ∷ 0 ∷ 0 ∷ 13 ∷ 0 ∷ [])
+      ++ (0 ∷ 0 ∷ 0 ∷ 0 ∷ 0 ∷ [])
+      ++ (9 ∷ 0 ∷ 0 ∷ 0 ∷ 0 ∷ [])
+      ++ (77 ∷ 77 ∷ 77 ∷ 77 ∷ 77 ∷ [])
   pub listed : over (numbersOf answers) numbers ≡ 14 ∷ 13 ∷ 99 ∷ 99 ∷ 99 ∷ []
   pub written : over (textsOf answers) text ≡ line ++ (7 ∷ 7 ∷ 7 ∷ [])
 

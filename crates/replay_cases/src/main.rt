@@ -117,7 +117,7 @@ const CALLS: [u64; 100] = [
 fn main() {
     let nothing = [0u8; 0];
     let days = [0u16; 0];
-    let mut results = [77u64; 44];
+    let mut results = [77u64; 55];
     let mut numbers = [99u16; 5];
     let mut text = [7u8; 16];
     let ran = replay::run(
@@ -132,24 +132,24 @@ fn main() {
     check::expect(ran.made == 10);
     // Accepted; taken.
     check::expect(results[0] == 0);
-    check::expect(results[8] == 6);
+    check::expect(results[10] == 6);
     // Two spells on day 5, and one comparison; the third place is kept.
-    check::expect(results[16] == 0);
-    check::expect(results[17] == 2);
-    check::expect(results[18] == 1);
+    check::expect(results[20] == 0);
+    check::expect(results[21] == 2);
+    check::expect(results[22] == 1);
     check::expect(numbers[0] == 14);
     check::expect(numbers[1] == 13);
     check::expect(numbers[2] == 99);
     // A short list, which keeps its place.
-    check::expect(results[20] == 11);
+    check::expect(results[25] == 11);
     check::expect(numbers[3] == 99);
     // A text of 13 bytes, from `1` to LF; the next place is kept.
-    check::expect(results[31] == 13);
+    check::expect(results[38] == 13);
     check::expect(text[0] == 49);
     check::expect(text[12] == 10);
     check::expect(text[13] == 7);
     // Taken back; no past. Beyond the last call the results keep their places.
-    check::expect(results[32] == 0);
-    check::expect(results[36] == 9);
-    check::expect(results[40] == 77);
+    check::expect(results[40] == 0);
+    check::expect(results[45] == 9);
+    check::expect(results[50] == 77);
 }

@@ -1,5 +1,5 @@
 -- An answer put into a list from its end to its front, field by field. Assumes nothing.
-use Rattle.basis.proofs.Prelude.{_∙_, _≡_, ap, refl, sym, _*_, _+_, _-_, _≤_, ℕ, List, [], _++_, _∷_, append-nil, drop, drop-of-length-le, length, length-append, length-drop, length-take, take, take-append-drop, drop-at, length-take-le, take-all, min-le-left, arith, le-leb}
+use Rattle.basis.proofs.Prelude.{_∙_, _≡_, ap, refl, sym, _*_, _+_, _-_, _≤_, ℕ, List, [], _++_, _∷_, append-nil, drop, drop-of-length-le, length, length-append, length-drop, length-take, take, take-append-drop, drop-at, take-at, length-take-le, take-all, min-le-left, arith, le-leb}
 use borrow.Rule.Slice.PartMut.{putMid, midOf, post-is}
 use Rattle.fields.specs.Fields.{byteText, numberText, numbersText}
 use Rattle.fields.specs.Answers.{Puts}
@@ -22,6 +22,18 @@ put-sends {entry} {exit} {r} {t} p =
 pub sends-bytes : {entry exit : List ℕ} {r : ℕ} {t : List ℕ} → Sends t entry r exit → drop r exit ≡ t
 sends-bytes {entry} {exit} {r} {t} p =
     rw (p .place, p .places) (drop-at (take (length entry - length t) entry) t (length entry - length t) (length-take-le (length entry - length t) entry (omega arith)))
+
+-- what is sent is put to the end
+pub sends-put : {entry exit : List ℕ} {r : ℕ} {t : List ℕ} → Sends t entry r exit → Put entry exit r t
+sends-put {entry} {exit} {r} {t} p =
+    let front : length (take r entry) ≡ r = length-take-le r entry (omega (arith, p .place)) in
+    let whole : exit ≡ take r entry ++ t = p .places ∙ rw (← p .place) in
+    record {
+      sized = rw whole (omega (arith, length-append (take r entry) t, front, p .place, p .fits));
+      inside = omega (arith, p .place);
+      kept = rw whole (take-at (take r entry) t r front);
+      written = sends-bytes p;
+    }
 
 -- a text copied into the places before `at`
 module _ (out text : List ℕ) (at : ℕ) (h : length text ≤ at) (k : at ≤ length out) where

@@ -10,9 +10,9 @@ use Rattle.register.specs.Text.{tab, lf, Register}
 use Rattle.model.specs.declared.Call.{Call}
 use Rattle.model.specs.declared.Call.the-variants.{Enter, Amend, Strike, TakeBack, Publish, Write, Ask}
 use Rattle.model.specs.declared.Question.{Question}
-use Rattle.model.specs.declared.Question.the-variants.{Day, Span, Cover, Days}
+use Rattle.model.specs.declared.Question.the-variants.{Day, Span, Cover, Days, Mask}
 use Rattle.replies.specs.declared.Shape.{Shape}
-use Rattle.replies.specs.declared.Shape.the-variants.{Ok, Text, Listed, Several}
+use Rattle.replies.specs.declared.Shape.the-variants.{Ok, Text, Listed, Several, Ticked}
 use Rattle.model.specs.Model.{Answer, refusalIn, lineIn}
 
 -- ---- The words of an answer
@@ -32,6 +32,10 @@ refusedWord = 114 ∷ 101 ∷ 102 ∷ 117 ∷ 115 ∷ 101 ∷ 100 ∷ 9 ∷ []
 -- `listed` TAB
 abbrev pub listedWord : List ℕ
 listedWord = 108 ∷ 105 ∷ 115 ∷ 116 ∷ 101 ∷ 100 ∷ 9 ∷ []
+
+-- `ticked` TAB
+abbrev pub tickedWord : List ℕ
+tickedWord = 116 ∷ 105 ∷ 99 ∷ 107 ∷ 101 ∷ 100 ∷ 9 ∷ []
 
 -- `text` TAB
 abbrev pub textWord : List ℕ
@@ -59,9 +63,17 @@ stoppedText n line = bytesText refusedWord (numberText n tab (numberText line lf
 unfoldable pub listedText : ℕ → ℕ → List ℕ → List ℕ
 listedText k looks ns = bytesText listedWord (numbersText (k ∷ looks ∷ ns) [])
 
+-- k `-`, then the k spell numbers
+unfoldable pub dashedText : ℕ → List ℕ → List ℕ
+dashedText k ns = numberText k tab (dash ∷ endBefore (length ns) ∷ numbersText ns [])
+
 -- `listed` k `-`, then the k spell numbers
 unfoldable pub severalText : ℕ → List ℕ → List ℕ
-severalText k ns = bytesText listedWord (numberText k tab (dash ∷ endBefore (length ns) ∷ numbersText ns []))
+severalText k ns = bytesText listedWord (dashedText k ns)
+
+-- `ticked` t k `-`, then the k spell numbers
+unfoldable pub tickedText : ℕ → ℕ → List ℕ → List ℕ
+tickedText t k ns = bytesText tickedWord (numberText t tab (dashedText k ns))
 
 -- `text` length, LF, then the bytes
 unfoldable pub writtenText : ℕ → List ℕ → List ℕ
@@ -73,6 +85,7 @@ questionShape (Day d) = Listed
 questionShape (Span a b) = Listed
 questionShape (Cover n) = Listed
 questionShape Days = Several
+questionShape (Mask b k) = Ticked
 
 -- the shape of an accepted call's answer
 abbrev pub shapeOf : Call → Shape
@@ -90,6 +103,7 @@ shapeText Ok a = okText
 shapeText Text a = writtenText (a .length) (take (a .length) (a .text))
 shapeText Listed a = listedText (a .count) (a .comparisons) (take (a .count) (a .numbers))
 shapeText Several a = severalText (a .count) (take (a .count) (a .numbers))
+shapeText Ticked a = tickedText (a .ticked) (a .count) (take (a .count) (a .numbers))
 
 -- a call's answer
 unfoldable pub callText : Call → Answer → List ℕ

@@ -16,5 +16,6 @@ pub record Fits (a : Answer) : Type 0 where
   pub count : a .count ≤ 1024
   pub listed : a .count ≤ length (a .numbers)
   pub comparisons : a .comparisons ≤ 65535
+  pub ticked : a .ticked ≤ 65535
   pub bytes : a .length ≤ 65535
   pub written : a .length ≤ length (a .text)

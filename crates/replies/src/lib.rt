@@ -4,7 +4,7 @@ ghost use Prim.Native.Nat.{_≤_};
 ghost use lib.ListN.{length, take};
 ghost use Rattle.fields.specs.Answers.{Puts};
 ghost use Rattle.service.specs.Service.{answerOf};
-ghost use Rattle.replies.specs.Replies.{okText, malformedText, bytesText, refusedText, stoppedText, listedText, severalText, writtenText, questionShape, shapeOf, callText};
+ghost use Rattle.replies.specs.Replies.{okText, malformedText, bytesText, refusedText, stoppedText, listedText, dashedText, severalText, tickedText, writtenText, questionShape, shapeOf, callText};
 ghost use Rattle.replies.specs.Sending.{Sends, Fits};
 use model::Call;
 use model::Question;
@@ -30,6 +30,8 @@ pub enum Shape {
     Listed,
     // numbers without
     Several,
+    // numbers without, and the days ticked
+    Ticked,
 }
 
 // An answer is put into the end of a list from its last byte to its first: each writer puts its bytes before the
@@ -92,17 +94,35 @@ fn put_listed(out: &mut [u8; OUT], count: u16, comparisons: u16, numbers: &[u16]
     put_bytes(out, k, b"listed\t")
 }
 
-// The numbers of a days question, which reports none.
-fn put_several(out: &mut [u8; OUT], count: u16, numbers: &[u16]) -> usize
+// The numbers of a question of several days, which reports no comparisons, with their count; there is room for an opening before them.
+fn put_dashed(out: &mut [u8; OUT], count: u16, numbers: &[u16]) -> usize
     requires { ⌜ length (now numbers) ≤ 1024 ⌝ }
-    ensures { λ r. ⌜ Sends (severalText count (now (numbers .entry))) (now (out .entry)) r (now (out .exit)) ⌝ }
+    ensures { λ r. ⌜ Sends (dashedText count (now (numbers .entry))) (now (out .entry)) r (now (out .exit)) × (20 ≤ r) ⌝ }
 {
     let end = decimals::end_before(numbers.len());
     let i = decimals::put_numbers(out, OUT, numbers);
     let j = fields::put_byte(out, i, end);
     let k = fields::put_byte(out, j, DASH);
-    let m = decimals::put_number(out, k, count, TAB);
-    put_bytes(out, m, b"listed\t")
+    decimals::put_number(out, k, count, TAB)
+}
+
+// Those of a days question.
+fn put_several(out: &mut [u8; OUT], count: u16, numbers: &[u16]) -> usize
+    requires { ⌜ length (now numbers) ≤ 1024 ⌝ }
+    ensures { λ r. ⌜ Sends (severalText count (now (numbers .entry))) (now (out .entry)) r (now (out .exit)) ⌝ }
+{
+    let at = put_dashed(out, count, numbers);
+    put_bytes(out, at, b"listed\t")
+}
+
+// Those of a mask, with the number of days ticked.
+fn put_ticked(out: &mut [u8; OUT], ticked: u16, count: u16, numbers: &[u16]) -> usize
+    requires { ⌜ length (now numbers) ≤ 1024 ⌝ }
+    ensures { λ r. ⌜ Sends (tickedText ticked count (now (numbers .entry))) (now (out .entry)) r (now (out .exit)) ⌝ }
+{
+    let i = put_dashed(out, count, numbers);
+    let j = decimals::put_number(out, i, ticked, TAB);
+    put_bytes(out, j, b"ticked\t")
 }
 
 // A written text.
@@ -124,6 +144,7 @@ fn question_shape(question: Question) -> Shape
         Question::Span(_, _) => Shape::Listed,
         Question::Cover(_) => Shape::Listed,
         Question::Days => Shape::Several,
+        Question::Mask(_, _) => Shape::Ticked,
     }
 }
 
@@ -157,5 +178,6 @@ pub fn put_reply(out: &mut [u8; OUT], call: Call, o: Outcome, numbers: &[u16], t
         Shape::Text => put_written(out, n as u16, &text[..n]),
         Shape::Listed => put_listed(out, k as u16, o.comparisons as u16, &numbers[..k]),
         Shape::Several => put_several(out, k as u16, &numbers[..k]),
+        Shape::Ticked => put_ticked(out, o.ticked as u16, k as u16, &numbers[..k]),
     }
 }

@@ -1,12 +1,12 @@
 -- How many bytes follow a line: only the word `read` has any, the first of the table. Assumes nothing.
 use Prim.Native.String.{String}
 use Rattle.basis.proofs.Prelude.{_∙_, _≡_, refl, sym, _<_, _≤_, ℕ, List, [], _∷_, Bool, _&&_, both, cond, false, true, drop, length, arith, le-leb, lt-leb}
-use Rattle.fields.specs.Fields.{Found, found, unreadable, readLength, readNumber}
+use Rattle.fields.specs.Fields.{Found, found, unreadable, readLength, readNumber, readMask}
 use Rattle.register.specs.Text.{readLine}
 use Rattle.model.specs.declared.Call.the-variants.{Ask}
 use Rattle.model.specs.declared.Question.the-variants.{Days}
 use Rattle.requests.specs.declared.Layout.{Layout}
-use Rattle.requests.specs.declared.Layout.the-variants.{Alone, Spell, Number, Pair, Days as DayFields, Length, Unknown}
+use Rattle.requests.specs.declared.Layout.the-variants.{Alone, Spell, Number, Pair, Mask as MaskFields, Days as DayFields, Length, Unknown}
 use Rattle.requests.specs.declared.LengthWord.the-variants.{Room, Read}
 use Rattle.requests.specs.declared.Head.{Head}
 use Rattle.requests.specs.declared.Request.{Request}
@@ -23,6 +23,7 @@ silent (Alone c) = true
 silent (Spell w) = true
 silent (Number w) = true
 silent Pair = true
+silent MaskFields = true
 silent DayFields = true
 silent (Length Room) = true
 silent (Length Read) = false
@@ -52,6 +53,7 @@ none-by (Alone c) room s e = none-ended _ s refl
 none-by (Spell w) room s e = none-asking (readLine s) _ (λ x rest. none-ended _ rest refl)
 none-by (Number w) room s e = none-asking (readNumber 10 s) _ (λ n rest. none-ended _ rest refl)
 none-by Pair room s e = none-asking (readNumber 9 s) _ (λ a s1. none-asking (readNumber 10 s1) _ (λ b rest. none-ended _ rest refl))
+none-by MaskFields room s e = none-asking (readNumber 9 s) _ (λ b s1. none-asking (readMask 10 s1) _ (λ k rest. none-ended _ rest refl))
 none-by DayFields room s e = none-days (readDays room s)
 none-by (Length Room) room s e = none-asking (readLength 65536 10 s) _ (λ n rest. none-ended _ rest refl)
 none-by (Length Read) room s e = absurd (let z : _≡_ {A = ℕ} 0 1 = cc in omega arith)

@@ -1,14 +1,14 @@
 -- What a line asks, as the program holds it: its days stand in the lent list, and its room is one that can be lent. Assumes nothing.
 use Rattle.basis.proofs.Prelude.{_≡_, ap, refl, _≤_, suc, zero, ℕ, List, [], _++_, _∷_, Bool, _&&_, cond, false, true, leb, drop, length, take, take-at, arith}
-use Rattle.fields.specs.Fields.{Found, found, unreadable, readNumber, readLength}
+use Rattle.fields.specs.Fields.{Found, found, unreadable, readNumber, readLength, readMask}
 use Rattle.decimals.proofs.Decimals.{length-within}
 use Rattle.register.specs.Text.{readLine}
 use Rattle.model.specs.declared.Call.{Call}
 use Rattle.model.specs.declared.Call.the-variants.{Ask}
-use Rattle.model.specs.declared.Question.the-variants.{Days}
+use Rattle.model.specs.declared.Question.the-variants.{Days, Mask}
 use Rattle.requests.specs.declared.Request.{Request}
 use Rattle.requests.specs.declared.Layout.{Layout}
-use Rattle.requests.specs.declared.Layout.the-variants.{Alone, Spell, Number, Pair, Days as DayFields, Length, Unknown}
+use Rattle.requests.specs.declared.Layout.the-variants.{Alone, Spell, Number, Pair, Mask as MaskFields, Days as DayFields, Length, Unknown}
 use Rattle.requests.specs.declared.LengthWord.{LengthWord}
 use Rattle.requests.specs.declared.LengthWord.the-variants.{Room, Read}
 use Rattle.requests.specs.declared.Head.{Head}
@@ -69,6 +69,7 @@ sound-by (Alone c) n s = sound-ended _ s [] n (sound-call c n)
 sound-by (Spell w) n s = sound-asking (readLine s) _ n (λ x rest e. sound-ended _ rest [] n (sound-call (spellCall w x) n))
 sound-by (Number w) n s = sound-asking (readNumber 10 s) _ n (λ k rest e. sound-ended _ rest [] n (sound-call (numberCall w k) n))
 sound-by Pair n s = sound-asking (readNumber 9 s) _ n (λ a s1 e. sound-asking (readNumber 10 s1) _ n (λ b rest e1. sound-ended _ rest [] n (sound-call (pairCall a b) n)))
+sound-by MaskFields n s = sound-asking (readNumber 9 s) _ n (λ b s1 e. sound-asking (readMask 10 s1) _ n (λ k rest e1. sound-ended _ rest [] n (sound-call (Ask (Mask b k)) n)))
 sound-by DayFields n s = sound-days (readDays n s) n (days-few n s)
 sound-by (Length w) n s = sound-asking (readLength (limitOf w) 10 s) _ n (λ k rest e. sound-ended _ rest [] n (sound-length w k n (length-within (limitOf w) 10 s k rest e)))
 sound-by Unknown n s = unfold Sound in tt

@@ -9,7 +9,7 @@ use Rattle.spell.specs.declared.Spell.{Spell}
 use Rattle.fields.specs.Fields.{passed, readDigits, readDecimal, hexValue, readHex}
 use Rattle.register.specs.Text.{readLetter, readValue, readUrgency, readLine}
 use Rattle.model.specs.declared.Call.the-variants.{Enter, Amend, Strike, TakeBack, Publish, Write, Ask}
-use Rattle.model.specs.declared.Question.the-variants.{Day, Span, Cover, Days}
+use Rattle.model.specs.declared.Question.the-variants.{Day, Span, Cover, Days, Mask}
 use Rattle.requests.specs.Words.{table as words, begins, headOf}
 use Rattle.requests.specs.Requests.{Asked, asksCall, asks, asksRoom, asksRead, malformed, readDays, askedBy, askedOf}
 
@@ -35,6 +35,7 @@ table =
     ∷ ("cover 31\n", asks (Ask (Cover 31)))
     ∷ ("days 4 11 130\n", asksCall (Ask Days) (4 ∷ 11 ∷ 130 ∷ []))
     ∷ ("days\n", asks (Ask Days))
+    ∷ ("mask 130 00000000000000C1\n", asks (Ask (Mask 130 193)))
     ∷ ("room 1024\n", asksRoom 1024)
     ∷ ("read 45\n", asksRead 45)
     ∷ ("Day 130\n", malformed)
@@ -53,6 +54,11 @@ edges =
     ∷ ("read 9999999999\n", asksRead 9999999999)
     ∷ ("read 10000000000\n", malformed)
     ∷ ("read 00\n", malformed)
+    -- a full mask; fifteen digits, seventeen, a small letter
+    ∷ ("mask 65535 FFFFFFFFFFFFFFFF\n", asks (Ask (Mask 65535 18446744073709551615)))
+    ∷ ("mask 1 000000000000001\n", malformed)
+    ∷ ("mask 1 00000000000000001\n", malformed)
+    ∷ ("mask 1 000000000000000a\n", malformed)
     -- a tab after a bare word, no LF, a byte after the LF
     ∷ ("publish \n", malformed)
     ∷ ("publish", malformed)

@@ -4,7 +4,7 @@ use Rattle.fields.specs.Fields.{Found, found, unreadable, readNumber}
 use Rattle.fields.proofs.Widths.{decimal-wide}
 use Rattle.decimals.proofs.Decimals.{write-number}
 use Rattle.requests.specs.declared.Layout.{Layout}
-use Rattle.requests.specs.declared.Layout.the-variants.{Alone, Spell, Number, Pair, Days, Length, Unknown}
+use Rattle.requests.specs.declared.Layout.the-variants.{Alone, Spell, Number, Pair, Mask, Days, Length, Unknown}
 use Rattle.requests.specs.declared.Head.{Head}
 use Rattle.requests.specs.Words.{table, headOf}
 use Rattle.requests.specs.Requests.{malformed, lastDay, nextDay, readDays, askDays, askedBy, askedOf}
@@ -46,6 +46,7 @@ by-enough (Alone c) n j s h = refl
 by-enough (Spell w) n j s h = refl
 by-enough (Number w) n j s h = refl
 by-enough Pair n j s h = refl
+by-enough Mask n j s h = refl
 by-enough Days n j s h = ap askDays (days-enough n j s h)
 by-enough (Length w) n j s h = refl
 by-enough Unknown n j s h = refl

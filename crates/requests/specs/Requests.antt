@@ -4,13 +4,13 @@ use mathlib.Core.Bool.{Bool, true, false, cond}
 use mathlib.Core.List.{List, [], _∷_}
 use lib.Dec.{leb}
 use lib.ListN.{length, drop}
-use Rattle.fields.specs.Fields.{Found, found, unreadable, readLength, readNumber}
+use Rattle.fields.specs.Fields.{Found, found, unreadable, readLength, readNumber, readMask}
 use Rattle.register.specs.Text.{tab, lf, readLine}
 use Rattle.model.specs.declared.Call.{Call}
 use Rattle.model.specs.declared.Call.the-variants.{Ask}
-use Rattle.model.specs.declared.Question.the-variants.{Days}
+use Rattle.model.specs.declared.Question.the-variants.{Days, Mask}
 use Rattle.requests.specs.declared.Layout.{Layout}
-use Rattle.requests.specs.declared.Layout.the-variants.{Alone, Spell, Number, Pair, Days as DayFields, Length, Unknown}
+use Rattle.requests.specs.declared.Layout.the-variants.{Alone, Spell, Number, Pair, Mask as MaskFields, Days as DayFields, Length, Unknown}
 use Rattle.requests.specs.declared.LengthWord.{LengthWord}
 use Rattle.requests.specs.declared.LengthWord.the-variants.{Room, Read}
 use Rattle.requests.specs.Words.{table, headOf, spellCall, numberCall, pairCall, limitOf}
@@ -80,6 +80,7 @@ askedBy (Alone c) room s = ended (asks c) s
 askedBy (Spell w) room s = asking (readLine s) (λ x. ended (asks (spellCall w x)))
 askedBy (Number w) room s = asking (readNumber lf s) (λ n. ended (asks (numberCall w n)))
 askedBy Pair room s = asking (readNumber tab s) (λ a s1. asking (readNumber lf s1) (λ b. ended (asks (pairCall a b))))
+askedBy MaskFields room s = asking (readNumber tab s) (λ b s1. asking (readMask lf s1) (λ k. ended (asks (Ask (Mask b k)))))
 askedBy DayFields room s = askDays (readDays room s)
 askedBy (Length w) room s = asking (readLength (limitOf w) lf s) (λ n. ended (lengthAsks w n))
 askedBy Unknown room s = malformed
@@ -90,6 +91,7 @@ daysBy (Alone c) room s = []
 daysBy (Spell w) room s = []
 daysBy (Number w) room s = []
 daysBy Pair room s = []
+daysBy MaskFields room s = []
 daysBy DayFields room s = readDays room s .days
 daysBy (Length w) room s = []
 daysBy Unknown room s = []

@@ -12,7 +12,7 @@ use Rattle.model.specs.declared.Call.{Call}
 use Rattle.model.specs.declared.Call.the-variants.{Enter, Amend, Strike, TakeBack, Publish, Write, Ask}
 use Rattle.model.specs.declared.Question.the-variants.{Day, Span, Cover, Days}
 use Rattle.requests.specs.declared.Layout.{Layout}
-use Rattle.requests.specs.declared.Layout.the-variants.{Alone, Spell as SpellFields, Number, Pair, Days as DayFields, Length, Unknown}
+use Rattle.requests.specs.declared.Layout.the-variants.{Alone, Spell as SpellFields, Number, Pair, Mask as MaskFields, Days as DayFields, Length, Unknown}
 use Rattle.requests.specs.declared.SpellWord.{SpellWord}
 use Rattle.requests.specs.declared.SpellWord.the-variants.{Enter as EnterWord, Amend as AmendWord}
 use Rattle.requests.specs.declared.NumberWord.{NumberWord}
@@ -26,6 +26,7 @@ unfoldable pub table : List (String × Layout)
 table =
     ("read\t", Length Read)
     ∷ ("room\t", Length Room)
+    ∷ ("mask\t", MaskFields)
     ∷ ("days\n", Alone (Ask Days))
     ∷ ("days\t", DayFields)
     ∷ ("cover\t", Number CoverWord)

@@ -36,6 +36,8 @@ pub enum Layout {
     Number(NumberWord),
     // two numbers, the days of a span
     Pair,
+    // a number and sixteen hex digits, the base day and the mask of a sheet
+    Mask,
     // one day or more
     Days,
     // a decimal up to a limit
@@ -122,6 +124,7 @@ fn head_of(line: &[u8]) -> Head
     let h = head_or(line, b"cover\t", Layout::Number(NumberWord::Cover), h);
     let h = head_or(line, b"days\t", Layout::Days, h);
     let h = head_or(line, b"days\n", Layout::Alone(Call::Ask(Question::Days)), h);
+    let h = head_or(line, b"mask\t", Layout::Mask, h);
     let h = head_or(line, b"room\t", Layout::Length(LengthWord::Room), h);
     head_or(line, b"read\t", Layout::Length(LengthWord::Read), h)
 }
@@ -191,6 +194,18 @@ fn pair_asked(line: &[u8], at: usize) -> Request
         next,
         Request::Call(Call::Ask(Question::Span(a, b)), 0),
     )
+}
+
+fn mask_asked(line: &[u8], at: usize) -> Request
+    ensures { λ r. ⌜ Asks Layout.Mask (drop at (now (line .entry))) r ⌝ }
+{
+    let Field::Value(base, i) = decimals::read_number(line, at, TAB) else {
+        return Request::Malformed;
+    };
+    let Length::Value(mask, next) = hex::read_mask(line, i, LF) else {
+        return Request::Malformed;
+    };
+    if_ended(line, next, Request::Call(Call::Ask(Question::Mask(base, mask)), 0))
 }
 
 // The largest decimal of a word, and what it asks.
@@ -268,6 +283,7 @@ pub fn parse(line: &[u8], days: &mut [u16]) -> Request
         Layout::Spell(w) => spell_asked(line, at, w),
         Layout::Number(w) => number_asked(line, at, w),
         Layout::Pair => pair_asked(line, at),
+        Layout::Mask => mask_asked(line, at),
         Layout::Days => read_days(line, at, days),
         Layout::Length(w) => length_asked(line, at, w),
         Layout::Unknown => Request::Malformed,

@@ -1,6 +1,9 @@
 -- From a question over the index to the postcondition of the call. Assumes nothing.
-use Rattle.basis.proofs.Prelude.{_∙_, _≡_, ap, refl, subst, sym, _≤_, ℕ, List, length, length-map, arith}
+use Rattle.basis.proofs.Prelude.{_∙_, _≡_, ap, refl, subst, sym, _≤_, ℕ, List, false, eqb, length, length-map, arith, by-test}
+use Rattle.refusal.specs.Table.{accepted, offCalendar}
 use Rattle.spell.specs.declared.Spell.{Spell}
+use Rattle.calendar.specs.Calendar.{daysOk}
+use Rattle.masks.specs.Masks.{ticks}
 use Rattle.stabbing.specs.declared.Listed.{Listed}
 use Rattle.stabbing.specs.Index.{numbers, firsts, lasts, Built}
 use Rattle.stabbing.specs.Answer as rows
@@ -9,14 +12,15 @@ use Rattle.stabbing.proofs.Block as block
 use Rattle.model.specs.declared.Call.{Call}
 use Rattle.model.specs.declared.Call.the-variants.{Ask}
 use Rattle.model.specs.declared.Question.{Question}
-use Rattle.model.specs.declared.Question.the-variants.{Day, Span, Cover, Days}
+use Rattle.model.specs.declared.Question.the-variants.{Day, Span, Cover, Days, Mask}
 use Rattle.model.specs.Questions.{firstsOf, lastsOf}
 use Rattle.model.specs.Model.{State, effectOf, step}
 use Rattle.model.proofs.Claims.{reads-keep}
+use Rattle.model.proofs.Masks.{ticking, mask-off, mask-as-days}
 use Rattle.service.specs.declared.Service.{Service}
 use Rattle.service.specs.declared.Outcome.{Outcome}
 use Rattle.service.specs.declared.Stepped.{Stepped}
-use Rattle.service.specs.Outcomes.{foundOf}
+use Rattle.service.specs.Outcomes.{toldOf, foundOf, tickingOf}
 use Rattle.service.specs.Service.{Blocks, blocks, Shows, Represents, Published, asking, Met, Asked}
 use Rattle.service.proofs.Questions.{told, numbersOf, own, day-told, span-told, cover-told, days-told}
 use Rattle.service.proofs.Publishing.{rows-ok}
@@ -88,3 +92,30 @@ module _ (ix : List ℕ) (days ns : List ℕ) (l : Listed) (o : Outcome) (is : o
   unfolding effectOf
   days-asked g = gave-asked Days (daysIn ix days ns) g (λ m text s.
       rw (shows-numbers s, shows-firsts s, shows-lasts s) (days-told m (asking (Ask Days) days ns text)))
+
+-- ---- A mask: the days question for the ticked days
+
+module _ (ix : List ℕ) (b k : ℕ) (days ns : List ℕ) where
+  -- a ticked day off the calendar
+  pub mask-off-asked : daysOk (ticks b k) ≡ false → (o : Outcome) → o ≡ toldOf offCalendar → Asked (blocks ix) (Mask b k) days ns o ns
+  mask-off-asked off o is = record {
+    met = λ sv text here. record {
+      given = here;
+      answer = λ m h. rw (is, mask-off m (asking (Ask (Mask b k)) days ns text) b k off);
+      after = λ m h. subst (Represents sv (blocks ix)) (sym (reads-keep m (asking (Ask (Mask b k)) days ns text) refl)) h;
+    };
+  }
+
+  -- what the days question gave for the ticked days, with their number
+  pub mask-asked : {ds : List ℕ} {n : ℕ} {o : Outcome} {ns′ : List ℕ} → ds ≡ ticks b k → n ≡ length (ticks b k) → Asked (blocks ix) Days ds ns o ns′
+      → (r : Outcome) → r ≡ tickingOf o n → Asked (blocks ix) (Mask b k) days ns r ns′
+  mask-asked {ds} {n} {o} {ns′} e many a r is = record {
+    met = λ sv text here. record {
+      given = here;
+      answer = λ m h.
+          rw (is, many) (by-test (eqb (o .refusal) accepted) (λ f. rw f) (λ f. rw f)
+          ∙ ap (ticking (length (ticks b k))) (a .met sv text here .answer m h)
+          ∙ sym (mask-as-days m (asking (Ask (Mask b k)) days ns text) b k ds e));
+      after = λ m h. subst (Represents sv (blocks ix)) (sym (reads-keep m (asking (Ask (Mask b k)) days ns text) refl)) h;
+    };
+  }

@@ -84,14 +84,14 @@ module _ (m : State) (q : Request) where
   abbrev rows : List Spell
   rows = m .published
 
-  give-told : (ns : List ℕ) (c : ℕ) → told (give ns c (q .numbers)) (q .text) ≡ settle (gives ns c) m q .answer
+  give-told : (ns : List ℕ) (c : ℕ) → told (give ns c (q .numbers)) (q .text) ≡ settle (gives ns c 0) m q .answer
   unfolding give settle
   give-told ns c = by-test (leb (length ns) (length (q .numbers))) (λ e. rw (e, give)) (λ e. rw (e, give))
 
   -- what the rows that pass a test are told as
   several-told : (t : Spell → Bool) (u : ℕ → Bool) (c : ℕ) → Agree u t rows
       → told (give (map (λ (k : ℕ). getD (numbersOf rows) k 0) (keep u (length (firstsOf rows)))) c (q .numbers)) (q .text)
-      ≡ settle (gives (listed t rows) c) m q .answer
+      ≡ settle (gives (listed t rows) c 0) m q .answer
   several-told t u c same =
       rw (length-map rows (λ (s : Spell). s .first), rows-kept (λ (s : Spell). s .number) u t rows same) (give-told (listed t rows) c)
 

@@ -7,7 +7,7 @@ use Rattle.register.specs.Text.{readText}
 use Rattle.model.specs.declared.Call.{Call}
 use Rattle.model.specs.declared.Call.the-variants.{Enter, Amend, Strike, TakeBack, Publish, Write, Ask}
 use Rattle.model.specs.declared.Question.{Question}
-use Rattle.model.specs.declared.Question.the-variants.{Day, Span, Cover, Days}
+use Rattle.model.specs.declared.Question.the-variants.{Day, Span, Cover, Days, Mask}
 use Rattle.model.specs.Model.{fresh}
 use Rattle.service.specs.declared.Service.{Service}
 use Rattle.service.specs.declared.Outcome.{Outcome}
@@ -30,6 +30,7 @@ use Rattle.service.proofs.day.Reads as day-reads
 use Rattle.service.proofs.span.Reads as span-reads
 use Rattle.service.proofs.cover.Reads as cover-reads
 use Rattle.service.proofs.days.Reads as days-reads
+use Rattle.service.proofs.mask.Reads as mask-reads
 use Rattle.service.proofs.ask.Reads as ask-reads
 use Rattle.service.proofs.step.Reads as step-reads
 use Rattle.service.proofs.pack.Reads as pack-reads
@@ -92,6 +93,11 @@ module _ (κs : Lfts 2) (index numbers numbers′ : RefT (List ℕ)) (o : Outcom
   pub cover-steps : (k : ℕ) → (cover-reads.Pre κs (index, (k, (numbers, tt))) → cover-reads.Post κs (index, (k, (numbers, tt))) o (index, (k, (numbers′, tt))))
       → Steps sv (blocks (now index)) (asking (Ask (Cover k)) days (now numbers) text) (keeping sv o) (blocks (now index)) (now numbers′) text
   cover-steps k met g = met (g .published) days .met sv text g
+
+  pub mask-steps : (b k : ℕ)
+      → (mask-reads.Pre κs (index, (b, (k, (numbers, tt)))) → mask-reads.Post κs (index, (b, (k, (numbers, tt)))) o (index, (b, (k, (numbers′, tt)))))
+      → Steps sv (blocks (now index)) (asking (Ask (Mask b k)) days (now numbers) text) (keeping sv o) (blocks (now index)) (now numbers′) text
+  mask-steps b k met g = met (g .published) days .met sv text g
 
 module _ (κs : Lfts 3) (index days numbers numbers′ : RefT (List ℕ)) (o : Outcome) {sv : Service} {text : List ℕ} where
   pub days-steps : (days-reads.Pre κs (index, (days, (numbers, tt))) → days-reads.Post κs (index, (days, (numbers, tt))) o (index, (days, (numbers′, tt))))
@@ -167,6 +173,9 @@ module _ (κs : Lfts 2) (index numbers : RefT (List ℕ)) where
 
   pub cover-asks : (k : ℕ) → cover-reads.Pre κs (index, (k, (numbers, tt))) ≡ Published (now index)
   cover-asks k = refl
+
+  pub mask-asks : (b k : ℕ) → mask-reads.Pre κs (index, (b, (k, (numbers, tt)))) ≡ Published (now index)
+  mask-asks b k = refl
 
 module _ (κs : Lfts 3) (index days numbers : RefT (List ℕ)) where
   pub days-asks : days-reads.Pre κs (index, (days, (numbers, tt))) ≡ Published (now index)

@@ -8,12 +8,14 @@ ghost use Rattle.refusal.specs.Table.{accepted};
 ghost use Rattle.register.specs.Text.{readText};
 ghost use Rattle.model.specs.Model.{fresh};
 ghost use Rattle.service.specs.Places.{serviceOf, freshService};
-ghost use Rattle.service.specs.Outcomes.{toldOf, foundOf, wroteOf};
+ghost use Rattle.service.specs.Outcomes.{toldOf, foundOf, wroteOf, tickingOf};
 ghost use Rattle.service.specs.Service.{indexOf, blocks, Valid, Represents, Published, Given, asking, keeping, Met, Changed, Publishes, Asked, Wrote, Begins};
 ghost use Rattle.service.specs.Packed.{unpacked, Packs};
+use masks::Ticks;
 use model::Call;
 use model::Question;
 use refusal::ACCEPTED;
+use refusal::OFF_CALENDAR;
 use register::Written;
 use spell::Spell;
 use stabbing::INDEX;
@@ -28,12 +30,13 @@ pub struct Service {
 }
 
 // What a call returns beside its lent lists: the refusal's number or 0, how many spells are listed, the comparisons made
-// (document 01's looks), the length of a written text.
+// (document 01's looks), the length of a written text, the number of days ticked.
 pub struct Outcome {
     pub refusal: u16,
     pub count: usize,
     pub comparisons: usize,
     pub length: usize,
+    pub ticked: usize,
 }
 
 pub struct Stepped {
@@ -59,6 +62,7 @@ fn told(number: u16) -> Outcome
         count: 0,
         comparisons: 0,
         length: 0,
+        ticked: 0,
     }
 }
 
@@ -71,6 +75,7 @@ fn found(l: Listed) -> Outcome
         count: l.count,
         comparisons: l.comparisons,
         length: 0,
+        ticked: 0,
     }
 }
 
@@ -83,6 +88,23 @@ fn wrote(w: Written) -> Outcome
         count: 0,
         comparisons: 0,
         length: w.length,
+        ticked: 0,
+    }
+}
+
+// What several days gave, of which so many are ticked: told where it is accepted.
+fn ticking(o: Outcome, n: usize) -> Outcome
+    ensures { λ r. ⌜ r ≡ tickingOf o n ⌝ }
+{
+    if o.refusal != ACCEPTED {
+        return o;
+    }
+    Outcome {
+        refusal: o.refusal,
+        count: o.count,
+        comparisons: o.comparisons,
+        length: o.length,
+        ticked: n,
     }
 }
 
@@ -238,6 +260,19 @@ pub fn days(index: &[u16; INDEX], days: &[u16], numbers: &mut [u16]) -> Outcome
     found(stabbing_days::days(index, days, numbers))
 }
 
+// The ticked days of a base day and a mask (document 02's review calendar): the spells that contain at least one of them, and how many days
+// are ticked.
+pub fn mask(index: &[u16; INDEX], base: u16, mask: u64, numbers: &mut [u16]) -> Outcome
+    requires { ⌜ Published (now index) ⌝ }
+    ensures { λ r. ⌜ ((days : List ℕ) → Asked (blocks (now (index .entry))) (Question.Mask base mask) days (now (numbers .entry)) r (now (numbers .exit))) ⌝ }
+{
+    let mut ticked = [0u16; 64];
+    let Ticks::All(n) = masks::ticked(base, mask, &mut ticked) else {
+        return told(OFF_CALENDAR);
+    };
+    ticking(days(index, &ticked[..n], numbers), n)
+}
+
 // Any of the questions; the days are those of a days question.
 pub fn ask(index: &[u16; INDEX], question: Question, dates: &[u16], numbers: &mut [u16]) -> Outcome
     requires { ⌜ Published (now index) ⌝ }
@@ -248,6 +283,7 @@ pub fn ask(index: &[u16; INDEX], question: Question, dates: &[u16], numbers: &mu
         Question::Span(a, b) => span(index, a, b, numbers),
         Question::Cover(number) => cover(index, number, numbers),
         Question::Days => days(index, dates, numbers),
+        Question::Mask(base, bits) => mask(index, base, bits, numbers),
     }
 }
 

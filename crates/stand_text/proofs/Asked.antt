@@ -50,7 +50,7 @@ module _ (m : State) (q : Request) (g : Good (m .published)) (room : 1024 ≤ le
   abbrev ToldBy : After → Type 0
   ToldBy x = Told p d (x .answer .count) (x .answer .comparisons) (x .answer .numbers)
 
-  told-on : ToldBy (settle (gives (listed (onDay d) p) (comparisonsOf d d p)) m q)
+  told-on : ToldBy (settle (gives (listed (onDay d) p) (comparisonsOf d d p) 0) m q)
   unfolding settle
   told-on =
       let few : length (listed (onDay d) p) ≤ 1024 = omega (arith, listed-few (onDay d) p, g .few) in

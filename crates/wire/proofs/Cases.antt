@@ -9,13 +9,14 @@ use Rattle.fields.specs.Fields.{digitsOf, decimalOf, hexDigit, hexOf, numbersTe
 use Rattle.register.specs.Text.{lineText, textOnto, readLetter, readValue, readUrgency, readLine, follows, lineRefusal, lineAnswer, nextLine, readLines, readText}
 use Rattle.model.specs.Edits.{insertBy, enterRefusal, strikeRefusal, remember}
 use Rattle.calendar.specs.Calendar.{daysOk}
+use Rattle.masks.specs.Masks.{isSet, ticksFrom}
 use Rattle.model.specs.Questions.{onAny, rising, filter, comparisonsOf}
 use Rattle.model.specs.Effects.{settle}
 use Rattle.model.specs.Model.{takeBack, cover, ask, effectOf}
 use Rattle.requests.specs.Words.{table, begins, headOf}
 use Rattle.requests.specs.Requests.{readDays, askedBy, askedOf}
 use Rattle.requests.proofs.Cases.{spelled}
-use Rattle.replies.specs.Replies.{refusedText, stoppedText, listedText, severalText, writtenText, shapeText, callText, readingText}
+use Rattle.replies.specs.Replies.{refusedText, stoppedText, listedText, dashedText, severalText, tickedText, writtenText, shapeText, callText, readingText}
 use Rattle.wire.specs.Conversation.{Sent, opening, registerOf, turnOf, converse}
 
 -- a request and its answer: the line, the bytes after the line of a `read`, and the answer's bytes
@@ -48,9 +49,13 @@ edges =
     ∷ ("publish\n", "", "ok\n")
     ∷ ("span 5 9\n", "", "listed 1 0 11\n")
     ∷ ("day 4001\n", "", "refused 3\n")
+    ∷ ("mask 4 0000000000000081\n", "", "ticked 2 1 - 11\n")
+    ∷ ("mask 65535 8000000000000000\n", "", "refused 3\n")
     ∷ ("room 0\n", "", "ok\n")
     ∷ ("cover 11\n", "", "refused 11\n")
     ∷ ("days\n", "", "listed 0 -\n")
+    ∷ ("mask 4 0000000000000081\n", "", "refused 11\n")
+    ∷ ("mask 65535 0000000000000000\n", "", "ticked 0 0 -\n")
     ∷ ("take-back\n", "", "ok\n")
     ∷ ("take-back\n", "", "refused 9\n")
     ∷ ("write\n", "", "text 0\n")
@@ -58,9 +63,9 @@ edges =
 
 -- THE PROTOCOL'S EXAMPLE, and the edges
 pub example : map (λ c. converse opening (map sent c)) (session ∷ edges ∷ []) ≡ map (map (λ x. spelled (x .2))) (session ∷ edges ∷ [])
-unfolding spelled converse turnOf registerOf callText readingText shapeText refusedText stoppedText listedText severalText writtenText
+unfolding spelled converse turnOf registerOf callText readingText shapeText refusedText stoppedText listedText dashedText severalText tickedText writtenText
     table begins headOf askedBy askedOf readDays digitsOf decimalOf hexDigit hexOf numbersText passed readDigits readDecimal hexValue readHex
     lineText textOnto readLetter readValue readUrgency readLine follows lineRefusal lineAnswer nextLine readLines readText
     settle effectOf takeBack ask cover enterRefusal strikeRefusal insertBy remember earlierOf stands isNan toBits ofBits
-    onAny daysOk rising filter comparisonsOf below keep count head next parent child leftSibling lastChild fitsAt start onPath formula
+    onAny daysOk rising ticksFrom isSet filter comparisonsOf below keep count head next parent child leftSibling lastChild fitsAt start onPath formula
 example = refl

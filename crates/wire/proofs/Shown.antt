@@ -5,8 +5,8 @@ use Rattle.model.specs.declared.Call.{Call}
 use Rattle.model.specs.Effects.{State, Request, Answer, After, Effect, refused, done, gives, writes, refuse, settle}
 use Rattle.model.specs.Model.{effectOf, stepOf}
 use Rattle.replies.specs.declared.Shape.{Shape}
-use Rattle.replies.specs.declared.Shape.the-variants.{Ok, Text, Listed, Several}
-use Rattle.replies.specs.Replies.{writtenText, listedText, severalText, shapeOf, shapeText, callText}
+use Rattle.replies.specs.declared.Shape.the-variants.{Ok, Text, Listed, Several, Ticked}
+use Rattle.replies.specs.Replies.{writtenText, listedText, severalText, tickedText, shapeOf, shapeText, callText}
 
 -- what is shown of an answer: of its lists as many places as it counts
 abbrev shown : Answer → Answer
@@ -15,6 +15,7 @@ shown a = record {
   count = a .count;
   comparisons = a .comparisons;
   length = a .length;
+  ticked = a .ticked;
   numbers = take (a .count) (a .numbers);
   text = take (a .length) (a .text);
 }
@@ -45,7 +46,7 @@ module _ (m : State) (c : Call) (ds ns ns′ ts ts′ : List ℕ) (en : length n
   unfolding settle
   same-settle (refused n) = same-refuse n m
   same-settle (done m′) = same-refuse accepted m′
-  same-settle (gives l k) = rw en (same-cond (leb (length l) (length ns′))
+  same-settle (gives l k t) = rw en (same-cond (leb (length l) (length ns′))
       (record { state = refl; answer = rw (front l (drop (length l) ns) (drop (length l) ns′)) })
       (same-refuse shortBuffer m))
   same-settle (writes t) = rw et (same-cond (leb (length t) (length ts′))
@@ -63,6 +64,7 @@ same-shape Ok x y e = refl
 same-shape Text x y e = ap (λ (a : Answer). writtenText (a .length) (a .text)) (e .answer)
 same-shape Listed x y e = ap (λ (a : Answer). listedText (a .count) (a .comparisons) (a .numbers)) (e .answer)
 same-shape Several x y e = ap (λ (a : Answer). severalText (a .count) (a .numbers)) (e .answer)
+same-shape Ticked x y e = ap (λ (a : Answer). tickedText (a .ticked) (a .count) (a .numbers)) (e .answer)
 
 pub same-call : (c : Call) (x y : After) → Same x y → callText c (x .answer) ≡ callText c (y .answer)
 unfolding callText

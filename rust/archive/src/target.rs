@@ -87,7 +87,7 @@ fn ask(published: Published<'_>, question: &Question, numbers: &mut [u16]) -> An
         Question::Days(days) => (published.days(days, numbers), false),
     };
     match listed {
-        Ok(Listed { count, looks }) => {
+        Ok(Listed { count, looks, .. }) => {
             // a question that reports no looks has 0 there
             let looks = (reports_looks || looks > 0).then_some(looks);
             Answer::Listed { numbers: numbers[..count].to_vec(), looks }

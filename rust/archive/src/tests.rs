@@ -28,7 +28,7 @@ fn a_shared_index_answers() {
     service.publish(&mut index);
     let shared = unsafe { Published::shared(index.into_words()) }.expect(LENGTHS);
     let mut numbers = [0];
-    assert_eq!(shared.day(9, &mut numbers), Ok(Listed { count: 1, looks: 0 }));
+    assert_eq!(shared.day(9, &mut numbers), Ok(Listed { count: 1, ..Listed::default() }));
     assert_eq!(numbers, [5]);
     assert_eq!(shared.day(9, &mut []), Err(Refusal::SHORT_BUFFER));
 }

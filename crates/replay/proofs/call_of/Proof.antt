@@ -20,6 +20,7 @@ call-of-spec =
     (λ c. simp (c .match .keys8))
     (λ c. simp (c .match .keys9))
     (λ c. simp (c .match .keys10))
+    (λ c. simp (c .match .keys11))
     -- none
     (λ c. let r = c .match .rest in simp (
       ne-eqb _ _ (r .1),
@@ -32,4 +33,5 @@ call-of-spec =
       ne-eqb _ _ (r .0 .0 .0 .0 .0 .0 .0 .1),
       ne-eqb _ _ (r .0 .0 .0 .0 .0 .0 .0 .0 .1),
       ne-eqb _ _ (r .0 .0 .0 .0 .0 .0 .0 .0 .0 .1),
+      ne-eqb _ _ (r .0 .0 .0 .0 .0 .0 .0 .0 .0 .0 .1),
     )))

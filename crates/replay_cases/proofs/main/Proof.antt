@@ -11,16 +11,16 @@ expect-requires-2 : tie.Need-expect-requires-2
 expect-requires-2 c κs = at 0 (c .before .before .before .before .before .run .ensures .calls .told ∙ seen .told)
 
 expect-requires-3 : tie.Need-expect-requires-3
-expect-requires-3 c κs = at 8 (c .before .before .before .before .before .before .run .ensures .calls .told ∙ seen .told)
+expect-requires-3 c κs = at 10 (c .before .before .before .before .before .before .run .ensures .calls .told ∙ seen .told)
 
 expect-requires-4 : tie.Need-expect-requires-4
-expect-requires-4 c κs = at 16 (c .before .before .before .before .before .before .before .run .ensures .calls .told ∙ seen .told)
+expect-requires-4 c κs = at 20 (c .before .before .before .before .before .before .before .run .ensures .calls .told ∙ seen .told)
 
 expect-requires-5 : tie.Need-expect-requires-5
-expect-requires-5 c κs = at 17 (c .before .before .before .before .before .before .before .before .run .ensures .calls .told ∙ seen .told)
+expect-requires-5 c κs = at 21 (c .before .before .before .before .before .before .before .before .run .ensures .calls .told ∙ seen .told)
 
 expect-requires-6 : tie.Need-expect-requires-6
-expect-requires-6 c κs = at 18 (c .before .before .before .before .before .before .before .before .before .run .ensures .calls .told ∙ seen .told)
+expect-requires-6 c κs = at 22 (c .before .before .before .before .before .before .before .before .before .run .ensures .calls .told ∙ seen .told)
 
 expect-requires-7 : tie.Need-expect-requires-7
 expect-requires-7 c κs = at 0 (c .before .before .before .before .before .before .before .before .before .before .run .ensures .calls .listed ∙ seen .listed)
@@ -32,13 +32,13 @@ expect-requires-9 : tie.Need-expect-requires-9
 expect-requires-9 c κs = at 2 (c .before .before .before .before .before .before .before .before .before .before .before .before .run .ensures .calls .listed ∙ seen .listed)
 
 expect-requires-10 : tie.Need-expect-requires-10
-expect-requires-10 c κs = at 20 (c .before .before .before .before .before .before .before .before .before .before .before .before .before .run .ensures .calls .told ∙ seen .told)
+expect-requires-10 c κs = at 25 (c .before .before .before .before .before .before .before .before .before .before .before .before .before .run .ensures .calls .told ∙ seen .told)
 
 expect-requires-11 : tie.Need-expect-requires-11
 expect-requires-11 c κs = at 3 (c .before .before .before .before .before .before .before .before .before .before .before .before .before .before .run .ensures .calls .listed ∙ seen .listed)
 
 expect-requires-12 : tie.Need-expect-requires-12
-expect-requires-12 c κs = at 31 (c .before .before .before .before .before .before .before .before .before .before .before .before .before .before .before .run .ensures .calls .told ∙ seen .told)
+expect-requires-12 c κs = at 38 (c .before .before .before .before .before .before .before .before .before .before .before .before .before .before .before .run .ensures .calls .told ∙ seen .told)
 
 expect-requires-13 : tie.Need-expect-requires-13
 expect-requires-13 c κs = at 0 (c .before .before .before .before .before .before .before .before .before .before .before .before .before .before .before .before .run .ensures .calls .written ∙ seen .written)
@@ -50,13 +50,13 @@ expect-requires-15 : tie.Need-expect-requires-15
 expect-requires-15 c κs = at 13 (c .before .before .before .before .before .before .before .before .before .before .before .before .before .before .before .before .before .before .run .ensures .calls .written ∙ seen .written)
 
 expect-requires-16 : tie.Need-expect-requires-16
-expect-requires-16 c κs = at 32 (c .before .before .before .before .before .before .before .before .before .before .before .before .before .before .before .before .before .before .before .run .ensures .calls .told ∙ seen .told)
+expect-requires-16 c κs = at 40 (c .before .before .before .before .before .before .before .before .before .before .before .before .before .before .before .before .before .before .before .run .ensures .calls .told ∙ seen .told)
 
 expect-requires-17 : tie.Need-expect-requires-17
-expect-requires-17 c κs = at 36 (c .before .before .before .before .before .before .before .before .before .before .before .before .before .before .before .before .before .before .before .before .run .ensures .calls .told ∙ seen .told)
+expect-requires-17 c κs = at 45 (c .before .before .before .before .before .before .before .before .before .before .before .before .before .before .before .before .before .before .before .before .run .ensures .calls .told ∙ seen .told)
 
 expect-requires-18 : tie.Need-expect-requires-18
-expect-requires-18 c κs = at 40 (c .before .before .before .before .before .before .before .before .before .before .before .before .before .before .before .before .before .before .before .before .before .run .ensures .calls .told ∙ seen .told)
+expect-requires-18 c κs = at 50 (c .before .before .before .before .before .before .before .before .before .before .before .before .before .before .before .before .before .before .before .before .before .run .ensures .calls .told ∙ seen .told)
 
 pub main-spec : {M : Type 1} → statement M
 main-spec =

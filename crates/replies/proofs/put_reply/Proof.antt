@@ -27,8 +27,13 @@ put-reply-spec =
     (λ c. search needs) (λ c. search needs)
     (λ c. let start = c .before .before .before .before .before .before .before .before .before in sym (length-take-le (start .args .o .count) (start .args .numbers .now) (start .pre .listed)))
     (λ c κs. let start = c .before .before .before .before .before .before .before .before .before in omega (arith, length-take-le (start .args .o .count) (start .args .numbers .now) (start .pre .listed), start .pre .count))
+    -- and the days ticked
+    (λ c. search needs) (λ c. search needs) (λ c. search needs)
+    (λ c. let start = c .before .before .before .before .before .before .before .before .before .before in sym (length-take-le (start .args .o .count) (start .args .numbers .now) (start .pre .listed)))
+    (λ c κs. let start = c .before .before .before .before .before .before .before .before .before .before in omega (arith, length-take-le (start .args .o .count) (start .args .numbers .now) (start .pre .listed), start .pre .count))
     -- the bytes of each shape
     (λ c. let told = c .before .before in let shaped = told .before .before in let a = shaped .before .before .before .before .before .args in sends-shape (a .call) (a .o) (a .numbers .now) (a .text .now) (shaped .before .if1 .left) (shaped .shape-of .ensures) (told .enum-told .given .1) (c .put-ok .ensures))
     (λ c. let told = c .before .before .before in let shaped = told .before .before in let a = shaped .before .before .before .before .before .args in sends-shape (a .call) (a .o) (a .numbers .now) (a .text .now) (shaped .before .if1 .left) (shaped .shape-of .ensures) (told .enum-told2 .given .1) (c .put-written .ensures))
     (λ c. let told = c .before .before .before .before in let shaped = told .before .before in let a = shaped .before .before .before .before .before .args in sends-shape (a .call) (a .o) (a .numbers .now) (a .text .now) (shaped .before .if1 .left) (shaped .shape-of .ensures) (told .enum-told3 .given .1) (c .put-listed .ensures))
-    (λ c. let told = c .before .before .before in let shaped = told .before .before in let a = shaped .before .before .before .before .before .args in sends-shape (a .call) (a .o) (a .numbers .now) (a .text .now) (shaped .before .if1 .left) (shaped .shape-of .ensures) (told .enum-told4 .given .1) (c .put-several .ensures)))
+    (λ c. let told = c .before .before .before in let shaped = told .before .before in let a = shaped .before .before .before .before .before .args in sends-shape (a .call) (a .o) (a .numbers .now) (a .text .now) (shaped .before .if1 .left) (shaped .shape-of .ensures) (told .enum-told4 .given .1) (c .put-several .ensures))
+    (λ c. let told = c .before .before .before .before in let shaped = told .before .before in let a = shaped .before .before .before .before .before .args in sends-shape (a .call) (a .o) (a .numbers .now) (a .text .now) (shaped .before .if1 .left) (shaped .shape-of .ensures) (told .enum-told5 .given .1) (c .put-ticked .ensures)))

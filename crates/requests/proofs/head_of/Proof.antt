@@ -8,7 +8,8 @@ use Rattle.requests.proofs.head_of.Tie as tie
 returns : tie.Need-returns
 unfolding table
 returns c =
-    let c12 = c .before .before in
+    let c13 = c .before .before in
+    let c12 = c13 .before .before in
     let c11 = c12 .before .before in
     let c10 = c11 .before .before in
     let c9 = c10 .before .before in
@@ -20,7 +21,8 @@ returns c =
     let c3 = c4 .before .before in
     let c2 = c3 .before .before in
     let c1 = c2 .before .before in
-    tried _ _ _ (c .head-or13 .ensures)
+    tried _ _ _ (c .head-or14 .ensures)
+    (tried _ _ _ (c13 .head-or13 .ensures)
     (tried _ _ _ (c12 .head-or12 .ensures)
     (tried _ _ _ (c11 .head-or11 .ensures)
     (tried _ _ _ (c10 .head-or10 .ensures)
@@ -33,13 +35,14 @@ returns c =
     (tried _ _ _ (c3 .head-or3 .ensures)
     (tried _ _ _ (c2 .head-or2 .ensures)
     (tried _ _ _ (c1 .head-or .ensures)
-    (untried _)))))))))))))
+    (untried _))))))))))))))
 
 pub head-of-spec : {M : Type 1} → statement M
 head-of-spec =
     tie.close
     (tie.spec
     -- a line for each word of the table
+    (λ c. search needs) (λ c κs. search needs)
     (λ c. search needs) (λ c κs. search needs)
     (λ c. search needs) (λ c κs. search needs)
     (λ c. search needs) (λ c κs. search needs)

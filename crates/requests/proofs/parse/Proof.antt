@@ -19,17 +19,19 @@ parse-spec =
     (λ c. search needs) (λ c κs. search needs)
     (λ c. search needs) (λ c κs. search needs)
     (λ c. search needs) (λ c κs. search needs)
+    (λ c. search needs) (λ c κs. search needs)
     (λ c. search needs)
     -- nothing follows the word
     (λ c. let known = c .before .before in let head = known .before .before in parses-by _ _ (head .before .if1 .left) (head .head-of .ensures) (known .layout .given .1) (λ _ _. refl) (λ _. c .if-ended .ensures ∙ ended-asked _ (asks (known .layout .given .0 .0)) (drop (head .head-of .result .at) (head .before .before .before .before .args .line .now)) refl))
-    -- a spell, a number, two numbers
+    -- a spell, a number, two numbers, a base day and a mask
     (λ c. let known = c .before .before in let head = known .before .before in parses-by _ _ (head .before .if1 .left) (head .head-of .ensures) (known .layout2 .given .1) (λ _ _. refl) (c .spell-asked .ensures))
     (λ c. let known = c .before .before in let head = known .before .before in parses-by _ _ (head .before .if1 .left) (head .head-of .ensures) (known .layout3 .given .1) (λ _ _. refl) (c .number-asked .ensures))
     (λ c. let told = c .before in let head = told .before .before in parses-by _ _ (head .before .if1 .left) (head .head-of .ensures) (told .enum-told .given .1) (λ _ _. refl) (c .pair-asked .ensures))
+    (λ c. let told = c .before in let head = told .before .before in parses-by _ _ (head .before .if1 .left) (head .head-of .ensures) (told .enum-told2 .given .1) (λ _ _. refl) (c .mask-asked .ensures))
     -- days
     (λ c. search needs)
-    (λ c. let told = c .before .before .before .before in let head = told .before .before in parses-days _ _ (head .before .if1 .left) (head .head-of .ensures) (told .enum-told2 .given .1) (c .before .before .read-days .ensures))
+    (λ c. let told = c .before .before .before .before in let head = told .before .before in parses-days _ _ (head .before .if1 .left) (head .head-of .ensures) (told .enum-told3 .given .1) (c .before .before .read-days .ensures))
     -- a length
     (λ c. let known = c .before .before in let head = known .before .before in parses-by _ _ (head .before .if1 .left) (head .head-of .ensures) (known .layout4 .given .1) (λ _ _. refl) (c .length-asked .ensures))
     -- no word of the table
-    (λ c. let head = c .before .before in parses-by _ _ (head .before .if1 .left) (head .head-of .ensures) (c .enum-told3 .given .1) (λ _ _. refl) (λ _. refl)))
+    (λ c. let head = c .before .before in parses-by _ _ (head .before .if1 .left) (head .head-of .ensures) (c .enum-told4 .given .1) (λ _ _. refl) (λ _. refl)))

@@ -12,6 +12,7 @@ ask-spec =
     (λ c. search needs) (λ c κs. search needs)
     (λ c. search needs) (λ c κs. search needs)
     (λ c. search needs) (λ c κs. search needs)
+    (λ c. search needs) (λ c κs. search needs)
     (λ c. search needs)
     -- day
     (λ c. as-question (c .before .before .before .before .before .question .given .1) (c .before .before .day .ensures _))
@@ -23,4 +24,7 @@ ask-spec =
     (λ c. as-question (c .before .before .before .before .before .question3 .given .1) (c .before .before .cover .ensures _))
     (λ c. search needs)
     -- days
-    (λ c. as-question (c .before .before .before .before .enum-told .given .1) (c .before .before .days .ensures)))
+    (λ c. as-question (c .before .before .before .before .enum-told .given .1) (c .before .before .days .ensures))
+    (λ c. search needs)
+    -- mask
+    (λ c. as-question (c .before .before .before .before .before .question4 .given .1) (c .before .before .mask .ensures _)))
