@@ -44,6 +44,8 @@ pub enum Question {
     Span(u16, u16),
     Cover(u16),
     Days(Vec<u16>),
+    /// A base day and a mask: bit i, bit 0 the lowest, ticks the base day + i.
+    Mask(u16, u64),
 }
 
 impl Call {
@@ -60,6 +62,7 @@ impl Call {
             Call::Ask(Question::Span(..)) => "span",
             Call::Ask(Question::Cover(_)) => "cover",
             Call::Ask(Question::Days(_)) => "days",
+            Call::Ask(Question::Mask(..)) => "mask",
         }
     }
 }
@@ -94,10 +97,11 @@ pub enum Answer {
     /// A text is refused, at that line; 0 where it is for its length.
     Misread(Refusal, usize),
     Done,
-    /// The numbers of the spells that fit, and the looks where the question reports them.
+    /// The numbers of the spells that fit, the looks where the question reports them, and how many days a mask ticks.
     Listed {
         numbers: Vec<u16>,
         looks: Option<usize>,
+        ticked: Option<usize>,
     },
     Text(Vec<u8>),
 }

@@ -79,7 +79,7 @@ pub fn standing_days(text: &[u8]) -> (Vec<u8>, Option<String>) {
 /// The line of one day; nothing where nobody stands.
 fn day_line(d: u16, answer: Answer) -> String {
     match answer {
-        Answer::Listed { numbers, looks: Some(looks) } if !numbers.is_empty() => {
+        Answer::Listed { numbers, looks: Some(looks), .. } if !numbers.is_empty() => {
             format!("{d}\t{}\t{looks}{}\n", numbers.len(), tabbed(&numbers))
         }
         _ => String::new(),

@@ -41,12 +41,18 @@ impl Published {
                 let covered = find(&self.spells, *number).ok_or(Refusal::UNKNOWN)?;
                 Ok(self.with_looks(|spell| spell.first <= covered.first && spell.last >= covered.last))
             }
-            Question::Days(days) => {
-                days.iter().try_for_each(|d| check_day(*d))?;
-                check(days.windows(2).all(|pair| pair[0] < pair[1]), Refusal::DAYS_UNSORTED)?;
-                Ok(self.listed(&self.fitting(|spell| days.iter().any(|d| on_day(spell, *d))), None))
+            Question::Days(days) => self.several(days, None),
+            Question::Mask(base, mask) => {
+                let ticked = ticked_days(*base, *mask)?;
+                self.several(&ticked, Some(ticked.len()))
             }
         }
+    }
+
+    fn several(&self, days: &[u16], ticked: Option<usize>) -> Answered {
+        days.iter().try_for_each(|d| check_day(*d))?;
+        check(days.windows(2).all(|pair| pair[0] < pair[1]), Refusal::DAYS_UNSORTED)?;
+        Ok(self.listed(&self.fitting(|spell| days.iter().any(|d| on_day(spell, *d))), None, ticked))
     }
 
     /// The positions of the spells that fit.
@@ -56,14 +62,20 @@ impl Published {
 
     fn with_looks(&self, fits: impl Fn(&Spell) -> bool) -> Answer {
         let listed = self.fitting(fits);
-        self.listed(&listed, Some(self.tree().looks(&listed)))
+        self.listed(&listed, Some(self.tree().looks(&listed)), None)
     }
 
-    fn listed(&self, listed: &[usize], looks: Option<usize>) -> Answer {
-        Answer::Listed { numbers: listed.iter().map(|&at| self.spells[at].number).collect(), looks }
+    fn listed(&self, listed: &[usize], looks: Option<usize>, ticked: Option<usize>) -> Answer {
+        Answer::Listed { numbers: listed.iter().map(|&at| self.spells[at].number).collect(), looks, ticked }
     }
 }
 
 fn on_day(spell: &Spell, d: u16) -> bool {
     spell.first <= d && d <= spell.last
+}
+
+/// The ticked days of a sheet. A sum of more than 16 bits is no day of the calendar.
+fn ticked_days(base: u16, mask: u64) -> Result<Vec<u16>, Refusal> {
+    let ticked = (0..64).filter(|bit| mask >> bit & 1 == 1).map(|bit| u32::from(base) + bit);
+    ticked.map(|day| day.try_into().map_err(|_| Refusal::OFF_CALENDAR)).collect()
 }

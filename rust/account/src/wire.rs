@@ -3,7 +3,7 @@
 use crate::account::Account;
 use crate::call::{Answer, Call, Lists, Question, Start};
 use crate::limits::{LARGEST_LENGTH, LARGEST_ROOM, LONGEST_LINE};
-use crate::register::{decimal, fields_of, line_of, number, spell_of, tabbed};
+use crate::register::{decimal, fields_of, hex, line_of, number, spell_of, tabbed};
 use std::io::{self, BufRead, Read};
 
 /// What a line asks.
@@ -31,6 +31,7 @@ pub fn asked_by(line: &[u8]) -> Option<Asked> {
         (b"span", [a, b]) => Call::Ask(Question::Span(number(a)?, number(b)?)),
         (b"cover", [spell]) => Call::Ask(Question::Cover(number(spell)?)),
         (b"days", days) => Call::Ask(Question::Days(days.iter().map(|d| number(d)).collect::<Option<_>>()?)),
+        (b"mask", [base, bits]) => Call::Ask(Question::Mask(number(base)?, hex(bits, 16)?)),
         (b"room", [places]) => return Some(Asked::Room(decimal(places, LARGEST_ROOM as u64)? as usize)),
         (b"read", [length]) => return Some(Asked::Read(decimal(length, LARGEST_LENGTH)?)),
         _ => return None,
@@ -47,6 +48,7 @@ pub fn line_asking(call: &Call) -> Vec<u8> {
         Call::Ask(Question::Day(d)) => tabbed(&[d]),
         Call::Ask(Question::Span(a, b)) => tabbed(&[a, b]),
         Call::Ask(Question::Days(days)) => tabbed(days),
+        Call::Ask(Question::Mask(base, mask)) => format!("\t{base}\t{mask:016X}"),
     };
     format!("{}{arguments}\n", call.word()).into_bytes()
 }
@@ -137,9 +139,10 @@ pub fn bytes_of(answer: &Answer) -> Vec<u8> {
         Answer::Refused(refusal) => format!("refused\t{}\n", refusal.0),
         Answer::Misread(refusal, line) => format!("refused\t{}\t{line}\n", refusal.0),
         Answer::Done => "ok\n".to_string(),
-        Answer::Listed { numbers, looks } => {
+        Answer::Listed { numbers, looks, ticked } => {
+            let opening = ticked.map_or("listed".to_string(), |days| format!("ticked\t{days}"));
             let looks = looks.map_or("-".to_string(), |looks| looks.to_string());
-            format!("listed\t{}\t{looks}{}\n", numbers.len(), tabbed(numbers))
+            format!("{opening}\t{}\t{looks}{}\n", numbers.len(), tabbed(numbers))
         }
         Answer::Text(text) => return [format!("text\t{}\n", text.len()).as_bytes(), text].concat(),
     };

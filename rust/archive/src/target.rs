@@ -80,17 +80,19 @@ fn edit(
 }
 
 fn ask(published: Published<'_>, question: &Question, numbers: &mut [u16]) -> Answer {
-    let (listed, reports_looks) = match question {
-        Question::Day(d) => (published.day(*d, numbers), true),
-        Question::Span(a, b) => (published.span(*a, *b, numbers), true),
-        Question::Cover(number) => (published.cover(*number, numbers), true),
-        Question::Days(days) => (published.days(days, numbers), false),
+    let (listed, reports_looks, reports_ticked) = match question {
+        Question::Day(d) => (published.day(*d, numbers), true, false),
+        Question::Span(a, b) => (published.span(*a, *b, numbers), true, false),
+        Question::Cover(number) => (published.cover(*number, numbers), true, false),
+        Question::Days(days) => (published.days(days, numbers), false, false),
+        Question::Mask(base, mask) => (published.mask(*base, *mask, numbers), false, true),
     };
     match listed {
-        Ok(Listed { count, looks, .. }) => {
-            // a question that reports no looks has 0 there
+        Ok(Listed { count, looks, ticked }) => {
+            // what a question does not report is 0
             let looks = (reports_looks || looks > 0).then_some(looks);
-            Answer::Listed { numbers: numbers[..count].to_vec(), looks }
+            let ticked = (reports_ticked || ticked > 0).then_some(ticked);
+            Answer::Listed { numbers: numbers[..count].to_vec(), looks, ticked }
         }
         Err(why) => refused(why),
     }

@@ -19,13 +19,17 @@ const GOOD: &str = "11 7 1 10 G 2, 12 7 1 4000 C 447A0000, 13 65535 4000 4000 C 
 /// Each question at the calendar's ends and beyond them.
 const QUESTIONS: &str = "day 0, day 1, day 5, day 11, day 4000, day 4001, day 65535, span 1 4000, span 0 5, span 5 0, \
     span 5 4001, span 9 8, span 11 3999, span 4000 4000, cover 0, cover 11, cover 12, cover 13, cover 14, cover 65535, \
-    days, days 1, days 1 2 4000, days 2 2, days 3 2, days 0 1, days 1 4001, days 4001 1";
+    days, days 1, days 1 2 4000, days 2 2, days 3 2, days 0 1, days 1 4001, days 4001 1, \
+    mask 1 0000000000000000, mask 65535 0000000000000000, mask 0 0000000000000001, mask 0 0000000000000002, \
+    mask 1 FFFFFFFFFFFFFFFF, mask 3937 FFFFFFFFFFFFFFFF, mask 3937 8000000000000000, mask 3938 8000000000000000, \
+    mask 4000 0000000000000003, mask 65535 8000000000000000, mask 65535 0000000000000002, mask 5 0123456789ABCDEF";
 
 /// Lines of no form, of every kind.
 const MALFORMED: &[u8] =
     b"|\t| publish|publish |publish\t|PUBLISH|Day\t5|publish\r|take back|take-back\t1|write\t|day|day\t\
     |day\t05|day\t65536|day\t-1|day\t+1|day\t1\t2|day 5|day\t5\t|span\t1|span\t1\t|span\t1\t2\t3|cover|cover\tx|days\t\
-    |days\t1\t|days\t1\t\t2|days\t01|strike|strike\t1\t|strike\t99999|enter|enter\t1\t1\t1\t1\tG\
+    |days\t1\t|days\t1\t\t2|days\t01|mask|mask\t|mask\t1|mask\t1\t|mask\t1\t0|mask\t1\t00000000000000001|mask\t1\t000000000000000a\
+    |mask\t1\t000000000000000G|mask\t1\t0000000000000001\t|mask\t65536\t0000000000000001|mask\t01\t0000000000000001|strike|strike\t1\t|strike\t99999|enter|enter\t1\t1\t1\t1\tG\
     |enter\t1\t1\t1\t1\tG\t1\t|enter\t1\t1\t1\t1\tH\t1|enter\t1\t1\t1\t1\tC\t1|enter\t1\t1\t1\t1\tC\t0000000a\
     |enter\t1\t1\t1\t1\tC\t000000000|enter\t1\t1\t1\t1\tg\t1|amend\t1\t1\t1\t1\tG\t01|amend\t\t1\t1\t1\tG\t1\
     |room|room\t65537|room\t-1|room\t00|read|read\t|read\t01|read\t12345678901|read\t1x|entering";

@@ -120,6 +120,16 @@ pub const FAULTS: &[Fault] = faults! {
             let reaches_back = |d: &[u16]| self.spells.iter().any(|other| on_day(other, d[1]) && other.first <= d[0]);
             let left = days.windows(2).rposition(reaches_back).map_or(0, |at| at + 1);
             days[left..].iter().any(|d| on_day(spell, *d))";
+    BOTH published "bit i of a mask is the day base + i + 1":
+        "u32::from(base) + bit" => "u32::from(base) + bit + 1";
+    BOTH published "a ticked day is cut to 16 bits":
+        "day.try_into().map_err(|_| Refusal::OFF_CALENDAR)" => "Ok(day as u16)";
+    BOTH published "the highest bit of a mask is lost":
+        "mask >> bit & 1 == 1" => "mask << 1 >> 1 >> bit & 1 == 1";
+    BOTH published "an empty mask off the calendar is refused":
+        "ticked_days(*base, *mask)?" => "check_day(*base).and_then(|()| ticked_days(*base, *mask))?";
+    BOTH published "one day ticked is not told":
+        "Some(ticked.len())" => "Some(ticked.len().saturating_sub(1))";
     ALL entry "twins stand in falling order":
         "(spell.first, spell.last, spell.number)" => "(spell.first, spell.last, u16::MAX - spell.number)";
     ALL tree "a head of the same last day is no parent":

@@ -110,12 +110,32 @@ impl Generator {
     }
 
     fn question(&mut self, account: &Account) -> Question {
-        match self.rng.range(0, 3) {
+        match self.rng.range(0, 4) {
             0 => Question::Day(self.day()),
             1 => self.span(),
             2 => Question::Cover(self.number_among(&account.published.spells)),
-            _ => Question::Days(self.days()),
+            3 => Question::Days(self.days()),
+            _ => self.mask(),
         }
+    }
+
+    /// A sheet, mostly around a day of the calendar: empty, of one day, of some, of many, or full.
+    fn mask(&mut self) -> Question {
+        let mask = match self.rng.range(0, 9) {
+            0 => 0,
+            1 => u64::MAX,
+            2..=3 => 1 << self.rng.range(0, 63),
+            4..=6 => self.rng.word() & self.rng.word() & self.rng.word(),
+            7 => self.rng.word() >> self.rng.range(0, 63),
+            _ => self.rng.word(),
+        };
+        let base = match self.rng.range(0, 9) {
+            0 => self.rng.pick(&[0, 1, LAST_DAY - 63, LAST_DAY, LAST_DAY + 1, u16::MAX - 62, u16::MAX]),
+            1 => (LAST_DAY - 63) + self.rng.range(0, 70) as u16,
+            2 => u16::MAX - self.rng.range(0, 63) as u16,
+            _ => self.day().saturating_sub(self.rng.range(0, 63) as u16),
+        };
+        Question::Mask(base, mask)
     }
 
     /// A span, mostly of rising days, and often a short one; of those that fall some are off the calendar as well.

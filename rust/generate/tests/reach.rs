@@ -8,7 +8,7 @@ use generate::Generator;
 use std::collections::BTreeSet;
 
 /// The refusals of each call, 0 where it is accepted.
-const CHECKS: [(&str, &[u16]); 11] = [
+const CHECKS: [(&str, &[u16]); 12] = [
     ("read", &[0, 1, 2, 3, 4, 5, 6, 8, 12, 13]),
     ("enter", &[0, 1, 2, 3, 4, 5, 6, 8]),
     ("amend", &[0, 1, 2, 3, 4, 5, 7]),
@@ -20,6 +20,7 @@ const CHECKS: [(&str, &[u16]); 11] = [
     ("span", &[0, 3, 4, 11]),
     ("cover", &[0, 7, 11]),
     ("days", &[0, 3, 10, 11]),
+    ("mask", &[0, 3, 11]),
 ];
 
 /// Random lists of calls: each beginning, which is no call, and each call, with its answer and the account after it.
@@ -79,7 +80,7 @@ fn every_answer_of_the_wire() {
     };
     let met: BTreeSet<String> = talk.exchanges.iter().map(|exchange| kind(&exchange.answer)).collect();
     let refused = Refusal::NUMBERS.map(|number| format!("refused {number}"));
-    let expected = refused.chain(["listed", "malformed", "ok", "text"].map(String::from)).collect();
+    let expected = refused.chain(["listed", "malformed", "ok", "text", "ticked"].map(String::from)).collect();
     let differences: Vec<_> = met.symmetric_difference(&expected).collect();
     assert!(differences.is_empty(), "{differences:?}");
 }

@@ -2,6 +2,7 @@
 
 mod calls;
 mod examples;
+mod masks;
 mod texts;
 mod wire;
 
@@ -47,7 +48,7 @@ fn refusal(account: &mut Account, call: Call) -> u16 {
 }
 
 fn ask(account: &mut Account, question: Question) -> (Vec<u16>, Option<usize>) {
-    let Answer::Listed { numbers, looks } = step(account, Call::Ask(question)) else {
+    let Answer::Listed { numbers, looks, .. } = step(account, Call::Ask(question)) else {
         panic!("the question is refused");
     };
     (numbers, looks)

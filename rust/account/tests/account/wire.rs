@@ -3,15 +3,22 @@
 use account::limits::LONGEST_LINE;
 use account::wire::Wire;
 
-const EDGES: [(&str, &str); 12] = [
+const EDGES: [(&str, &str); 19] = [
     ("enter 11 7 1 10 G 2", "ok"),
     ("enter 11 7 1 10 G 2", "refused 6"),
     ("publish", "ok"),
     ("day 5", "listed 1 0 11"),
     ("day 4001", "refused 3"),
+    ("mask 4 0000000000000081", "ticked 2 1 - 11"),
+    ("mask 65535 8000000000000000", "refused 3"),
+    ("mask 4 81", "malformed"),
+    ("mask 4 000000000000008a", "malformed"),
     ("room 0", "ok"),
     ("day 5", "refused 11"),
     ("days", "listed 0 -"),
+    ("mask 4 0000000000000081", "refused 11"),
+    ("mask 65535 0000000000000000", "ticked 0 0 -"),
+    ("mask", "malformed"),
     ("take-back", "ok"),
     ("take-back", "refused 9"),
     ("write", "text 0"),
