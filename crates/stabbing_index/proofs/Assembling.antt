@@ -92,33 +92,6 @@ pub days-laid : {fs ls ss bs : List ℕ} → Dayed fs ls ss bs dayCount → {e m
 unfolding dayWords
 days-laid {fs} {ls} q i j = laid-more (laid-column dayCount (λ d. start fs ls d d) (q .starts-size) (q .starts) i) (laid-column dayCount (latest fs ls) (q .begun-size) (q .begun) j)
 
-module _ {xs ys ps qs cs ns : List ℕ} {n : ℕ} (q : ColumnsOf xs ys n) (k : LinkedOf xs ys n ps qs cs n) (r : ChainedOf xs ys n ns n) where
-  abbrev fs : List ℕ
-  fs = take n xs
-
-  abbrev ls : List ℕ
-  ls = take n ys
-
-  pub left-marks : MarksIn qs
-  left-marks = marked q (k .lefts) (head-past q (leftSibling fs ls)) (left-small q)
-
-  pub child-marks : MarksIn cs
-  child-marks = marked q (last-children q (k .children)) (head-past q (lastChild fs ls)) (child-small q)
-
-  pub next-marks : MarksIn ns
-  next-marks = marked q r (next-past q) (next-small q)
-
-  pub tree-laid : {e₀ e₁ e₂ e₃ e₄ e₅ : List ℕ} → Extends e₀ parentColumn (parentColumn + length ps) ps e₁ → Extends e₁ leftColumn childColumn (markWords ys qs) e₂ → Extends e₂ childColumn nextColumn (markWords ys cs) e₃
-      → Extends e₃ nextColumn startTable (markWords ys ns) e₄ → Extends e₄ startTable numberTable (dayWords fs ls) e₅ → Extends e₀ parentColumn numberTable (linkWords fs ls ++ dayWords fs ls) e₅
-  unfolding linkWords
-  tree-laid parents left child chain days =
-      laid-more (laid-more (laid-more (laid-more
-      (laid-column capacity (headLink fs ls (parent fs ls)) (k .parents .size) (λ p _. held-at (k .parents) (head-past q (parent fs ls)) p) parents)
-      (marks-laid q (k .lefts) (head-past q (leftSibling fs ls)) (left-small q) left))
-      (marks-laid q (last-children q (k .children)) (head-past q (lastChild fs ls)) (child-small q) child))
-      (marks-laid q r (next-past q) (next-small q) chain))
-      days
-
 -- ---- what the passes ask of rows that can be published
 module _ {xs ys : List ℕ} {n : ℕ} (q : RowsOf xs ys n) where
   pub columns-of : ColumnsOf xs ys n
@@ -130,13 +103,41 @@ module _ {xs ys : List ℕ} {n : ℕ} (q : RowsOf xs ys n) where
     lasts = λ p h. sym (getD-take n ys p 0 h);
   }
 
-  pub days-asked : {ps qs cs : List ℕ} → LinkedOf xs ys n ps qs cs n → DaysAsks xs ys n ps
-  days-asked k = record {
-    columns = columns-of;
-    begins = λ p h. rows-days (take n xs) (take n ys) (q .in-order) p (omega (arith, q .count)) .0;
-    forward = λ p h. rows-days (take n xs) (take n ys) (q .in-order) p (omega (arith, q .count)) .1;
-    parents = λ v h hv. k .parents .words v h ∙ link-head (take n xs) (take n ys) (parent (take n xs) (take n ys)) v (omega (arith, q .count)) hv;
+-- ---- what `link` found of rows that can be published, laid
+module _ {xs ys ps qs cs ns : List ℕ} {n : ℕ} (q : ColumnsOf xs ys n) (found : LinkedOf xs ys n ps qs cs n × ChainedOf xs ys n ns n) where
+  abbrev fs : List ℕ
+  fs = take n xs
+
+  abbrev ls : List ℕ
+  ls = take n ys
+
+  pub left-marks : MarksIn qs
+  left-marks = marked q (found .0 .lefts) (head-past q (leftSibling fs ls)) (left-small q)
+
+  pub child-marks : MarksIn cs
+  child-marks = marked q (last-children q (found .0 .children)) (head-past q (lastChild fs ls)) (child-small q)
+
+  pub next-marks : MarksIn ns
+  next-marks = marked q (found .1) (next-past q) (next-small q)
+
+  pub days-asked : RowsOf xs ys n → DaysAsks xs ys n ps
+  days-asked rows = record {
+    columns = q;
+    begins = λ p h. rows-days fs ls (rows .in-order) p (omega (arith, rows .count)) .0;
+    forward = λ p h. rows-days fs ls (rows .in-order) p (omega (arith, rows .count)) .1;
+    parents = λ v h hv. found .0 .parents .words v h ∙ link-head fs ls (parent fs ls) v (omega (arith, rows .count)) hv;
   }
+
+  pub tree-laid : {e₀ e₁ e₂ e₃ e₄ e₅ : List ℕ} → Extends e₀ parentColumn (parentColumn + length ps) ps e₁ → Extends e₁ leftColumn childColumn (markWords ys qs) e₂ → Extends e₂ childColumn nextColumn (markWords ys cs) e₃
+      → Extends e₃ nextColumn startTable (markWords ys ns) e₄ → Extends e₄ startTable numberTable (dayWords fs ls) e₅ → Extends e₀ parentColumn numberTable (linkWords fs ls ++ dayWords fs ls) e₅
+  unfolding linkWords
+  tree-laid parents left child chain days =
+      laid-more (laid-more (laid-more (laid-more
+      (laid-column capacity (headLink fs ls (parent fs ls)) (found .0 .parents .size) (λ p _. held-at (found .0 .parents) (head-past q (parent fs ls)) p) parents)
+      (marks-laid q (found .0 .lefts) (head-past q (leftSibling fs ls)) (left-small q) left))
+      (marks-laid q (last-children q (found .0 .children)) (head-past q (lastChild fs ls)) (child-small q) child))
+      (marks-laid q (found .1) (next-past q) (next-small q) chain))
+      days
 
 -- ---- the whole block
 names-laid : {e x : List ℕ} {a b : ℕ} (ns fs ls : List ℕ) (n : ℕ) → length fs ≡ n → Extends e a b (column numberCount (nameWord ns n)) x → Extends e a b (column numberCount (named (take n ns) fs ls)) x
@@ -156,34 +157,33 @@ unfolding blockOf laid linkWords dayWords
 whole ns fs ls n e = rw (sym e) (simp append-assoc)
 
 -- all that is laid, and the count, make the block
-module _ (ns xs ys : List ℕ) (n : ℕ) (q : RowsOf xs ys n) {e₀ e₁ e₂ e₃ e₄ e₅ : List ℕ} (h : length e₀ ≡ indexLength)
-    (numbers : Extends e₀ 0 firstColumn (column capacity (dayAt (take n ns))) e₁)
-    (firsts : Extends e₁ firstColumn lastColumn (column capacity (dayAt (take n xs))) e₂)
-    (lasts : Extends e₂ lastColumn parentColumn (column capacity (dayAt (take n ys))) e₃)
-    (tree : Extends e₃ parentColumn numberTable (linkWords (take n xs) (take n ys) ++ dayWords (take n xs) (take n ys)) e₄)
-    (names : Extends e₄ numberTable rowCount (column numberCount (nameWord ns n)) e₅) where
-  pub filled-size : (v : ℕ) → length (set e₅ rowCount v) ≡ length e₀
-  filled-size v = length-set e₅ rowCount v ∙ names .size ∙ tree .size ∙ lasts .size ∙ firsts .size ∙ numbers .size
+module _ {e₀ e₁ e₂ e₃ e₄ e₅ us vs ws ts rs : List ℕ} {a b c d f g : ℕ} (numbers : Extends e₀ a b us e₁) (firsts : Extends e₁ b c vs e₂) (lasts : Extends e₂ c d ws e₃) (tree : Extends e₃ d f ts e₄) (names : Extends e₄ f g rs e₅) where
+  pub filled-size : (k v : ℕ) → length (set e₅ k v) ≡ length e₀
+  filled-size k v = length-set e₅ k v ∙ names .size ∙ tree .size ∙ lasts .size ∙ firsts .size ∙ numbers .size
 
-  pub filled : set e₅ rowCount n ≡ blockOf (take n ns) (take n xs) (take n ys)
-  filled =
-      counted n
-      (laid-more (laid-more (laid-more (laid-more numbers firsts) lasts) tree)
-      (names-laid ns (take n xs) (take n ys) n (q .count) names))
-      h
-      ∙ whole (take n ns) (take n xs) (take n ys) n (q .count)
+  all-laid : Extends e₀ a g (us ++ vs ++ ws ++ ts ++ rs) e₅
+  all-laid = laid-more (laid-more (laid-more (laid-more numbers firsts) lasts) tree) names
+
+pub filled : (ns xs ys : List ℕ) {n : ℕ} → RowsOf xs ys n → {e₀ e₁ e₂ e₃ e₄ e₅ : List ℕ} → length e₀ ≡ indexLength
+    → Extends e₀ 0 firstColumn (column capacity (dayAt (take n ns))) e₁
+    → Extends e₁ firstColumn lastColumn (column capacity (dayAt (take n xs))) e₂
+    → Extends e₂ lastColumn parentColumn (column capacity (dayAt (take n ys))) e₃
+    → Extends e₃ parentColumn numberTable (linkWords (take n xs) (take n ys) ++ dayWords (take n xs) (take n ys)) e₄
+    → Extends e₄ numberTable rowCount (column numberCount (nameWord ns n)) e₅ → set e₅ rowCount n ≡ blockOf (take n ns) (take n xs) (take n ys)
+filled ns xs ys {n} q h numbers firsts lasts tree names =
+    counted n (all-laid numbers firsts lasts tree (names-laid ns (take n xs) (take n ys) n (q .count) names)) h ∙ whole (take n ns) (take n xs) (take n ys) n (q .count)
 
 -- ---- rows that can be published, and those that can not
-module _ (ns xs ys : List ℕ) (n : ℕ) (e : List ℕ) where
-  pub too-many : 1024 < n → Builds ns xs ys n e false e
-  too-many h = record { answer = sym (rw (lt-leb n 1024 h)); block = sym (rw (lt-leb n 1024 h)) }
+module _ {ns xs ys e : List ℕ} {n : ℕ} where
+  pub too-many : capacity < n → Builds ns xs ys n e false e
+  too-many h = record { answer = sym (rw (lt-leb n capacity h)); block = sym (rw (lt-leb n capacity h)) }
 
-  module _ (h : n ≤ 1024) (b : Bool) (t : b ≡ rowsOk (take n xs) (take n ys)) where
+  module _ (h : n ≤ capacity) {b : Bool} (t : b ≡ rowsOk (take n xs) (take n ys)) where
     pub out-of-order : b ≡ false → Builds ns xs ys n e false e
-    out-of-order z = record { answer = sym (rw (le-leb n 1024 h, sym t ∙ z)); block = sym (rw (le-leb n 1024 h, sym t ∙ z)) }
+    out-of-order z = record { answer = sym (rw (le-leb n capacity h, sym t ∙ z)); block = sym (rw (le-leb n capacity h, sym t ∙ z)) }
 
-    pub rows-of : b ≡ true → length xs ≡ 1024 → RowsOf xs ys n
-    rows-of z l = record { few = h; count = length-take-le n xs (omega arith); in-order = sym t ∙ z }
+    pub built : b ≡ true → {x : List ℕ} → x ≡ blockOf (take n ns) (take n xs) (take n ys) → Builds ns xs ys n e true x
+    built z y = record { answer = sym (rw (le-leb n capacity h, sym t ∙ z)); block = y ∙ sym (rw (le-leb n capacity h, sym t ∙ z)) }
 
-    pub built : b ≡ true → (x : List ℕ) → x ≡ blockOf (take n ns) (take n xs) (take n ys) → Builds ns xs ys n e true x
-    built z x y = record { answer = sym (rw (le-leb n 1024 h, sym t ∙ z)); block = y ∙ sym (rw (le-leb n 1024 h, sym t ∙ z)) }
+pub rows-of : (xs ys : List ℕ) {n : ℕ} → n ≤ capacity → {b : Bool} → b ≡ rowsOk (take n xs) (take n ys) → b ≡ true → length xs ≡ capacity → RowsOf xs ys n
+rows-of xs ys {n} h t z l = record { few = h; count = length-take-le n xs (omega arith); in-order = sym t ∙ z }

@@ -94,36 +94,55 @@ module _ {xs ys fs ls : List ℕ} {n : ℕ} {ps : List ℕ} {d m e s : ℕ} (q :
   pub from-before : m ≡ e → (w : Way) → Climbed fs ls (d + 1) s 0 w → w .parent ≡ start fs ls (suc d) (suc d)
   from-before z w g = g .parent ∙ rw (add-one d, q .s-is) (sym (start-next fs ls (c₁ .sorted) d (sym (q .e-is) ∙ sym z ∙ q .m-is)))
 
--- ---- the tables
-module _ {xs ys fs ls : List ℕ} {n : ℕ} {ps : List ℕ} (q : DaysAt xs ys fs ls n ps) where
+-- ---- the tables, day after day: those of the days up to d, of which m is the latest and s the start
+pub record Tabling (xs ys fs ls : List ℕ) (n : ℕ) (ps ss bs : List ℕ) (d m s : ℕ) : Type 0 where
+  pub rows : DaysAt xs ys fs ls n ps
+  pub tables : Dayed fs ls ss bs (d + 1)
+  pub m-is : m ≡ latest fs ls d
+  pub s-is : s ≡ start fs ls d d
+  pub within : d ≤ 4000
+
+pub starts : {xs ys fs ls : List ℕ} {n : ℕ} {ps : List ℕ} → DaysAt xs ys fs ls n ps → (ss bs : List ℕ) → length ss ≡ dayCount → length bs ≡ dayCount → Tabling xs ys fs ls n ps (set ss 0 0) (set bs 0 0) 0 0 0
+starts {fs = fs} {ls} q ss bs a b =
+    let m-is : 0 ≡ latest fs ls 0 = by-mark (latest fs ls 0) sym (λ v z.
+    let i = latest-is fs ls (q .columns .sorted) 0 in
+    absurd (omega (arith, i .hit v z .1, q .begins v (omega (arith, i .within, q .columns .count))))) in
+    let s-is : 0 ≡ start fs ls 0 0 = by-mark (start fs ls 0 0) sym (λ v z.
+    let i = start-is fs ls (q .columns .sorted) 0 0 in
+    absurd (omega (arith, i .hit v z .1, q .begins v (omega (arith, i .within, q .columns .count))))) in
+    record {
+      rows = q;
+      tables = record {
+        starts-size = length-set ss 0 0 ∙ a;
+        begun-size = length-set bs 0 0 ∙ b;
+        starts = λ x h. let z : x ≡ 0 = omega arith in rw z (getD-set-same ss 0 0 0 (omega arith) ∙ s-is);
+        begun = λ x h. let z : x ≡ 0 = omega arith in rw z (getD-set-same bs 0 0 0 (omega arith) ∙ m-is);
+      };
+      m-is = m-is;
+      s-is = s-is;
+      within = zero-le;
+    }
+
+-- a word more of a table
+tabled : (ws : List ℕ) (f : ℕ → ℕ) {d x : ℕ} → ((j : ℕ) → j < d → getD ws j 0 ≡ f j) → d < length ws → x ≡ f d → (j : ℕ) → j < d + 1 → getD (set ws d x) j 0 ≡ f j
+tabled ws f {d} {x} g h e j k = by-eq j d (omega arith)
+    (λ z. rw z (getD-set-same ws d x 0 h ∙ e))
+    (λ lt. getD-set-other ws d j x 0 (λ z. omega arith) ∙ g j lt)
+
+module _ {xs ys fs ls : List ℕ} {n : ℕ} {ps ss bs : List ℕ} {d m s : ℕ} (i : Tabling xs ys fs ls n ps ss bs d m s) where
   c₂ : Columns xs ys fs ls n
-  c₂ = q .columns
+  c₂ = i .rows .columns
 
-  pub latest-zero : 0 ≡ latest fs ls 0
-  latest-zero = by-mark (latest fs ls 0) (λ z. sym z) (λ v z.
-      let i = latest-is fs ls (c₂ .sorted) 0 in
-      absurd (omega (arith, i .hit v z .1, q .begins v (omega (arith, i .within, c₂ .count)))))
+  pub all-days : 4000 ≤ d → Dayed fs ls ss bs dayCount
+  all-days h = let e : d + 1 ≡ dayCount = omega (arith, i .within) in rw e at (i .tables)
 
-  pub start-zero : 0 ≡ start fs ls 0 0
-  start-zero = by-mark (start fs ls 0 0) (λ z. sym z) (λ v z.
-      let i = start-is fs ls (c₂ .sorted) 0 0 in
-      absurd (omega (arith, i .hit v z .1, q .begins v (omega (arith, i .within, c₂ .count)))))
-
-  pub first-day : (ss bs : List ℕ) → length ss ≡ dayCount → length bs ≡ dayCount → Dayed fs ls (set ss 0 0) (set bs 0 0) (0 + 1)
-  first-day ss bs a b = record {
-    starts-size = length-set ss 0 0 ∙ a;
-    begun-size = length-set bs 0 0 ∙ b;
-    starts = λ x h. let z : x ≡ 0 = omega arith in rw z (getD-set-same ss 0 0 0 (omega arith) ∙ start-zero);
-    begun = λ x h. let z : x ≡ 0 = omega arith in rw z (getD-set-same bs 0 0 0 (omega arith) ∙ latest-zero);
-  }
-
-  module _ (d : ℕ) {m s : ℕ} {ss bs : List ℕ} (i : Dayed fs ls ss bs (d + 1)) (h : d < 4000) (m-is : m ≡ latest fs ls d) (s-is : s ≡ start fs ls d d) where
+  module _ (h : d < 4000) where
     pub asks-advance : AdvanceAt xs ys fs ls n (d + 1) m
-    asks-advance = record { columns = c₂; below = rw (m-is, add-one d) (later fs ls (c₂ .sorted) d) }
+    asks-advance = record { columns = c₂; below = rw (i .m-is, add-one d) (later fs ls (c₂ .sorted) d) }
 
     module _ {e : ℕ} (e-is : e ≡ latest fs ls (d + 1)) where
       pub asks-day : DayAt xs ys fs ls n ps d m e s
-      asks-day = record { rows = q; in-calendar = h; m-is = m-is; e-is = e-is ∙ ap (latest fs ls) (add-one d); s-is = s-is }
+      asks-day = record { rows = i .rows; in-calendar = h; m-is = i .m-is; e-is = e-is ∙ ap (latest fs ls) (add-one d); s-is = i .s-is }
 
       pub latest-small : e ≤ 1024
       latest-small = omega (arith, e-is, latest-is fs ls (c₂ .sorted) (d + 1) .within, c₂ .count, c₂ .few)
@@ -132,20 +151,19 @@ module _ {xs ys fs ls : List ℕ} {n : ℕ} {ps : List ℕ} (q : DaysAt xs ys fs
         pub start-small : r ≤ 1024
         start-small = omega (arith, r-is, start-is fs ls (c₂ .sorted) (suc d) (suc d) .within, c₂ .count, c₂ .few)
 
-        pub start-is-next : r ≡ start fs ls (d + 1) (d + 1)
-        start-is-next = rw (add-one d) r-is
-
-        pub next-day : Dayed fs ls (set ss (d + 1) r) (set bs (d + 1) e) (d + 1 + 1)
-        next-day = record {
-          starts-size = length-set ss _ _ ∙ i .starts-size;
-          begun-size = length-set bs _ _ ∙ i .begun-size;
-          starts = λ x k. by-eq x (d + 1) (omega arith)
-              (λ z. rw z (getD-set-same ss (d + 1) r 0 (omega (arith, i .starts-size)) ∙ start-is-next))
-              (λ lt. getD-set-other ss (d + 1) x r 0 (λ z. omega arith) ∙ i .starts x lt);
-          begun = λ x k. by-eq x (d + 1) (omega arith)
-              (λ z. rw z (getD-set-same bs (d + 1) e 0 (omega (arith, i .begun-size)) ∙ e-is))
-              (λ lt. getD-set-other bs (d + 1) x e 0 (λ z. omega arith) ∙ i .begun x lt);
-        }
-
-pub all-days : {fs ls ss bs : List ℕ} (d : ℕ) {n : ℕ} → d + 1 ≡ n → Dayed fs ls ss bs (d + 1) → Dayed fs ls ss bs n
-all-days d e q = rw e at q
+        pub next-day : Tabling xs ys fs ls n ps (set ss (d + 1) r) (set bs (d + 1) e) (d + 1) e r
+        next-day =
+            let t = i .tables in
+            let s-is : r ≡ start fs ls (d + 1) (d + 1) = rw (add-one d) r-is in
+            record {
+              rows = i .rows;
+              tables = record {
+                starts-size = length-set ss _ _ ∙ t .starts-size;
+                begun-size = length-set bs _ _ ∙ t .begun-size;
+                starts = tabled ss (λ x. start fs ls x x) (t .starts) (omega (arith, t .starts-size)) s-is;
+                begun = tabled bs (latest fs ls) (t .begun) (omega (arith, t .begun-size)) e-is;
+              };
+              m-is = e-is;
+              s-is = s-is;
+              within = omega arith;
+            }

@@ -1,5 +1,5 @@
 -- The steps of the builder over what it reads and has written, apart from the code. Assumes nothing.
-use Rattle.basis.proofs.Prelude.{_∙_, _≡_, ap, refl, sym, _+_, _-_, _<_, _≤_, suc, zero, ℕ, List, [], Bool, false, true, _≢_, eqb, leb, ltb, List·getD-eq-default, getD, getD-replicate, length, length-replicate, length-set, replicate, set, getD-set-other, getD-set-same, le-refl, add-one, arith, eq-eqb, eqb-false, eqb-true, le-leb, lt-leb, lt-ltb, ltb-false, ltb-true, ne-eqb, by-eq, by-mark, by-test, clash}
+use Rattle.basis.proofs.Prelude.{_∙_, _≡_, ap, refl, sym, _+_, _-_, _<_, _≤_, suc, zero, zero-le, ℕ, List, [], Bool, false, true, _≢_, eqb, leb, ltb, List·getD-eq-default, getD, getD-replicate, length, length-replicate, length-set, replicate, set, getD-set-other, getD-set-same, le-refl, add-one, arith, eq-eqb, eqb-false, eqb-true, le-leb, lt-leb, lt-ltb, ltb-false, ltb-true, ne-eqb, by-eq, by-mark, by-test, clash}
 use Rattle.stabbing_index.specs.declared.Way.{Way}
 use Rattle.stabbing.specs.Tree.{below, dayAt, head, next, parent, child, leftSibling}
 use Rattle.stabbing.specs.Stored.{nearest}
@@ -60,31 +60,35 @@ module _ (fs ls : List ℕ) (l : ℕ) where
   )
 
 -- the steps of `climb`
-module _ {xs ys fs ls : List ℕ} {n : ℕ} {ps : List ℕ} {m : ℕ} (l k : ℕ) (q : ClimbAt xs ys fs ls n ps m) where
-  pub ends : m ≡ 0 → Climbed fs ls l m k (record { parent = 0; left = k })
-  ends z = rw z (record { parent = sym (way-none fs ls l (length fs) k .0); left = sym (way-none fs ls l (length fs) k .1) })
+module _ {xs ys fs ls : List ℕ} {n : ℕ} {ps : List ℕ} {m : ℕ} (q : ClimbAt xs ys fs ls n ps m) where
+  pub ends : {l k : ℕ} → m ≡ 0 → Climbed fs ls l m k (record { parent = 0; left = k })
+  ends {l} {k} z = let w = way-none fs ls l (length fs) k in rw z (record { parent = sym (w .0); left = sym (w .1) })
 
-  module _ (v : ℕ) (z : m ≡ suc v) where
+  pub inside : m ≤ 1024
+  inside = omega (arith, q .within, q .columns .few)
+
+  module _ (some : m ≢ 0) where
+    abbrev v : ℕ
+    v = m - 1
+
+    z : m ≡ suc v
+    z = omega arith
+
     in-rows : v < n
     in-rows = omega (arith, q .within)
-
-    pub inside : v < 1024
-    inside = omega (arith, in-rows, q .columns .few)
 
     h : v < length fs
     h = rw (q .columns .count) in-rows
 
-    pub stays : l ≤ getD ys v 0 → Climbed fs ls l m k (record { parent = m; left = k })
-    stays e =
-        let w = way-here fs ls l v k h (rw (q .columns .lasts v in-rows) at e) in
-        rw z (record { parent = sym (w .0); left = sym (w .1) })
+    pub stays : {l k : ℕ} → l ≤ getD ys v 0 → Climbed fs ls l m k (record { parent = m; left = k })
+    stays {l} {k} e = let w = way-here fs ls l v k h (rw (q .columns .lasts v in-rows) at e) in record { parent = z ∙ sym (w .0) ∙ rw (← z); left = sym (w .1) ∙ rw (← z) }
 
-    module _ (j : ℕ) (y : j ≡ getD ps v 0) where
+    module _ {j : ℕ} (y : j ≡ getD ps v 0) where
       j-is : j ≡ parent fs ls v
-      j-is = y ∙ q .parents v (omega arith) (q .at-head v z)
+      j-is = y ∙ q .parents v (omega (arith, z)) (q .at-head v z)
 
       pub falls : j < m
-      falls = omega (arith, j-is, parent-is fs ls v .within)
+      falls = omega (arith, j-is, z, parent-is fs ls v .within)
 
       pub asks : ClimbAt xs ys fs ls n ps j
       asks = record {
@@ -94,13 +98,11 @@ module _ {xs ys fs ls : List ℕ} {n : ℕ} {ps : List ℕ} {m : ℕ} (l k : ℕ
         parents = λ u a hu. q .parents u (omega (arith, falls)) hu;
       }
 
-      pub goes-up : getD ys v 0 < l → (w : Way) → Climbed fs ls l j m w → Climbed fs ls l m k w
-      goes-up e w g =
+      pub goes-up : {l k : ℕ} → getD ys v 0 < l → {w : Way} → Climbed fs ls l j m w → Climbed fs ls l m k w
+      goes-up {l} {k} e {w} g =
           let t = way-up fs ls l v k h (rw (q .columns .lasts v in-rows) at e) in
-          record {
-            parent = g .parent ∙ ap (nearest fs ls l (length fs)) j-is ∙ sym (t .0) ∙ ap (nearest fs ls l (length fs)) (sym z);
-            left = g .left ∙ ap (λ (x : ℕ). passed fs ls l (length fs) j x) z ∙ ap (λ (x : ℕ). passed fs ls l (length fs) x (suc v)) j-is ∙ sym (t .1) ∙ ap (λ (x : ℕ). passed fs ls l (length fs) x k) (sym z);
-          }
+          let u : Climbed fs ls l (parent fs ls v) (suc v) w = rw (← z, ← j-is) g in
+          record { parent = u .parent ∙ sym (t .0) ∙ rw (← z); left = u .left ∙ sym (t .1) ∙ rw (← z) }
 
 -- ---- a column, one word more
 held-none : {f : ℕ → ℕ} (size : ℕ) → size ≡ 1024 → FilledTo (replicate size 0) f 0
@@ -194,7 +196,7 @@ module _ {xs ys fs ls : List ℕ} {n k prev : ℕ} {ps qs cs : List ℕ} (q : He
         parents = λ v a hv. q .links .parents .words v (omega (arith, q .before, i .within)) ∙ link-head fs ls (parent fs ls) v (omega (arith, q .before, i .within, in-list)) hv;
       }
 
-  module _ (l : ℕ) (e : l ≡ getD ys k 0) (w : Way) (g : Climbed fs ls l prev 0 w) where
+  module _ {l : ℕ} (e : l ≡ getD ys k 0) {w : Way} (g : Climbed fs ls l prev 0 w) where
     l-is : l ≡ dayAt ls k
     l-is = e ∙ q .columns .lasts k (q .inside)
 
@@ -262,39 +264,54 @@ module _ (xs : List ℕ) (n k : ℕ) where
     pub head-yes : getD xs k 0 ≢ getD xs (k + 1) 0 → true ≡ headAt xs n k
     head-yes h = sym (rw (other, ne-eqb (getD xs k 0) (getD xs (suc k) 0) (rw add-one at h)))
 
--- a turn of `link`
-module _ {xs ys fs ls : List ℕ} {n k prev : ℕ} {ps qs cs ns : List ℕ} (q : Columns xs ys fs ls n) (inside : k < n) (before : prev ≡ bottom fs ls k) (links : Linked fs ls ps qs cs k) (chains : Chained fs ls ns k) {r : Bool} (e : r ≡ headAt xs n k) where
-  pub asks-head : r ≡ true → HeadAt xs ys fs ls n k prev ps qs cs
-  asks-head z = record { columns = q; inside = inside; top = sym (e ∙ head-is k q inside) ∙ z; before = before; links = links }
+-- ---- `link`, position after position: the links of the heads before k, of which prev is the last, and of the chains
+pub record Linking (xs ys fs ls : List ℕ) (n : ℕ) (ps qs cs ns : List ℕ) (prev k : ℕ) : Type 0 where
+  pub columns : Columns xs ys fs ls n
+  pub links : Linked fs ls ps qs cs k
+  pub before : prev ≡ bottom fs ls k
+  pub chains : Chained fs ls ns k
+  pub within : k ≤ n
 
-  -- a head
-  pub turn-head : r ≡ true → (ps′ qs′ cs′ : List ℕ) → Linked fs ls ps′ qs′ cs′ (suc k) → Linked fs ls ps′ qs′ cs′ (k + 1) × (k + 1 ≡ bottom fs ls (k + 1)) × Chained fs ls ns (k + 1)
-  turn-head z ps′ qs′ cs′ g =
-      let h : Head fs ls k = sym (e ∙ head-is k q inside) ∙ z in
-      rw (add-one k) (g, sym (below-hit (head fs ls) k h), held-skip chains (next-none fs ls k h))
-
-  -- no head
-  module _ (z : r ≡ false) where
-    np : head fs ls k ≡ false
-    np = sym (e ∙ head-is k q inside) ∙ z
-
-    pub goes-on : k + 1 < 1024
-    goes-on = omega (arith, above fs ls k (rw (q .count) inside) np, q .count, q .few)
-
-    pub turn-skip : Linked fs ls ps qs cs (k + 1) × (prev ≡ bottom fs ls (k + 1)) × Chained fs ls (set ns (k + 1) (k + 1)) (k + 1)
-    turn-skip =
-        let c = held-skip (links .children) (link-none fs ls (λ v. child fs ls (suc v) k) k np) in
-        let same : (v : ℕ) → child fs ls (suc v) (suc k) ≡ child fs ls (suc v) k = λ v. child-same fs ls (suc v) k (λ hk. absurd (clash hk np)) in
-        rw (add-one k) (
-          record {
-            parents = held-skip (links .parents) (link-none fs ls (parent fs ls) k np);
-            lefts = held-skip (links .lefts) (link-none fs ls (leftSibling fs ls) k np);
-            children = record { size = c .size; words = λ v h. c .words v h ∙ rw (same v); rest = c .rest };
-          },
-          before ∙ sym (below-miss (head fs ls) k np),
-          held-set chains (suc k) (omega (arith, goes-on)) (next-same fs ls k (rw (q .count) inside) np),
-        )
-
-pub bottom-zero : (fs ls : List ℕ) → 0 ≡ bottom fs ls 0
+pub starts : {xs ys fs ls : List ℕ} {n : ℕ} {ps qs cs ns : List ℕ} → Columns xs ys fs ls n → Linked fs ls ps qs cs 0 → Chained fs ls ns 0 → Linking xs ys fs ls n ps qs cs ns 0 0
 unfolding below
-bottom-zero fs ls = refl
+starts q l c = record { columns = q; links = l; before = refl; chains = c; within = zero-le }
+
+module _ {xs ys fs ls : List ℕ} {n k prev : ℕ} {ps qs cs ns : List ℕ} (i : Linking xs ys fs ls n ps qs cs ns prev k) where
+  pub all-linked : n ≤ k → Linked fs ls ps qs cs n × Chained fs ls ns n
+  all-linked h = let e : k ≡ n = omega (arith, i .within) in (rw e at (i .links), rw e at (i .chains))
+
+  module _ (inside : k < n) {r : Bool} (e : r ≡ headAt xs n k) where
+    is-head : r ≡ head fs ls k
+    is-head = e ∙ head-is k (i .columns) inside
+
+    pub asks-head : r ≡ true → HeadAt xs ys fs ls n k prev ps qs cs
+    asks-head z = record { columns = i .columns; inside = inside; top = sym is-head ∙ z; before = i .before; links = i .links }
+
+    pub turn-head : r ≡ true → {ps′ qs′ cs′ : List ℕ} → Linked fs ls ps′ qs′ cs′ (suc k) → Linking xs ys fs ls n ps′ qs′ cs′ ns (k + 1) (k + 1)
+    turn-head z g =
+        let h : Head fs ls k = sym is-head ∙ z in
+        rw (add-one k) (record { columns = i .columns; links = g; before = sym (below-hit (head fs ls) k h); chains = held-skip (i .chains) (next-none fs ls k h); within = inside })
+
+    -- no head
+    module _ (z : r ≡ false) where
+      np : head fs ls k ≡ false
+      np = sym is-head ∙ z
+
+      pub goes-on : k + 1 < 1024
+      goes-on = omega (arith, above fs ls k (rw (i .columns .count) inside) np, i .columns .count, i .columns .few)
+
+      pub turn-skip : Linking xs ys fs ls n ps qs cs (set ns (k + 1) (k + 1)) prev (k + 1)
+      turn-skip =
+          let c = held-skip (i .links .children) (link-none fs ls (λ v. child fs ls (suc v) k) k np) in
+          let same : (v : ℕ) → child fs ls (suc v) (suc k) ≡ child fs ls (suc v) k = λ v. child-same fs ls (suc v) k (λ hk. absurd (clash hk np)) in
+          rw (add-one k) (record {
+            columns = i .columns;
+            links = record {
+              parents = held-skip (i .links .parents) (link-none fs ls (parent fs ls) k np);
+              lefts = held-skip (i .links .lefts) (link-none fs ls (leftSibling fs ls) k np);
+              children = record { size = c .size; words = λ v h. c .words v h ∙ rw (same v); rest = c .rest };
+            };
+            before = i .before ∙ sym (below-miss (head fs ls) k np);
+            chains = held-set (i .chains) (suc k) (omega (arith, goes-on)) (next-same fs ls k (rw (i .columns .count) inside) np);
+            within = inside;
+          })

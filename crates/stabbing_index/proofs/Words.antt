@@ -6,13 +6,13 @@ use Rattle.stabbing_index.specs.Contracts.{nameWord}
 use Rattle.stabbing_index.proofs.Laying.{Laying}
 
 -- nobody yet, and one row more
-pub nobody : (entry xs : List ℕ) (base size : ℕ) → ((x : ℕ) → x < size → getD entry (base + x) 0 ≡ 0) → Laying entry base size (nameWord xs 0) entry
+pub nobody : {entry : List ℕ} (xs : List ℕ) {base size : ℕ} → ((x : ℕ) → x < size → getD entry (base + x) 0 ≡ 0) → Laying entry base size (nameWord xs 0) entry
 unfolding below
-nobody entry xs base size f = record { size = refl; kept = λ j h. refl; words = f }
+nobody xs f = record { size = refl; kept = λ j h. refl; words = f }
 
-pub one-more : (entry xs : List ℕ) (base size k : ℕ) (now : List ℕ) (x : ℕ) → Laying entry base size (nameWord xs k) now → base + size ≤ length entry → x < size → x ≡ getD xs k 0
+pub one-more : (xs : List ℕ) (k : ℕ) {entry : List ℕ} {base size : ℕ} {now : List ℕ} {x : ℕ} → Laying entry base size (nameWord xs k) now → base + size ≤ length entry → x < size → x ≡ getD xs k 0
     → Laying entry base size (nameWord xs (k + 1)) (set now (base + x) (k + 1))
-one-more entry xs base size k now x i fits h e = rw (add-one k) (record {
+one-more xs k {base = base} {now = now} {x} i fits h e = rw (add-one k) (record {
   size = length-set now (base + x) (suc k) ∙ i .size;
   kept = λ j g. getD-set-other now (base + x) j (suc k) 0 (λ z. omega arith) ∙ i .kept j g;
   words = λ j g.

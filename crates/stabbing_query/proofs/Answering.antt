@@ -1,5 +1,5 @@
 -- From the walk to the answers of day, span and cover: what is written, the theorems on listing and comparisons, the starts. Assumes nothing.
-use Rattle.basis.proofs.Prelude.{_∙_, _≡_, ap, refl, sym, _%_, _+_, _-_, _/_, _<_, _≤_, suc, zero, zero-le, ℕ, List, [], _++_, _∷_, map, map-append, Bool, _&&_, false, true, leb, drop, drop-of-length-le, getD, length, length-map, take, take-all, le-refl, arith, le-leb, leb-true, lt-leb, both, by-test}
+use Rattle.basis.proofs.Prelude.{_∙_, _≡_, ap, refl, sym, _%_, _+_, _-_, _/_, _<_, _≤_, suc, zero, zero-le, ℕ, List, [], _++_, _∷_, map, map-append, Bool, _&&_, false, true, _≢_, leb, drop, drop-of-length-le, getD, length, length-map, take, take-all, le-refl, arith, le-leb, leb-true, lt-leb, both, by-test}
 use Rattle.buffer.specs.Buffer.{overlaid}
 use Rattle.buffer.proofs.Overlaid.{overlaid-all}
 use Rattle.stabbing.specs.declared.Listed.{Listed}
@@ -19,28 +19,26 @@ use Rattle.stabbing_query.specs.Contracts.{Now, Does, ClimbAt, StartAt, 
 use Rattle.stabbing_query.proofs.Keeping.{now-place, comparisons-is}
 
 -- the walk's beginning and its end
-module _ (ix xs : List ℕ) (l m : ℕ) (q : WalkAsks ix l m) (n : length xs ≡ 1024) where
-  holds : Holds ix (numbers ix) (firsts ix) (lasts ix)
-  holds = built-holds ix (q .built)
+start-now : {ix xs : List ℕ} → length xs ≡ 1024 → Now ix xs 67108864 nothing
+start-now {xs = xs} n = record { size = n; fits = zero-le; few = omega arith; is = refl; list = drop-of-length-le xs {i = 1024} (omega arith) }
 
-  start-now : Now ix xs 67108864 nothing
-  start-now = record { size = n; fits = zero-le; few = omega arith; is = refl; list = drop-of-length-le xs {i = 1024} (omega arith) }
+pub asks : {ix xs : List ℕ} {l m : ℕ} → WalkAsks ix l m → length xs ≡ 1024 → ClimbAt ix (numbers ix) (firsts ix) (lasts ix) l m xs 67108864
+asks {ix} q n =
+    let b = built-holds ix (q .built) in
+    record {
+      built = b;
+      dated = q .dated;
+      within = q .start .within;
+      at-head = q .start .at-head;
+      at = nothing;
+      now = start-now n;
+      free = omega (arith, q .start .within, b .few);
+      few = omega (arith, q .start .within);
+    }
 
-  pub asks : ClimbAt ix (numbers ix) (firsts ix) (lasts ix) l m xs 67108864
-  asks = record {
-    built = holds;
-    dated = q .dated;
-    within = q .start .within;
-    at-head = q .start .at-head;
-    at = nothing;
-    now = start-now;
-    free = omega (arith, q .start .within, holds .few);
-    few = omega (arith, q .start .within);
-  }
-
-  pub walked : (xs′ : List ℕ) (r : ℕ) → Does ix xs 67108864 xs′ r (climb (firsts ix) (lasts ix) l (length (firsts ix)) m) → Now ix xs′ r (walk (firsts ix) (lasts ix) l m)
-  unfolding walk
-  walked xs′ r d = d .does nothing start-now
+pub walked : {ix xs : List ℕ} (l m : ℕ) → length xs ≡ 1024 → {xs′ : List ℕ} {r : ℕ} → Does ix xs 67108864 xs′ r (climb (firsts ix) (lasts ix) l (length (firsts ix)) m) → Now ix xs′ r (walk (firsts ix) (lasts ix) l m)
+unfolding walk
+walked l m n d = d .does nothing (start-now n)
 
 -- the two ends of `decoded`
 pub decoded-none : (s : ℕ) → 1024 < s / 65536 → decoded s ≡ record { refusal = 11; count = 0; comparisons = 0 }
@@ -61,7 +59,7 @@ module _ (ns : List ℕ) (comparisons : ℕ) (out : List ℕ) where
   unfolding give
   give-none h = rw (lt-leb (length ns) (length out) h, give)
 
-module _ (ix xs : List ℕ) (s : ℕ) (f : Progress) (g : Now ix xs s f) (out : List ℕ) where
+module _ {ix xs : List ℕ} {s : ℕ} {f : Progress} (g : Now ix xs s f) (out : List ℕ) where
   abbrev ns : List ℕ
   ns = numbered ix (f .list)
 
@@ -83,9 +81,9 @@ module _ (ix xs : List ℕ) (s : ℕ) (f : Progress) (g : Now ix xs s f) (out : 
       let z : drop (s / 65536) xs ≡ ns = rw at-is (g .list) in
       rw z (take-all (1024 - s / 65536) ns (omega (arith, k-is)))
 
-  pub all-given : 1024 - s / 65536 ≤ length out → (after : List ℕ) → after ≡ overlaid (take (1024 - s / 65536) (drop (s / 65536) xs)) out
+  pub all-given : 1024 - s / 65536 ≤ length out → {after : List ℕ} → after ≡ overlaid (take (1024 - s / 65536) (drop (s / 65536) xs)) out
       → Gave (decoded s) after (give ns (f .comparisons) out)
-  all-given h after e =
+  all-given h e =
       let c : s % 65536 ≡ f .comparisons = comparisons-is s (length (f .list)) (f .comparisons) (g .fits) (g .few) (g .is) in
       rw (give-all ns (f .comparisons) out (omega (arith, k-is))) (record { result = decoded-all s at-in ∙ rw (k-is, c); out = e ∙ rw there (overlaid-all ns out (omega (arith, k-is))) })
 
@@ -99,46 +97,14 @@ keep-map f g t (suc k) h =
     (λ e. rw (keep-hit t k e) (map-append f (keep t k) (k ∷ []) ∙ rw (ih, h k (le-refl (suc k))) (sym (map-append g (keep t k) (k ∷ [])))))
     (λ e. rw (keep-miss t k e) ih)
 
--- a walk from the start of the question gives its answer
-module _ (ix ns fs ls : List ℕ) (b : Holds ix ns fs ls) (h l m : ℕ) (e : m ≡ start fs ls h l) where
-  pub begins : StartAt fs ls l m
-  begins =
-      let i = start-is fs ls (b .sorted) h l in
-      record {
-        within = rw e (i .within);
-        at-head = λ v z. let p = i .hit v (sym e ∙ z) in (p .0, p .2);
-      }
+-- a question "first ≤ h, last ≥ l" of a block, and its start m
+pub record Question (ix : List ℕ) (h l m : ℕ) : Type 0 where
+  pub built : Built ix
+  pub dated : 1 ≤ l
+  pub start : m ≡ start (firsts ix) (lasts ix) h l
 
-  pub answers : (out : List ℕ) → give (map (λ p. getD ix p 0) (walk fs ls l m .list)) (walk fs ls l m .comparisons) out ≡ question ns fs ls h l out
-  unfolding question
-  answers out = rw (e, listing fs ls (b .sorted) h l, comparisons-formula fs ls (b .sorted) h l) (rw (keep-map (λ p. getD ix p 0) (λ p. getD ns p 0) (fitsAt fs ls h l) (length fs) (b .numbers)))
-
--- day
-module _ (ix : List ℕ) (d : ℕ) (out : List ℕ) where
-  pub day-in : isDay d ≡ true → dayIn ix d out ≡ question (numbers ix) (firsts ix) (lasts ix) d d out
-  unfolding dayOf
-  day-in e = rw (e, dayOf)
-
-  pub day-off : isDay d ≡ false → dayIn ix d out ≡ refused 3 out
-  unfolding dayOf
-  day-off e = rw (e, dayOf)
-
-pub refusal : (n : ℕ) (out : List ℕ) (o : Outcome) → o ≡ refused n out → (r : Listed) → r ≡ record { refusal = n; count = 0; comparisons = 0 } → Gave r out o
-refusal n out o e r z = rw e (record { result = z; out = refl })
-
--- the walk that a question makes, from its start m, and its outcome o
-module _ (ix : List ℕ) (b : Built ix) (h l m : ℕ) (d : 1 ≤ l) (e : m ≡ start (firsts ix) (lasts ix) h l) where
-  pub asks-walk : WalkAsks ix l m
-  asks-walk = record { built = b; dated = d; start = begins ix (numbers ix) (firsts ix) (lasts ix) (built-holds ix b) h l m e }
-
-  pub gives : (out after : List ℕ) (s : ℕ) (r : Listed) (o : Outcome) → o ≡ question (numbers ix) (firsts ix) (lasts ix) h l out → Gave (decoded s) after (listedOf ix l m out) → r ≡ decoded s → Gave r after o
-  gives out after s r o z g t = rw (z, t) (rw (answers ix (numbers ix) (firsts ix) (lasts ix) (built-holds ix b) h l m e out) at g)
-
--- the start of a day, and of a span, as they are stored
-pub day-start : (ix : List ℕ) (b : Built ix) (d x m : ℕ) → d ≤ 4000 → x ≡ d → m ≡ getD ix (x + startTable) 0 → m ≡ start (firsts ix) (lasts ix) d d
-day-start ix b d x m h e z = z ∙ ap (λ (y : ℕ). getD ix (y + startTable) 0) e ∙ built-holds ix b .starts d h
-
-module _ (ix : List ℕ) (a b : ℕ) (q : SpanAsks ix a b) (x m : ℕ) (e : x ≡ b) (z : m ≡ getD ix (x + latestTable) 0) where
+-- the walk that it makes, and its outcome o
+module _ {ix : List ℕ} {h l m : ℕ} (q : Question ix h l m) where
   abbrev fs : List ℕ
   fs = firsts ix
 
@@ -148,56 +114,116 @@ module _ (ix : List ℕ) (a b : ℕ) (q : SpanAsks ix a b) (x m : ℕ) (e : x �
   holding : Holds ix (numbers ix) fs ls
   holding = built-holds ix (q .built)
 
-  m-is : m ≡ latest fs ls b
-  m-is = z ∙ ap (λ (y : ℕ). getD ix (y + latestTable) 0) e ∙ holding .begun b (q .late)
+  pub asks-walk : WalkAsks ix l m
+  asks-walk =
+      let i = start-is fs ls (holding .sorted) h l in
+      record {
+        built = q .built;
+        dated = q .dated;
+        start = record { within = rw (q .start) (i .within); at-head = λ v z. let p = i .hit v (sym (q .start) ∙ z) in (p .0, p .2) };
+      }
 
-  span-is : start fs ls b a ≡ spanStart fs ls a m (start fs ls a a)
-  span-is = start-span fs ls (holding .sorted) (holding .forward) a b (q .forward) ∙ ap (λ (y : ℕ). spanStart fs ls a y (start fs ls a a)) (sym m-is)
+  answers : (out : List ℕ) → listedOf ix l m out ≡ question (numbers ix) fs ls h l out
+  unfolding question
+  answers out = rw (q .start, listing fs ls (holding .sorted) h l, comparisons-formula fs ls (holding .sorted) h l) (rw (keep-map (λ p. getD ix p 0) (λ p. getD (numbers ix) p 0) (fitsAt fs ls h l) (length fs) (holding .numbers)))
 
-  pub m-within : m ≤ length fs
-  m-within = rw m-is (latest-is fs ls (holding .sorted) b .within)
+  pub gives : (out : List ℕ) {after : List ℕ} {a r : Listed} {o : Outcome} → o ≡ question (numbers ix) fs ls h l out → Gave a after (listedOf ix l m out) → r ≡ a → Gave r after o
+  gives out z g t = rw (z, t) (rw (answers out) at g)
+
+pub refusal : {n : ℕ} {out : List ℕ} {o : Outcome} → o ≡ refused n out → {r : Listed} → r ≡ record { refusal = n; count = 0; comparisons = 0 } → Gave r out o
+refusal e z = rw e (record { result = z; out = refl })
+
+-- day: a day on the calendar, and its start as it is stored
+pub day-start : (ix : List ℕ) → Built ix → (d : ℕ) → d ≤ 4000 → {x m : ℕ} → x ≡ d → m ≡ getD ix (x + startTable) 0 → m ≡ start (firsts ix) (lasts ix) d d
+day-start ix b d h e z = z ∙ ap (λ (y : ℕ). getD ix (y + startTable) 0) e ∙ built-holds ix b .starts d h
+
+module _ (ix : List ℕ) (d : ℕ) (out : List ℕ) where
+  pub day-in : isDay d ≡ true → dayIn ix d out ≡ question (numbers ix) (firsts ix) (lasts ix) d d out
+  unfolding dayOf
+  day-in e = rw (e, dayOf)
+
+  pub day-off : isDay d ≡ false → dayIn ix d out ≡ refused 3 out
+  unfolding dayOf
+  day-off e = rw (e, dayOf)
+
+pub record DayAt (ix : List ℕ) (d m : ℕ) : Type 0 where
+  pub built : Built ix
+  pub on-calendar : isDay d ≡ true
+  pub start : m ≡ start (firsts ix) (lasts ix) d d
+
+pub day-at : {ix : List ℕ} → Built ix → {d x m : ℕ} → isDay d ≡ true → x ≡ d → m ≡ getD ix (x + startTable) 0 → DayAt ix d m
+day-at {ix} b {d} e z₁ z₂ = record { built = b; on-calendar = e; start = day-start ix b d (dated d e .1) z₁ z₂ }
+
+pub day-question : {ix : List ℕ} {d m : ℕ} → DayAt ix d m → Question ix d d m
+day-question {d = d} q = record { built = q .built; dated = dated d (q .on-calendar) .0; start = q .start }
+
+-- span: m is the latest by day b and r the start of day a, as they are stored
+pub record SpanAt (ix : List ℕ) (a b m r : ℕ) : Type 0 where
+  pub asked : SpanAsks ix a b
+  pub m-is : m ≡ latest (firsts ix) (lasts ix) b
+  pub r-is : r ≡ start (firsts ix) (lasts ix) a a
+
+pub span-stored : {ix : List ℕ} {a b : ℕ} → SpanAsks ix a b → {x m y r : ℕ} → x ≡ b → m ≡ getD ix (x + latestTable) 0 → y ≡ a → r ≡ getD ix (y + startTable) 0 → SpanAt ix a b m r
+span-stored {ix} {a} {b} q e z e₁ z₁ = record {
+  asked = q;
+  m-is = z ∙ ap (λ (y : ℕ). getD ix (y + latestTable) 0) e ∙ built-holds ix (q .built) .begun b (q .late);
+  r-is = day-start ix (q .built) a (omega (arith, q .forward, q .late)) e₁ z₁;
+}
+
+module _ {ix : List ℕ} {a b m r : ℕ} (q : SpanAt ix a b m r) where
+  abbrev gs : List ℕ
+  gs = firsts ix
+
+  abbrev ks : List ℕ
+  ks = lasts ix
+
+  held : Holds ix (numbers ix) gs ks
+  held = built-holds ix (q .asked .built)
+
+  span-is : start gs ks b a ≡ spanStart gs ks a m r
+  span-is = start-span gs ks (held .sorted) (held .forward) a b (q .asked .forward) ∙ rw (q .m-is, q .r-is)
 
   pub m-small : m ≤ 1024
-  m-small = omega (arith, m-within, holding .few)
+  m-small = rw (q .m-is) (omega (arith, latest-is gs ks (held .sorted) b .within, held .few))
 
-  -- a's own start
-  module _ (y r : ℕ) (e₁ : y ≡ a) (z₁ : r ≡ getD ix (y + startTable) 0) where
-    own : r ≡ start fs ls a a
-    own = day-start ix (q .built) a y r (omega (arith, q .forward, q .late)) e₁ z₁
-
-    pub span-none : m ≡ 0 → r ≡ start fs ls b a
-    unfolding spanStart
-    span-none k = own ∙ sym (span-is ∙ ap (λ (v : ℕ). spanStart fs ls a v (start fs ls a a)) k)
-
-    pub span-before : (v : ℕ) → m ≡ suc v → getD ix (v + firstColumn) 0 < a → r ≡ start fs ls b a
-    unfolding spanStart
-    span-before v k h =
-        let f : dayAt fs v < a = rw (holding .firsts v (omega (arith, m-within))) at h in
-        own ∙ sym (span-is ∙ ap (λ (u : ℕ). spanStart fs ls a u (start fs ls a a)) k ∙ rw (lt-leb a (dayAt fs v) f, spanStart))
-
-  pub span-within : (v : ℕ) → m ≡ suc v → a ≤ getD ix (v + firstColumn) 0 → m ≡ start fs ls b a
+  pub span-none : m ≡ 0 → r ≡ start gs ks b a
   unfolding spanStart
-  span-within v k h =
-      let f : a ≤ dayAt fs v = rw (holding .firsts v (omega (arith, m-within))) at h in
-      k ∙ sym (span-is ∙ ap (λ (u : ℕ). spanStart fs ls a u (start fs ls a a)) k ∙ rw (le-leb a (dayAt fs v) f, spanStart))
+  span-none k = sym (span-is ∙ rw k)
 
--- span
+  module _ (some : m ≢ 0) where
+    first : getD ix (m - 1 + firstColumn) 0 ≡ dayAt gs (m - 1)
+    first = held .firsts (m - 1) (omega (arith, q .m-is, latest-is gs ks (held .sorted) b .within))
+
+    m-suc : m ≡ suc (m - 1)
+    m-suc = omega arith
+
+    pub span-before : getD ix (m - 1 + firstColumn) 0 < a → r ≡ start gs ks b a
+    unfolding spanStart
+    span-before h = sym (span-is ∙ ap (λ (u : ℕ). spanStart gs ks a u r) m-suc ∙ rw (lt-leb a (dayAt gs (m - 1)) (rw first at h), spanStart))
+
+    pub span-within : a ≤ getD ix (m - 1 + firstColumn) 0 → m ≡ start gs ks b a
+    unfolding spanStart
+    span-within h = m-suc ∙ sym (span-is ∙ ap (λ (u : ℕ). spanStart gs ks a u r) m-suc ∙ rw (le-leb a (dayAt gs (m - 1)) (rw first at h), spanStart))
+
 module _ (ix : List ℕ) (a b : ℕ) (out : List ℕ) where
   pub span-off : isDay a && isDay b ≡ false → spanIn ix a b out ≡ refused 3 out
   unfolding spanOf
   span-off e = rw (e, spanOf)
 
-  module _ (x : isDay a ≡ true) (y : isDay b ≡ true) where
+  module _ (x : (isDay a ≡ true) × (isDay b ≡ true)) where
     pub span-in : a ≤ b → spanIn ix a b out ≡ question (numbers ix) (firsts ix) (lasts ix) b a out
     unfolding spanOf
-    span-in h = rw (x, y, spanOf) (rw (le-leb a b h, spanOf))
+    span-in h = rw (x .0, x .1, spanOf) (rw (le-leb a b h, spanOf))
 
     pub span-back : b < a → spanIn ix a b out ≡ refused 4 out
     unfolding spanOf
-    span-back h = rw (x, y, spanOf) (rw (lt-leb a b h, spanOf))
+    span-back h = rw (x .0, x .1, spanOf) (rw (lt-leb a b h, spanOf))
 
-    pub asks-span : Built ix → a ≤ b → SpanAsks ix a b
-    asks-span built h = record { built = built; dated = dated a x .0; forward = h; late = dated b y .1 }
+pub asks-span : {ix : List ℕ} → Built ix → {a b : ℕ} → (isDay a ≡ true) × (isDay b ≡ true) → a ≤ b → SpanAsks ix a b
+asks-span built {a} {b} x h = record { built = built; dated = dated a (x .0) .0; forward = h; late = dated b (x .1) .1 }
+
+pub span-question : {ix : List ℕ} {a b m : ℕ} → SpanAsks ix a b → m ≡ start (firsts ix) (lasts ix) b a → Question ix b a m
+span-question q e = record { built = q .built; dated = q .dated; start = e }
 
 -- cover: the row p of the published number x
 pub record RowOf (ix : List ℕ) (x p : ℕ) : Type 0 where
@@ -217,38 +243,39 @@ module _ {ix : List ℕ} (b : Built ix) {x y m : ℕ} (small : x < 65536) (e : y
   row-of k = record { built = b; is = named-is ∙ k }
 
 module _ {ix : List ℕ} {x p : ℕ} (q : RowOf ix x p) where
-  abbrev gs : List ℕ
-  gs = firsts ix
+  abbrev js : List ℕ
+  js = firsts ix
 
-  abbrev ks : List ℕ
-  ks = lasts ix
+  abbrev es : List ℕ
+  es = lasts ix
 
-  held : Holds ix (numbers ix) gs ks
-  held = built-holds ix (q .built)
+  known : Holds ix (numbers ix) js es
+  known = built-holds ix (q .built)
 
-  within : p < length gs
+  within : p < length js
   unfolding named
-  within = let w : named (numbers ix) gs ks x ≤ length gs = below-is _ (length gs) .within in omega (arith, q .is)
+  within = let w : named (numbers ix) js es x ≤ length js = below-is _ (length js) .within in omega (arith, q .is)
 
   pub row-small : p < 1024
-  row-small = omega (arith, within, held .few)
+  row-small = omega (arith, within, known .few)
 
   module _ {l f : ℕ} (e₁ : l ≡ getD ix (p + lastColumn) 0) (e₂ : f ≡ getD ix (p + firstColumn) 0) where
-    l-is : l ≡ dayAt ks p
-    l-is = e₁ ∙ held .lasts p within
+    l-is : l ≡ dayAt es p
+    l-is = e₁ ∙ known .lasts p within
 
-    f-is : f ≡ dayAt gs p
-    f-is = e₂ ∙ held .firsts p within
-
-    pub cover-dated : 1 ≤ l
-    cover-dated = omega (arith, l-is, held .begins p within, held .forward p within)
+    f-is : f ≡ dayAt js p
+    f-is = e₂ ∙ known .firsts p within
 
     pub cover-first : f ≤ 4000
-    cover-first = omega (arith, f-is, held .ends p within, held .forward p within)
+    cover-first = omega (arith, f-is, known .ends p within, known .forward p within)
 
-    pub cover-start : {s : ℕ} → s ≡ getD ix (f + latestTable) 0 → s ≡ start gs ks f l
-    cover-start u = u ∙ held .begun f cover-first ∙ rw (f-is, l-is) (sym (cover-latest gs ks (held .sorted) p within))
+    pub cover-question : {s : ℕ} → s ≡ getD ix (f + latestTable) 0 → Question ix f l s
+    cover-question u = record {
+      built = q .built;
+      dated = omega (arith, l-is, known .begins p within, known .forward p within);
+      start = u ∙ known .begun f cover-first ∙ rw (f-is, l-is) (sym (cover-latest js es (known .sorted) p within));
+    }
 
-    pub cover-in : (out : List ℕ) → coverIn ix x out ≡ question (numbers ix) gs ks f l out
+    pub cover-in : (out : List ℕ) → coverIn ix x out ≡ question (numbers ix) js es f l out
     unfolding coverOf covering
-    cover-in out = ap (λ (u : ℕ). covering (numbers ix) gs ks u out) (q .is) ∙ rw (f-is, l-is)
+    cover-in out = ap (λ (u : ℕ). covering (numbers ix) js es u out) (q .is) ∙ rw (f-is, l-is)

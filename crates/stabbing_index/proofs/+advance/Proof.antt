@@ -19,51 +19,15 @@ advance-at t = and 2 advance-kinds.ps (is 2 advance-kinds.ps μ-advance t) advan
 abbrev advance-below : ℕ → In 2 advance-kinds.ps
 advance-below t = and 2 advance-kinds.ps (falls 2 advance-kinds.ps _<_ μ-advance t) advance.Pre
 
-advance-returns : (t : ℕ) → advance-lts.Need-returns (to-usize-reads.Asked, to-usize-reads.Learnt, advance-below t, advance.Post) (advance-at t) advance.Post
-advance-returns t c =
-    let q = c .before .pre .1 in
-    Steps.at-end q (c .if1 .taken)
-
-advance-mul-to-usize : (t : ℕ) → advance-lts.Need-mul-to-usize (to-usize-reads.Asked, to-usize-reads.Learnt, advance-below t, advance.Post) (advance-at t) advance.Post
-advance-mul-to-usize t c =
-    let q = c .before .pre .1 in
-    record { fits = omega (arith, Steps.room q (c .if1 .left)) }
-
-advance-element-copy-out-to-usize : (t : ℕ) → advance-lts.Need-element-copy-out-to-usize (to-usize-reads.Asked, to-usize-reads.Learnt, advance-below t, advance.Post) (advance-at t) advance.Post
-advance-element-copy-out-to-usize t c =
-    let q = c .before .pre .1 in
-    omega (arith, Steps.room q (c .if1 .left))
-
-advance-to-usize-requires : (t : ℕ) → advance-lts.Need-to-usize-requires (to-usize-reads.Asked, to-usize-reads.Learnt, advance-below t, advance.Post) (advance-at t) advance.Post
-advance-to-usize-requires t c κs = search needs
-
-advance-returns-2 : (t : ℕ) → advance-lts.Need-returns-2 (to-usize-reads.Asked, to-usize-reads.Learnt, advance-below t, advance.Post) (advance-at t) advance.Post
-advance-returns-2 t c =
-    let q = c .before .before .before .before .pre .1 in
-    Steps.stops q (c .before .before .before .if1 .left) (omega (arith, c .if2 .taken, c .before .to-usize .ensures .0))
-
-advance-add-advance : (t : ℕ) → advance-lts.Need-add-advance (to-usize-reads.Asked, to-usize-reads.Learnt, advance-below t, advance.Post) (advance-at t) advance.Post
-advance-add-advance t c =
-    let q = c .before .before .before .before .pre .1 in
-    record { fits = omega (arith, Steps.room q (c .before .before .before .if1 .left)) }
-
-advance-advance-requires : (t : ℕ) → advance-lts.Need-advance-requires (to-usize-reads.Asked, to-usize-reads.Learnt, advance-below t, advance.Post) (advance-at t) advance.Post
-advance-advance-requires t c κs =
-    let q = c .before .before .before .before .pre .1 in
-    (omega (arith, c .before .before .before .before .pre .0, c .before .before .before .if1 .left), Steps.goes q (c .before .before .before .if1 .left) (omega (arith, c .if2 .left, c .before .to-usize .ensures .0)))
-
-advance-returns-3 : (t : ℕ) → advance-lts.Need-returns-3 (to-usize-reads.Asked, to-usize-reads.Learnt, advance-below t, advance.Post) (advance-at t) advance.Post
-advance-returns-3 t c = c .advance .ensures
-
 pub +advance-spec : {M : Type 1} → statement M
-+advance-spec = close μ-advance λ t. advance-lts.spec (to-usize-reads.Asked, to-usize-reads.Learnt, advance-below t, advance.Post)
-    (advance-at t)
-    advance.Post
-    (advance-returns t)
-    (advance-mul-to-usize t)
-    (advance-element-copy-out-to-usize t)
-    (advance-to-usize-requires t)
-    (advance-returns-2 t)
-    (advance-add-advance t)
-    (advance-advance-requires t)
-    (advance-returns-3 t)
++advance-spec = close μ-advance λ t. advance-lts.spec (to-usize-reads.Asked, to-usize-reads.Learnt, advance-below t, advance.Post) (advance-at t) advance.Post
+    (λ c. Steps.at-end (c .before .pre .1) (c .if1 .taken))
+    -- first[m]
+    (λ c. record { fits = omega (arith, Steps.room (c .before .pre .1) (c .if1 .left)) })
+    (λ c. omega (arith, Steps.room (c .before .pre .1) (c .if1 .left)))
+    (λ c κs. search needs)
+    (λ c. let b = c .before .before .before in Steps.stops (b .before .pre .1) (b .if1 .left) (omega (arith, c .if2 .taken, c .before .to-usize .ensures .0)))
+    -- m + 1
+    (λ c. let b = c .before .before .before in record { fits = omega (arith, Steps.room (b .before .pre .1) (b .if1 .left)) })
+    (λ c κs. let b = c .before .before .before in let q = b .before .pre in (omega (arith, q .0, b .if1 .left), Steps.goes (q .1) (b .if1 .left) (omega (arith, c .if2 .left, c .before .to-usize .ensures .0))))
+    (λ c. c .advance .ensures)

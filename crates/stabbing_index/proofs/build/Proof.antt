@@ -4,23 +4,12 @@ use Rattle.stabbing_index.proofs.Assembling as Assemble
 use Rattle.stabbing_index.proofs.build.Statement.{statement}
 use Rattle.stabbing_index.proofs.build.Tie as tie
 
-returns : tie.Need-returns
-returns c = let g = c .before .args in Assemble.too-many (g .number .now) (g .first .now) (g .last .now) (g .n) (g .index .now) (c .if1 .taken)
-
-returns-2 : tie.Need-returns-2
-returns-2 c =
-    let g = c .before .before .before .before .before .args in
-    Assemble.out-of-order (g .number .now) (g .first .now) (g .last .now) (g .n) (g .index .now) (c .before .before .before .before .if1 .left) _ (c .before .in-order .ensures) (not-true _ (c .if2 .taken))
-
-fill-requires : tie.Need-fill-requires
-fill-requires c κs =
-    let g = c .before .before .before .before .before .before .args in
-    (Assemble.rows-of (g .number .now) (g .first .now) (g .last .now) (g .n) (g .index .now) (c .before .before .before .before .before .if1 .left) _ (c .before .before .in-order .ensures) (not-false _ (c .before .if2 .left)) (search needs), search needs)
-
-returns-3 : tie.Need-returns-3
-returns-3 c =
-    let g = c .before .before .before .before .before .before .before .args in
-    Assemble.built (g .number .now) (g .first .now) (g .last .now) (g .n) (g .index .now) (c .before .before .before .before .before .before .if1 .left) _ (c .before .before .before .in-order .ensures) (not-false _ (c .before .before .if2 .left)) _ (c .fill .ensures)
-
 pub build-spec : {M : Type 1} → statement M
-build-spec = tie.close (tie.spec returns (λ c κs. search needs) returns-2 fill-requires returns-3)
+build-spec =
+    tie.close
+    (tie.spec
+    (λ c. Assemble.too-many (c .if1 .taken))
+    (λ c κs. search needs)
+    (λ c. let b = c .before .before .before .before in Assemble.out-of-order (b .if1 .left) (c .before .in-order .ensures) (not-true _ (c .if2 .taken)))
+    (λ c κs. let b = c .before .before .before .before .before in let g = b .before .args in (Assemble.rows-of (g .first .now) (g .last .now) (b .if1 .left) (c .before .before .in-order .ensures) (not-false _ (c .before .if2 .left)) (search needs), search needs))
+    (λ c. let b = c .before .before .before .before .before .before in Assemble.built (b .if1 .left) (c .before .before .before .in-order .ensures) (not-false _ (c .before .before .if2 .left)) (c .fill .ensures)))

@@ -10,33 +10,14 @@ Inv-loop index₀ base size k₀ index k = Steps.Laying index₀ base k (λ _. 0
 abbrev μ-loop : tie.MeasureT-loop
 μ-loop index₀ base size k₀ index k = size - k
 
-loop-holds : tie.Need-loop-holds Inv-loop μ-loop
-loop-holds c = (Steps.laying-none, zero-le)
-
-loop-again : tie.Need-loop-again Inv-loop μ-loop
-loop-again c =
-    let s = c .before .before in
-    let l = c .before .loop in
-    let t = c .loop-test .taken in
-    (Steps.laying-next (l .inv .0) (omega (arith, t, s .pre)) refl, omega (arith, t))
-
-same-length : tie.Need-same-length Inv-loop μ-loop
-same-length c = c .before .loop .inv .0 .size
-
-returns : tie.Need-returns Inv-loop μ-loop
-returns c =
-    let s = c .before .before in
-    let l = c .before .loop in
-    Steps.laying-all (l .inv .0) (omega (arith, l .inv .1, c .loop-test .left)) (omega arith) (omega (arith, s .pre))
-
 pub clear-spec : {M : Type 1} → statement M
 clear-spec =
     tie.close
     (tie.spec
     Inv-loop
     μ-loop
-    loop-holds
+    (λ c. (Steps.laying-none, zero-le))
     (λ c. search needs) (λ c. search needs) (λ c. search needs) (λ c. search needs) (λ c. search needs)
-    loop-again
-    same-length
-    returns)
+    (λ c. let b = c .before in (Steps.laying-next (b .loop .inv .0) (omega (arith, c .loop-test .taken, b .before .pre)) refl, omega (arith, c .loop-test .taken)))
+    (λ c. c .before .loop .inv .0 .size)
+    (λ c. let b = c .before in Steps.laying-all (b .loop .inv .0) (omega (arith, b .loop .inv .1, c .loop-test .left)) (omega arith) (omega (arith, b .before .pre))))

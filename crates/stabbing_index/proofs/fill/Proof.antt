@@ -1,20 +1,9 @@
--- `stabbing_index::fill` meets its contract: each need is a step of `proofs/Assembling.antt`. Assumes nothing.
-use Rattle.stabbing_index.proofs.Assembling as Assemble
+-- `stabbing_index::fill` meets its contract: each need is a step of `proofs/Assembling.antt`. In it a, b and d are the places after each
+-- `lay_rows`, e and f those after `lay_tree` and `lay_names`. Assumes nothing.
 use Rattle.basis.proofs.Prelude.{needs}
+use Rattle.stabbing_index.proofs.Assembling as Assemble
 use Rattle.stabbing_index.proofs.fill.Statement.{statement}
 use Rattle.stabbing_index.proofs.fill.Tie as tie
-
-same-length : tie.Need-same-length
-same-length c =
-    let s = c .before .before .before .before .before .before .before .before .before .before .before .before .before .before .before .before .before .before .before .before .before .before .before .before in
-    let g = s .args in
-    Assemble.filled-size (g .number .now) (g .first .now) (g .last .now) (g .n) (s .pre .0) (s .pre .1) (c .before .before .before .before .before .before .before .before .before .before .before .before .before .before .before .before .before .before .before .before .lay-rows .ensures) (c .before .before .before .before .before .before .before .before .before .before .before .before .before .before .before .lay-rows2 .ensures) (c .before .before .before .before .before .before .before .before .before .before .lay-rows3 .ensures) (c .before .before .before .before .before .before .lay-tree .ensures) (c .before .before .lay-names .ensures) _
-
-returns : tie.Need-returns
-returns c =
-    let s = c .before .before .before .before .before .before .before .before .before .before .before .before .before .before .before .before .before .before .before .before .before .before .before .before in
-    let g = s .args in
-    Assemble.filled (g .number .now) (g .first .now) (g .last .now) (g .n) (s .pre .0) (s .pre .1) (c .before .before .before .before .before .before .before .before .before .before .before .before .before .before .before .before .before .before .before .before .lay-rows .ensures) (c .before .before .before .before .before .before .before .before .before .before .before .before .before .before .before .lay-rows2 .ensures) (c .before .before .before .before .before .before .before .before .before .before .lay-rows3 .ensures) (c .before .before .before .before .before .before .lay-tree .ensures) (c .before .before .lay-names .ensures)
 
 pub fill-spec : {M : Type 1} → statement M
 fill-spec =
@@ -22,5 +11,7 @@ fill-spec =
     (tie.spec
     (λ c κs. search needs) (λ c κs. search needs) (λ c κs. search needs) (λ c κs. search needs)
     (λ c κs. search needs) (λ c. search needs) (λ c. search needs)
-    same-length
-    returns)
+    (λ c. let f = c .before .before in let e = f .before .before .before .before in let d = e .before .before .before .before in let b = d .before .before .before .before .before in let a = b .before .before .before .before .before in
+    Assemble.filled-size (a .lay-rows .ensures) (b .lay-rows2 .ensures) (d .lay-rows3 .ensures) (e .lay-tree .ensures) (f .lay-names .ensures) _ _)
+    (λ c. let f = c .before .before in let e = f .before .before .before .before in let d = e .before .before .before .before in let b = d .before .before .before .before .before in let a = b .before .before .before .before .before in let s = a .before .before .before .before in
+    let g = s .args in Assemble.filled (g .number .now) (g .first .now) (g .last .now) (s .pre .0) (s .pre .1) (a .lay-rows .ensures) (b .lay-rows2 .ensures) (d .lay-rows3 .ensures) (e .lay-tree .ensures) (f .lay-names .ensures)))

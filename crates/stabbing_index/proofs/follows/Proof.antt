@@ -1,25 +1,17 @@
--- `stabbing_index::follows` meets its contract: each need is a step of `proofs/Rows.antt`. Assumes nothing.
-use Rattle.stabbing_index.proofs.Rows as Steps
+-- `stabbing_index::follows` meets its contract: each test decides one of the definition's. Assumes nothing.
+use Rattle.basis.proofs.Prelude.{sym, eq-eqb, le-leb, le-ltb, lt-leb, lt-ltb, ne-eqb}
 use Rattle.stabbing_index.proofs.follows.Statement.{statement}
 use Rattle.stabbing_index.proofs.follows.Tie as tie
 
-returns : tie.Need-returns
-returns c = let g = c .before .args in Steps.begins-early (g .f) (g .l) (g .g) (g .m) (c .if1 .taken)
-
-returns-2 : tie.Need-returns-2
-returns-2 c = let g = c .before .before .args in Steps.ends-early (g .f) (g .l) (g .g) (g .m) (c .before .if1 .left) (c .if2 .taken)
-
-returns-3 : tie.Need-returns-3
-returns-3 c = let g = c .before .before .before .args in Steps.ends-late (g .f) (g .l) (g .g) (g .m) (c .before .before .if1 .left) (c .before .if2 .left) (c .if3 .taken)
-
-returns-4 : tie.Need-returns-4
-returns-4 c = let g = c .before .before .before .before .args in Steps.begins-after (g .f) (g .l) (g .g) (g .m) (c .before .before .before .if1 .left) (c .before .before .if2 .left) (c .before .if3 .left) (c .if4 .taken)
-
-returns-5 : tie.Need-returns-5
-returns-5 c = let g = c .before .before .before .before .before .args in Steps.begins-before (g .f) (g .l) (g .g) (g .m) (c .before .before .before .before .if1 .left) (c .before .before .before .if2 .left) (c .before .before .if3 .left) (c .before .if4 .left) (c .if5 .taken)
-
-returns-6 : tie.Need-returns-6
-returns-6 c = let g = c .before .before .before .before .before .args in Steps.begins-with (g .f) (g .l) (g .g) (g .m) (c .before .before .before .before .if1 .left) (c .before .before .before .if2 .left) (c .before .before .if3 .left) (c .before .if4 .left) (c .if5 .left)
-
 pub follows-spec : {M : Type 1} → statement M
-follows-spec = tie.close (tie.spec returns returns-2 returns-3 returns-4 returns-5 returns-6)
+follows-spec =
+    tie.close
+    (tie.spec
+    -- g < 1, m < g, 4000 < m
+    (λ c. sym (simp (lt-leb _ _ (c .if1 .taken))))
+    (λ c. sym (simp (le-leb _ _ (c .before .if1 .left), lt-leb _ _ (c .if2 .taken))))
+    (λ c. let b = c .before in sym (simp (le-leb _ _ (b .before .if1 .left), le-leb _ _ (b .if2 .left), lt-leb _ _ (c .if3 .taken))))
+    -- f < g, f != g, and the last days
+    (λ c. let b = c .before in let a = b .before in sym (simp (le-leb _ _ (a .before .if1 .left), le-leb _ _ (a .if2 .left), le-leb _ _ (b .if3 .left), lt-ltb _ _ (c .if4 .taken))))
+    (λ c. let b = c .before .before in let a = b .before in sym (simp (le-leb _ _ (a .before .if1 .left), le-leb _ _ (a .if2 .left), le-leb _ _ (b .if3 .left), le-ltb _ _ (c .before .if4 .left), ne-eqb _ _ (c .if5 .taken))))
+    (λ c. let b = c .before .before in let a = b .before in sym (simp (le-leb _ _ (a .before .if1 .left), le-leb _ _ (a .if2 .left), le-leb _ _ (b .if3 .left), le-ltb _ _ (c .before .if4 .left), eq-eqb _ _ (c .if5 .left)))))

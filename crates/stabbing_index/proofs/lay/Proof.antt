@@ -4,15 +4,10 @@ use Rattle.stabbing_index.proofs.Laying.{laid-part}
 use Rattle.stabbing_index.proofs.lay.Statement.{statement}
 use Rattle.stabbing_index.proofs.lay.Tie as tie
 
-returns : tie.Need-returns
-returns c =
-    let s = c .before .before .before .before .before .before in
-    laid-part (s .args .index .now) (s .args .values .now) _ (s .args .base) _ (s .pre) refl (c .before .before .put .ensures)
-
 pub lay-spec : {M : Type 1} → statement M
 lay-spec =
     tie.close
     (tie.spec
     (λ c. search needs) (λ c. search needs) (λ c. search needs) (λ c. search needs)
     (λ c κs. search needs) (λ c. search needs)
-    returns)
+    (λ c. let s = c .before .before .before .before .before .before in laid-part (s .args .index .now) (s .args .values .now) _ (s .args .base) _ (s .pre) refl (c .before .before .put .ensures)))

@@ -1,11 +1,8 @@
--- `stabbing_index::lay_days` meets its contract: each need is a step of `proofs/Assembling.antt`. Assumes nothing.
-use Rattle.stabbing_index.proofs.Assembling as Assemble
+-- `stabbing_index::lay_days` meets its contract. Assumes nothing.
 use Rattle.basis.proofs.Prelude.{needs}
+use Rattle.stabbing_index.proofs.Assembling.{days-laid}
 use Rattle.stabbing_index.proofs.lay_days.Statement.{statement}
 use Rattle.stabbing_index.proofs.lay_days.Tie as tie
-
-returns : tie.Need-returns
-returns c = Assemble.days-laid (c .before .before .before .before .before .before .before .before .before .before .day-tables .ensures) (c .before .before .before .before .before .before .before .lay .ensures) (c .before .before .lay2 .ensures)
 
 pub lay-days-spec : {M : Type 1} → statement M
 lay-days-spec =
@@ -13,4 +10,4 @@ lay-days-spec =
     (tie.spec
     (λ c κs. search needs) (λ c. search needs) (λ c κs. search needs) (λ c. search needs)
     (λ c κs. search needs) (λ c. search needs)
-    returns)
+    (λ c. let b = c .before .before in let a = b .before .before .before .before .before in days-laid (a .before .before .before .day-tables .ensures) (a .lay .ensures) (b .lay2 .ensures)))

@@ -11,30 +11,6 @@ Inv-loop index₀ base marks last beside k₀ index k = Steps.Laying index₀ be
 abbrev μ-loop : tie.MeasureT-loop
 μ-loop index₀ base marks last beside k₀ index k = 1024 - k
 
-loop-holds : tie.Need-loop-holds Inv-loop μ-loop
-loop-holds c = (Steps.laying-none, zero-le)
-
-last-of-requires : tie.Need-last-of-requires Inv-loop μ-loop
-last-of-requires c κs = omega (arith, c .to-usize .ensures .0, c .before .before .before .before .before .before .before .before .before .before .pre .1 .small (c .before .before .before .loop .k) (c .before .before .loop-test .taken))
-
-loop-again : tie.Need-loop-again Inv-loop μ-loop
-loop-again c =
-    let s = c .before .before .before .before .before .before .before .before .before .before .before in
-    let l = c .before .before .before .before .loop in
-    let t = c .before .before .before .loop-test .taken in
-    (Steps.laying-next (l .inv .0) (omega (arith, t, s .pre .0, c .before .before .before .before .before .before .before .lay .ensures .size)) (c .last-of .ensures ∙ ap (lastOf (s .args .last .now)) (c .before .to-usize .ensures .0)), omega (arith, t))
-
-same-length : tie.Need-same-length Inv-loop μ-loop
-same-length c = c .before .loop .inv .0 .size ∙ c .before .before .before .before .lay .ensures .size
-
-returns : tie.Need-returns Inv-loop μ-loop
-returns c =
-    let s = c .before .before .before .before .before .before .before .before in
-    let l = c .before .loop in
-    let i = c .before .before .before .before .lay .ensures in
-    let n : length (s .args .marks .now) ≡ 1024 = search needs in
-    Steps.laid-more (rw n at i) (Steps.laying-all (l .inv .0) (omega (arith, l .inv .1, c .loop-test .left)) (omega arith) (omega (arith, s .pre .0, i .size)))
-
 pub lay-marks-spec : {M : Type 1} → statement M
 lay-marks-spec =
     tie.close
@@ -42,10 +18,13 @@ lay-marks-spec =
     Inv-loop
     μ-loop
     (λ c κs. search needs) (λ c. search needs)
-    loop-holds
+    (λ c. (Steps.laying-none, zero-le))
     (λ c. search needs) (λ c. search needs) (λ c κs. search needs)
-    last-of-requires
+    -- last_of(last, marks[k])
+    (λ c κs. let l = c .before .before .before in omega (arith, c .to-usize .ensures .0, l .before .before .before .before .before .before .before .pre .1 .small (l .loop .k) (c .before .before .loop-test .taken)))
     (λ c. search needs) (λ c. search needs) (λ c. search needs) (λ c. search needs) (λ c. search needs)
-    loop-again
-    same-length
-    returns)
+    (λ c. let l = c .before .before .before .before in let s = l .before .before .before .before .before .before .before in let t = c .before .before .before .loop-test .taken in
+    (Steps.laying-next (l .loop .inv .0) (omega (arith, t, s .pre .0, l .before .before .before .lay .ensures .size)) (c .last-of .ensures ∙ ap (lastOf (s .args .last .now)) (c .before .to-usize .ensures .0)), omega (arith, t)))
+    (λ c. c .before .loop .inv .0 .size ∙ c .before .before .before .before .lay .ensures .size)
+    (λ c. let l = c .before in let i = l .before .before .before .lay .ensures in let n : length (l .before .before .before .before .before .before .before .args .marks .now) ≡ 1024 = search needs in
+    Steps.laid-more (rw n at i) (Steps.laying-all (l .loop .inv .0) (omega (arith, l .loop .inv .1, c .loop-test .left)) (omega arith) (omega (arith, l .before .before .before .before .before .before .before .pre .0, i .size)))))

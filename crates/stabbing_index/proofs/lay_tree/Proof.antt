@@ -1,37 +1,24 @@
--- `stabbing_index::lay_tree` meets its contract: each need is a step of `proofs/Assembling.antt`. Assumes nothing.
+-- `stabbing_index::lay_tree` meets its contract: each need is a step of `proofs/Assembling.antt`. In it a is the place after `link`, b
+-- that after `lay`, and d, e, f those after each `lay_marks`. Assumes nothing.
 use Rattle.basis.proofs.Prelude.{refl, arith, needs}
 use Rattle.stabbing_index.proofs.Assembling as Assemble
 use Rattle.stabbing_index.proofs.Links.{none-yet}
 use Rattle.stabbing_index.proofs.lay_tree.Statement.{statement}
 use Rattle.stabbing_index.proofs.lay_tree.Tie as tie
 
-link-requires : tie.Need-link-requires
-link-requires c κs = (Assemble.columns-of (c .before .before .before .before .before .pre .0), none-yet 1024 refl)
-
-lay-marks-requires : tie.Need-lay-marks-requires
-lay-marks-requires c κs = (search needs, Assemble.left-marks (Assemble.columns-of (c .before .before .before .before .before .before .before .before .before .before .before .before .before .pre .0)) (c .before .before .before .before .before .before .before .link .ensures .0) (c .before .before .before .before .before .before .before .link .ensures .1))
-
-lay-marks-requires-2 : tie.Need-lay-marks-requires-2
-lay-marks-requires-2 c κs = (search needs, Assemble.child-marks (Assemble.columns-of (c .before .before .before .before .before .before .before .before .before .before .before .before .before .before .before .before .before .before .pre .0)) (c .before .before .before .before .before .before .before .before .before .before .before .before .link .ensures .0) (c .before .before .before .before .before .before .before .before .before .before .before .before .link .ensures .1))
-
-lay-marks-requires-3 : tie.Need-lay-marks-requires-3
-lay-marks-requires-3 c κs = (search needs, Assemble.next-marks (Assemble.columns-of (c .before .before .before .before .before .before .before .before .before .before .before .before .before .before .before .before .before .before .before .before .before .before .before .pre .0)) (c .before .before .before .before .before .before .before .before .before .before .before .before .before .before .before .before .before .link .ensures .0) (c .before .before .before .before .before .before .before .before .before .before .before .before .before .before .before .before .before .link .ensures .1))
-
-lay-days-requires : tie.Need-lay-days-requires
-lay-days-requires c κs = (Assemble.days-asked (c .before .before .before .before .before .before .before .before .before .before .before .before .before .before .before .before .before .before .before .before .before .before .before .before .before .before .before .before .pre .0) (c .before .before .before .before .before .before .before .before .before .before .before .before .before .before .before .before .before .before .before .before .before .before .link .ensures .0), omega (arith, c .before .before .before .before .before .before .before .before .before .before .before .before .before .before .before .before .before .before .before .before .before .before .before .before .before .before .before .before .pre .1, c .before .before .before .before .before .before .before .before .before .before .before .before .before .before .before .before .before .before .before .lay .ensures .size, c .before .before .before .before .before .before .before .before .before .before .before .before .before .before .lay-marks .ensures .size, c .before .before .before .before .before .before .before .before .before .lay-marks2 .ensures .size, c .before .before .before .before .lay-marks3 .ensures .size))
-
-returns : tie.Need-returns
-returns c = Assemble.tree-laid (Assemble.columns-of (c .before .before .before .before .before .before .before .before .before .before .before .before .before .before .before .before .before .before .before .before .before .before .before .before .before .before .before .before .before .before .before .pre .0)) (c .before .before .before .before .before .before .before .before .before .before .before .before .before .before .before .before .before .before .before .before .before .before .before .before .before .link .ensures .0) (c .before .before .before .before .before .before .before .before .before .before .before .before .before .before .before .before .before .before .before .before .before .before .before .before .before .link .ensures .1) (c .before .before .before .before .before .before .before .before .before .before .before .before .before .before .before .before .before .before .before .before .before .before .lay .ensures) (c .before .before .before .before .before .before .before .before .before .before .before .before .before .before .before .before .before .lay-marks .ensures) (c .before .before .before .before .before .before .before .before .before .before .before .before .lay-marks2 .ensures) (c .before .before .before .before .before .before .before .lay-marks3 .ensures) (c .before .before .lay-days .ensures)
-
 pub lay-tree-spec : {M : Type 1} → statement M
 lay-tree-spec =
     tie.close
     (tie.spec
-    link-requires
+    (λ c κs. (Assemble.columns-of (c .before .before .before .before .before .pre .0), none-yet 1024 refl))
     (λ c. search needs) (λ c κs. search needs)
-    lay-marks-requires
-    lay-marks-requires-2
-    lay-marks-requires-3
-    lay-days-requires
+    -- the left siblings, the last children, the next in the chains, each with the last days
+    (λ c κs. let a = c .before .before .before .before .before .before .before in (search needs, Assemble.left-marks (Assemble.columns-of (a .before .before .before .before .before .before .pre .0)) (a .link .ensures)))
+    (λ c κs. let a = c .before .before .before .before .before .before .before .before .before .before .before .before in (search needs, Assemble.child-marks (Assemble.columns-of (a .before .before .before .before .before .before .pre .0)) (a .link .ensures)))
+    (λ c κs. let a = c .before .before .before .before .before .before .before .before .before .before .before .before .before .before .before .before .before in (search needs, Assemble.next-marks (Assemble.columns-of (a .before .before .before .before .before .before .pre .0)) (a .link .ensures)))
+    -- the tables by day
+    (λ c κs. let f = c .before .before .before .before in let e = f .before .before .before .before .before in let d = e .before .before .before .before .before in let b = d .before .before .before .before .before in let a = b .before .before .before in let s = a .before .before .before .before .before .before .pre in
+    (Assemble.days-asked (Assemble.columns-of (s .0)) (a .link .ensures) (s .0), omega (arith, s .1, b .lay .ensures .size, d .lay-marks .ensures .size, e .lay-marks2 .ensures .size, f .lay-marks3 .ensures .size)))
     (λ c. search needs)
-    returns)
+    (λ c. let g = c .before .before in let f = g .before .before .before .before .before in let e = f .before .before .before .before .before in let d = e .before .before .before .before .before in let b = d .before .before .before .before .before in let a = b .before .before .before in
+    Assemble.tree-laid (Assemble.columns-of (a .before .before .before .before .before .before .pre .0)) (a .link .ensures) (b .lay .ensures) (d .lay-marks .ensures) (e .lay-marks2 .ensures) (f .lay-marks3 .ensures) (g .lay-days .ensures)))
