@@ -21,41 +21,44 @@ use Rattle.stabbing_days.specs.Contracts.{Skips, past, dayFrom, daysFrom
 use Rattle.stabbing_days.proofs.Skipping.{drop-map, rest-from, keep-within}
 use Rattle.stabbing_days.proofs.Closing.{closed}
 
--- ---- The checks, day by day
+-- ---- The checks, day by day: what the days from the place i on say is what all of them say
 
--- the days from the place i on
-module _ (ds : List ℕ) (i : ℕ) (h : i < length ds) where
-  abbrev d : ℕ
-  d = getD ds i 0
+pub record Dating (ds : List ℕ) (i : ℕ) : Type 0 where
+  pub within : i ≤ length ds
+  pub says : daysOk (drop i ds) ≡ daysOk ds
 
-  cons : drop i ds ≡ d ∷ drop (i + 1) ds
-  cons = drop-cons ds i 0 h ∙ rw (add-one i)
+pub record Ordering (ds : List ℕ) (b i : ℕ) : Type 0 where
+  pub within : i ≤ length ds
+  pub says : risingFrom b (drop i ds) ≡ risingFrom 0 ds
 
-  pub off : isDay d ≡ false → daysOk (drop i ds) ≡ false
+cons : (ds : List ℕ) (i : ℕ) → i < length ds → drop i ds ≡ getD ds i 0 ∷ drop (i + 1) ds
+cons ds i h = drop-cons ds i 0 h ∙ rw (add-one i)
+
+module _ {ds : List ℕ} {i : ℕ} (g : Dating ds i) where
+  pub off : i < length ds → isDay (getD ds i 0) ≡ false → false ≡ daysOk ds
   unfolding daysOk
-  off e = rw cons (rw e)
+  off h e = sym (rw (cons ds i h) (rw e)) ∙ g .says
 
-  pub dated : isDay d ≡ true → daysOk (drop i ds) ≡ daysOk (drop (i + 1) ds)
+  pub dated : i < length ds → isDay (getD ds i 0) ≡ true → Dating ds (i + 1)
   unfolding daysOk
-  dated e = ap daysOk cons ∙ rw e
+  dated h e = record { within = omega arith; says = sym (ap daysOk (cons ds i h) ∙ rw e) ∙ g .says }
 
-  pub back : (b : ℕ) → d ≤ b → risingFrom b (drop i ds) ≡ false
-  unfolding risingFrom
-  back b e = rw cons (rw (le-ltb b d e))
-
-  pub on : (b : ℕ) → b < d → risingFrom b (drop i ds) ≡ risingFrom d (drop (i + 1) ds)
-  unfolding risingFrom
-  on b e = ap (risingFrom b) cons ∙ rw (lt-ltb b d e)
-
--- and past the last
-module _ (ds : List ℕ) (i : ℕ) (h : length ds ≤ i) where
-  pub all-dated : daysOk (drop i ds) ≡ true
+  pub all-dated : length ds ≤ i → true ≡ daysOk ds
   unfolding daysOk
-  all-dated = rw (drop-of-length-le ds {i = i} h)
+  all-dated h = sym (rw (drop-of-length-le ds {i = i} h)) ∙ g .says
 
-  pub all-rise : (b : ℕ) → risingFrom b (drop i ds) ≡ true
+module _ {ds : List ℕ} {b i : ℕ} (g : Ordering ds b i) where
+  pub back : i < length ds → getD ds i 0 ≤ b → false ≡ risingFrom 0 ds
   unfolding risingFrom
-  all-rise b = rw (drop-of-length-le ds {i = i} h)
+  back h e = sym (rw (cons ds i h) (rw (le-ltb b (getD ds i 0) e))) ∙ g .says
+
+  pub on : i < length ds → b < getD ds i 0 → Ordering ds (getD ds i 0) (i + 1)
+  unfolding risingFrom
+  on h e = record { within = omega arith; says = sym (ap (risingFrom b) (cons ds i h) ∙ rw (lt-ltb b (getD ds i 0) e)) ∙ g .says }
+
+  pub all-rise : length ds ≤ i → true ≡ risingFrom 0 ds
+  unfolding risingFrom
+  all-rise h = sym (rw (drop-of-length-le ds {i = i} h)) ∙ g .says
 
 -- ---- What one day adds
 
@@ -329,11 +332,11 @@ refusal-of n = record { refusal = n; count = 0; comparisons = 0 }
 module _ (ix ds out : List ℕ) {r : Listed} where
   pub days-off : daysOk ds ≡ false → r ≡ refusal-of 3 → Gave r out (daysIn ix ds out)
   unfolding daysOf
-  days-off e = refusal 3 out (daysIn ix ds out) (rw (e, daysOf)) r
+  days-off e = refusal (rw (e, daysOf))
 
   pub days-back : daysOk ds ≡ true → risingFrom 0 ds ≡ false → r ≡ refusal-of 10 → Gave r out (daysIn ix ds out)
   unfolding daysOf
-  days-back d e = refusal 10 out (daysIn ix ds out) (rw (d, daysOf) (rw (e, daysOf))) r
+  days-back d e = refusal (rw (d, daysOf) (rw (e, daysOf)))
 
 -- the days pass the checks
 pub record Accepted (ix ds : List ℕ) : Type 0 where
@@ -389,7 +392,7 @@ module _ {ix ds : List ℕ} (q : Accepted ix ds) where
 
     module _ (out : List ℕ) where
       pub too-many : {r : Listed} → length out < k → r ≡ refusal-of 11 → Gave r out (daysIn ix ds out)
-      too-many {r} h = refusal 11 out (daysIn ix ds out) (given-is out ∙ give-none names 0 out (rw counted at h)) r
+      too-many h = refusal (given-is out ∙ give-none names 0 out (rw counted at h))
 
       pub all-written : k ≤ length out → {end : List ℕ} → end ≡ overlaid (take k after) out → Gave (record { refusal = 0; count = k; comparisons = 0 }) end (daysIn ix ds out)
       all-written h e = rw (given-is out ∙ give-all names 0 out (rw counted at h)) (record {

@@ -12,25 +12,15 @@ accepted c = record {
   rising = sym (c .before .in-order .ensures) ∙ not-false _ (c .if2 .left);
 }
 
-returns : tie.Need-returns
-returns c =
-    let g = c .before .before .before .before .before .args in
-    Steps.days-off (g .index .now) (g .days .now) (g .out .now) (sym (c .before .before .on-calendar .ensures) ∙ not-true _ (c .before .if1 .taken)) (c .refuse .ensures)
-
-returns-2 : tie.Need-returns-2
-returns-2 c =
-    let g = c .before .before .before .before .before .before .before .args in
-    Steps.days-back (g .index .now) (g .days .now) (g .out .now)
-    (sym (c .before .before .before .before .on-calendar .ensures) ∙ not-false _ (c .before .before .before .if1 .left)) (sym (c .before .before .in-order .ensures) ∙ not-true _ (c .before .if2 .taken)) (c .refuse2 .ensures)
-
 pub days-spec : {M : Type 1} → statement M
 days-spec =
     tie.close
     (tie.spec
     (λ c κs. search needs) (λ c κs. search needs)
-    returns
+    (λ c. let g = c .before .before .before .before .before .args in Steps.days-off (g .index .now) (g .days .now) (g .out .now) (sym (c .before .before .on-calendar .ensures) ∙ not-true _ (c .before .if1 .taken)) (c .refuse .ensures))
     (λ c κs. search needs) (λ c κs. search needs)
-    returns-2
+    (λ c. let b = c .before .before .before in let g = b .before .before .before .before .args in Steps.days-back (g .index .now) (g .days .now) (g .out .now)
+    (sym (b .before .on-calendar .ensures) ∙ not-false _ (b .if1 .left)) (sym (c .before .before .in-order .ensures) ∙ not-true _ (c .before .if2 .taken)) (c .refuse2 .ensures))
     (λ c. search needs)
     (λ c κs. Steps.asks-gather (accepted (c .before)) (search needs))
     (λ c κs. search needs)
