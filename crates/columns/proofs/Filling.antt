@@ -1,0 +1,92 @@
+-- The positions, and a list that is filled place by place. Assumes nothing.
+use Rattle.basis.proofs.Prelude.{length-map, map-append, ℕ, zero, suc, _+_, _≤_, _<_, arith, add-one, _≡_, refl, sym, ap, _∙_, List, [], _∷_, _++_, map, length, getD, take, drop, set, length-set, length-append, length-drop, drop-cons, set-at, append-snoc, take-at}
+use Rattle.orders.proofs.Each.{Each}
+use Rattle.columns.specs.Columns.{positions, filled}
+
+-- ---- The positions
+
+pub positions-length : (k n : ℕ) → length (positions k n) ≡ n
+unfolding positions
+positions-length k zero = refl
+positions-length k (suc n) = ap suc (positions-length (suc k) n)
+
+pub positions-at : (k n i : ℕ) → i < n → getD (positions k n) i 0 ≡ k + i
+unfolding positions
+positions-at k zero i h = absurd (omega arith)
+positions-at k (suc n) zero h = omega arith
+positions-at k (suc n) (suc i) h = positions-at (suc k) n i (omega arith) ∙ omega arith
+
+positions-more : (k n : ℕ) → positions k (suc n) ≡ positions k n ++ ((k + n) ∷ [])
+unfolding positions
+positions-more k zero = ap (λ (z : ℕ). z ∷ []) (omega arith)
+positions-more k (suc n) = ap (λ (r : List ℕ). k ∷ r) (positions-more (suc k) n ∙ ap (λ (z : ℕ). positions (suc k) n ++ (z ∷ [])) (omega arith))
+
+pub positions-from : (j k n : ℕ) → j ≤ k → Each (λ p. j ≤ p) (positions k n)
+unfolding positions
+positions-from j k zero h = tt
+positions-from j k (suc n) h = (h, positions-from j (suc k) n (omega arith))
+
+positions-to : (k n m : ℕ) → k + n ≤ m → Each (λ p. p < m) (positions k n)
+unfolding positions
+positions-to k zero m h = tt
+positions-to k (suc n) m h = (omega arith, positions-to (suc k) n m (omega arith))
+
+pub positions-below : (n : ℕ) → Each (λ p. p < n) (positions 0 n)
+positions-below n = positions-to 0 n n (omega arith)
+
+-- a list read at its first positions
+pub reads : {A : Type 0} (d : A) (l : List A) (n : ℕ) → n ≤ length l → map (λ i. getD l i d) (positions 0 n) ≡ take n l
+unfolding positions
+reads {A} d l n h = go l 0 n (omega arith)
+  where
+    go : (l : List A) (k n : ℕ) → k + n ≤ length l → map (λ i. getD l i d) (positions k n) ≡ take n (drop k l)
+    go l k zero h = refl
+    go l k (suc n) h = rw (drop-cons l k d (omega arith)) (ap (λ (r : List A). getD l k d ∷ r) (go l (suc k) n (omega arith)))
+
+-- ---- A list filled
+
+module _ (f : ℕ → ℕ) where
+  front-length : (n : ℕ) → length (map f (positions 0 n)) ≡ n
+  front-length n = length-map (positions 0 n) f ∙ positions-length 0 n
+
+  pub filled-none : (l : List ℕ) → l ≡ filled f 0 l
+  unfolding filled positions
+  filled-none l = refl
+
+  pub filled-length : (n : ℕ) (l : List ℕ) → n ≤ length l → length (filled f n l) ≡ length l
+  unfolding filled
+  filled-length n l h = length-append (map f (positions 0 n)) (drop n l) ∙ omega (arith, front-length n, length-drop n l)
+
+  pub filled-on : (i v : ℕ) (l k : List ℕ) → k ≡ filled f i l → v ≡ f i → i < length l → set k i v ≡ filled f (i + 1) l
+  unfolding filled
+  filled-on i v l k e w h =
+      rw (e, w, add-one i, drop-cons l i 0 h) (set-at (map f (positions 0 i)) (getD l i 0) (drop (suc i) l) (f i) i (front-length i)
+      ∙ sym (ap (λ (r : List ℕ). r ++ drop (suc i) l) (ap (map f) (positions-more 0 i) ∙ map-append f (positions 0 i) ((0 + i) ∷ []) ∙ ap (λ (z : ℕ). map f (positions 0 i) ++ (f z ∷ [])) (omega arith))
+      ∙ append-snoc (map f (positions 0 i)) (f i) (drop (suc i) l)))
+
+  pub filled-take : (n : ℕ) (l : List ℕ) → take n (filled f n l) ≡ map f (positions 0 n)
+  unfolding filled
+  filled-take n l = take-at (map f (positions 0 n)) (drop n l) n (front-length n)
+
+-- a list on its way: its first i places are filled
+pub record Filling (f : ℕ → ℕ) (n : ℕ) (l₀ l : List ℕ) (i : ℕ) : Type 0 where
+  pub within : i ≤ n
+  pub few : n ≤ 1024
+  pub room : n ≤ length l₀
+  pub kept : length l ≡ length l₀
+  pub so-far : l ≡ filled f i l₀
+
+pub fill-begins : (f : ℕ → ℕ) {n : ℕ} {l : List ℕ} → n ≤ 1024 → n ≤ length l → Filling f n l l 0
+fill-begins f {n} {l} few room = record { within = omega arith; few = few; room = room; kept = refl; so-far = filled-none f l }
+
+pub fill-on : {f : ℕ → ℕ} {n i : ℕ} {l₀ l : List ℕ} → Filling f n l₀ l i → i < n → (v : ℕ) → v ≡ f i → Filling f n l₀ (set l i v) (i + 1)
+fill-on {f} {n} {i} {l₀} {l} q h v e = record {
+  within = omega arith;
+  few = q .few;
+  room = q .room;
+  kept = length-set l i v ∙ q .kept;
+  so-far = filled-on f i v l₀ l (q .so-far) e (omega (arith, q .room));
+}
+
+pub fill-ends : {f : ℕ → ℕ} {n i : ℕ} {l₀ l : List ℕ} → Filling f n l₀ l i → n ≤ i → l ≡ filled f n l₀
+fill-ends {f} {n} {i} {l₀} {l} q h = let z : i ≡ n = omega (arith, q .within) in rw z at (q .so-far)

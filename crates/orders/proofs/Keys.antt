@@ -1,0 +1,52 @@
+-- An order by keys, of which the last tells any two elements apart, is total. Assumes nothing.
+use Rattle.basis.proofs.Prelude.{_≡_, refl, sym, ap, _∙_, ℕ, _≤_, _<_, List, [], _∷_, _++_, Bool, true, false, cond, eqb, ltb, arith, eq-eqb, eqb-false, eqb-true, lt-ltb, le-ltb, ltb-false, ltb-true, by-test}
+use Rattle.orders.specs.Orders.{lexical}
+use Rattle.orders.proofs.Sorting.{Total}
+
+-- ---- One key: x is below y, or they are equal and the later keys decide
+
+module _ (x y : ℕ) (b : Bool) where
+  pub key-is : x ≤ y → (x ≡ y → b ≡ true) → cond (eqb x y) b (ltb x y) ≡ true
+  key-is h f = by-test (eqb x y) (λ e. rw e (f (eqb-true x y e))) (λ e. rw e (lt-ltb x y (let n : x ≡ y → ⊥ = eqb-false x y e in omega arith)))
+
+  pub key-is-not : y ≤ x → (x ≡ y → b ≡ false) → cond (eqb x y) b (ltb x y) ≡ false
+  key-is-not h f = by-test (eqb x y) (λ e. rw e (f (eqb-true x y e))) (λ e. rw e (le-ltb x y h))
+
+  pub key-says : cond (eqb x y) b (ltb x y) ≡ true → (x ≤ y) × (x ≡ y → b ≡ true)
+  key-says h = by-test (eqb x y) (λ e. (omega (arith, eqb-true x y e), λ _. rw e at h)) (λ e. (omega (arith, ltb-true x y (rw e at h)), λ z. absurd (eqb-false x y e z)))
+
+  pub key-denies : cond (eqb x y) b (ltb x y) ≡ false → (y ≤ x) × (x ≡ y → b ≡ false)
+  key-denies h = by-test (eqb x y) (λ e. (omega (arith, eqb-true x y e), λ _. rw e at h)) (λ e. (ltb-false x y (rw e at h), λ z. absurd (eqb-false x y e z)))
+
+-- the last key
+pub key-last : (x y : ℕ) → ltb x y ≡ cond (eqb x y) false (ltb x y)
+key-last x y = by-test (eqb x y) (λ e. rw (e, eqb-true x y e) (le-ltb y y (omega arith))) (λ e. rw e)
+
+pub numbers : Total ltb
+numbers = record {
+  asym = λ x y h. le-ltb y x (omega (arith, ltb-true x y h));
+  trans = λ x y z h k. le-ltb z x (omega (arith, ltb-false y x h, ltb-false z y k));
+  one = λ x y h k. omega (arith, ltb-false x y h, ltb-false y x k);
+}
+
+-- ---- Any keys
+
+module _ {A : Type 0} (k : A → ℕ) (apart : (a b : A) → k a ≡ k b → a ≡ b) where
+  pub by-keys : (ks : List (A → ℕ)) → Total (lexical (ks ++ (k ∷ [])))
+  unfolding lexical
+  by-keys [] = record {
+    asym = λ a b h. key-is-not (k b) (k a) false (key-says (k a) (k b) false h .0) (λ _. refl);
+    trans = λ a b c h i. key-is-not (k c) (k a) false (omega (arith, key-denies (k b) (k a) false h .0, key-denies (k c) (k b) false i .0)) (λ _. refl);
+    one = λ a b h i. apart a b (omega (arith, key-denies (k a) (k b) false h .0, key-denies (k b) (k a) false i .0));
+  }
+  by-keys (f ∷ ks) = let o = by-keys ks in record {
+    asym = λ a b h. let s = key-says (f a) (f b) _ h in key-is-not (f b) (f a) _ (s .0) (λ e. o .asym a b (s .1 (sym e)));
+    trans = λ a b c h i.
+        let s = key-denies (f b) (f a) _ h in
+        let z = key-denies (f c) (f b) _ i in
+        key-is-not (f c) (f a) _ (omega arith) (λ e. o .trans a b c (s .1 (omega arith)) (z .1 (omega arith)));
+    one = λ a b h i.
+        let s = key-denies (f a) (f b) _ h in
+        let z = key-denies (f b) (f a) _ i in
+        o .one a b (s .1 (omega arith)) (z .1 (omega arith));
+  }

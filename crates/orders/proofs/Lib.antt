@@ -1,0 +1,3 @@
+pub mod Each
+pub mod Sorting
+pub mod Keys

@@ -1,0 +1,1 @@
+// Orders by keys, and lists sorted by an order: definitions and laws.
