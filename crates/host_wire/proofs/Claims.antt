@@ -9,7 +9,7 @@ use Rattle.service.specs.Packed.{unpacked}
 use Rattle.service.specs.Service.{Blocks, Represents}
 use Rattle.service.proofs.Represented.{represented}
 use Rattle.wire.specs.Answering.{roomOf}
-use Rattle.wire.proofs.Sending.{sends-bytes}
+use Rattle.replies.proofs.Sending.{sends-bytes}
 use Rattle.phayaklit.specs.Host.{Laid}
 use Rattle.phayaklit.specs.History.{Opens}
 use Rattle.host_wire.specs.declared.Carried.{Carried}

@@ -5,15 +5,16 @@ use Rattle.fields.specs.Fields.{isAt}
 use Rattle.model.specs.declared.Call.{Call}
 use Rattle.model.specs.declared.Call.the-variants.{Enter, Amend, Strike, TakeBack, Publish, Write, Ask}
 use Rattle.model.specs.declared.Question.{Question}
-use Rattle.model.specs.declared.Question.the-variants.{Day, Span, Cover, Days}
+use Rattle.model.specs.declared.Question.the-variants.{Day, Span, Cover, Days, Mask}
 use Rattle.model.specs.Model.{State, Answer, step}
 use Rattle.model.specs.Journal.{reads, Event, call, reading, left, journal}
 use Rattle.model.proofs.Journal.{journal-left}
 use Rattle.requests.specs.Requests.{Asked, asksCall, asksRoom, asksRead, malformed}
 use Rattle.requests.specs.Parsing.{requestOf}
-use Rattle.wire.specs.Replies.{okText, refusedText, acceptedText, callText}
+use Rattle.replies.specs.Replies.{okText, refusedText, shapeOf, shapeText, callText}
 use Rattle.wire.specs.Conversation.{turnOf, callOf, registerOf}
-use Rattle.wire.specs.Answering.{Sends, conv}
+use Rattle.replies.specs.Sending.{Sends}
+use Rattle.wire.specs.Answering.{conv}
 use Rattle.host_wire.specs.Words.{questionWord, callWord, wordOf, wordIn, powerOf, changedAt}
 use Rattle.host_wire.specs.Carrying.{eventsOf}
 
@@ -32,6 +33,7 @@ question-power (Day d) = refl
 question-power (Span a b) = refl
 question-power (Cover k) = refl
 question-power Days = refl
+question-power (Mask b m) = refl
 
 -- a call's word changes the state unless the call only reads
 call-power : (c : Call) → powerOf (callWord c) ≡ cond (reads c) 0 1
@@ -51,8 +53,8 @@ power-changes : (c : Call) → reads c ≡ false → powerOf (callWord c) ≡ 1
 power-changes c e = call-power c ∙ ap (λ (b : Bool). cond b 0 1) e
 
 -- an accepted one that does not is answered `ok`
-accepted-ok : (c : Call) (a : Answer) → reads c ≡ false → acceptedText c a ≡ okText
-unfolding acceptedText
+accepted-ok : (c : Call) (a : Answer) → reads c ≡ false → shapeText (shapeOf c) a ≡ okText
+unfolding shapeText
 accepted-ok (Enter s) a e = refl
 accepted-ok (Amend s) a e = refl
 accepted-ok (Strike k) a e = refl

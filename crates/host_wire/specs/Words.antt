@@ -7,7 +7,7 @@ use Rattle.fields.specs.Fields.{isAt}
 use Rattle.model.specs.declared.Call.{Call}
 use Rattle.model.specs.declared.Call.the-variants.{Enter, Amend, Strike, TakeBack, Publish, Write, Ask}
 use Rattle.model.specs.declared.Question.{Question}
-use Rattle.model.specs.declared.Question.the-variants.{Day, Span, Cover, Days}
+use Rattle.model.specs.declared.Question.the-variants.{Day, Span, Cover, Days, Mask}
 use Rattle.requests.specs.Requests.{Asked, asksCall, asksRoom, asksRead, malformed}
 use Rattle.requests.specs.declared.Request.{Request}
 use Rattle.requests.specs.declared.Request.the-variants.{Call as RequestCall, Room as RequestRoom, Read as RequestRead, Malformed as RequestMalformed}
@@ -17,6 +17,7 @@ questionWord (Day d) = 33
 questionWord (Span a b) = 34
 questionWord (Cover k) = 35
 questionWord Days = 36
+questionWord (Mask b m) = 37
 
 abbrev pub callWord : Call → ℕ
 callWord (Enter s) = 16

@@ -11,11 +11,11 @@ ghost use Rattle.host_wire.specs.Words.{questionWord, callWord, wordIn, 
 ghost use Rattle.host_wire.specs.Carrying.{answeredOf, Requested};
 use model::Call;
 use model::Question;
+use replies::OUT;
 use requests::Request;
 use service::SERVICE;
 use stabbing::INDEX;
 use wire::DAYS;
-use wire::OUT;
 use wire::ROOM;
 
 // What a host is told: the word's number, 1 where the state was changed, the room of the conversation's later calls, and the place of
@@ -38,6 +38,7 @@ fn question_word(question: Question) -> u32
         Question::Span(_, _) => 34,
         Question::Cover(_) => 35,
         Question::Days => 36,
+        Question::Mask(_, _) => 37,
     }
 }
 
