@@ -1,0 +1,11 @@
+//! Says where the proved archives are, and that what is linked with them is linked again where they change.
+
+fn main() {
+    let folder = concat!(env!("CARGO_MANIFEST_DIR"), "/../../target/staticlib");
+    println!("cargo:rustc-link-search=native={folder}");
+    for archive in ["phayaklit", "framing", "host_wire"] {
+        println!("cargo:rustc-link-lib=static={archive}");
+        println!("cargo:rerun-if-changed={folder}/lib{archive}.a");
+    }
+    println!("cargo:rustc-link-lib=sqlite3");
+}

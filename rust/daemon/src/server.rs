@@ -1,0 +1,380 @@
+//! The loop that owns the blocks. It answers questions from the live state, carries changes out on a working copy, and makes that the
+//! state when their commit has ended.
+
+use crate::archive::{Allowed, Came, Lent, State, Whole, PUBLISH, READ};
+use crate::committer::{Committer, Work};
+use crate::connection::Connection;
+use crate::journal::{Change, Head, Snapshot, ROWS_A_SNAPSHOT};
+use crate::sqlite::Failure;
+use crate::status::Status;
+use crate::system::{self, Poll};
+use crate::time;
+use std::collections::HashMap;
+use std::io::{self, ErrorKind, Read, Write};
+use std::mem::take;
+use std::os::fd::AsRawFd;
+use std::os::unix::net::{UnixListener, UnixStream};
+
+const LISTENER: u64 = 0;
+const WOKEN: u64 = 1;
+const ENDING: u64 = 2;
+const FIRST_CONNECTION: u64 = 3;
+
+/// The most changes of one commit.
+const MOST_CHANGES: usize = 4096;
+
+const UNAVAILABLE: &[u8] = b"unavailable\n";
+const DENIED: &[u8] = b"denied\n";
+
+/// An answer that waits for a commit. A certain one stands whether that is made or not.
+struct Held {
+    connection: u64,
+    answer: Vec<u8>,
+    certain: bool,
+}
+
+/// The changes of one commit, with the answers that wait for it and the connections to go on with after it.
+#[derive(Default)]
+struct Batch {
+    changes: Vec<Change>,
+    held: Vec<Held>,
+    /// The published list may have changed.
+    publishes: bool,
+}
+
+pub struct Server {
+    poll: Poll,
+    listener: UnixListener,
+    committer: Committer,
+    woken: UnixStream,
+    ending: UnixStream,
+    limit: usize,
+    connections: HashMap<u64, Connection>,
+    next: u64,
+    /// Connections to go on with in this pass, and those to write to at its end.
+    ready: Vec<u64>,
+    touched: Vec<u64>,
+    /// Connections whose next request is a change that waits for the commit in hand.
+    parked: Vec<u64>,
+    live: State,
+    working: State,
+    lent: Lent,
+    head: Head,
+    batch: Batch,
+    committing: Option<Batch>,
+    status: Status,
+    over: bool,
+}
+
+/// What a server is made of.
+pub struct Parts {
+    pub listener: UnixListener,
+    pub committer: Committer,
+    pub woken: UnixStream,
+    pub ending: UnixStream,
+    pub limit: usize,
+    pub state: State,
+    pub head: Head,
+}
+
+impl Server {
+    pub fn new(parts: Parts) -> io::Result<Server> {
+        let poll = Poll::new()?;
+        parts.listener.set_nonblocking(true)?;
+        parts.woken.set_nonblocking(true)?;
+        parts.ending.set_nonblocking(true)?;
+        poll.add(parts.listener.as_raw_fd(), LISTENER)?;
+        poll.add(parts.woken.as_raw_fd(), WOKEN)?;
+        poll.add(parts.ending.as_raw_fd(), ENDING)?;
+        Ok(Server {
+            poll,
+            listener: parts.listener,
+            committer: parts.committer,
+            woken: parts.woken,
+            ending: parts.ending,
+            limit: parts.limit,
+            connections: HashMap::new(),
+            next: FIRST_CONNECTION,
+            ready: Vec::new(),
+            touched: Vec::new(),
+            parked: Vec::new(),
+            working: parts.state.clone(),
+            live: parts.state,
+            lent: Lent::new(),
+            head: parts.head,
+            batch: Batch::default(),
+            committing: None,
+            status: Status::default(),
+            over: false,
+        })
+    }
+
+    /// Serves until it is told to end.
+    pub fn serve(&mut self) -> Result<(), String> {
+        while !self.over {
+            self.look()?;
+            for connection in take(&mut self.ready) {
+                self.go_on(connection);
+            }
+            self.commit();
+            self.send();
+        }
+        self.end()
+    }
+
+    /// Takes in what has changed.
+    fn look(&mut self) -> Result<(), String> {
+        let mut heard = [false; FIRST_CONNECTION as usize];
+        let events = self.poll.wait(!self.ready.is_empty()).map_err(|error| format!("epoll: {error}"))?;
+        for event in events {
+            let token = event.token;
+            if token < FIRST_CONNECTION {
+                heard[token as usize] = true;
+            } else if let Some(connection) = self.connections.get_mut(&token) {
+                connection.readable |= event.readable();
+                self.ready.push(token);
+            }
+        }
+        if heard[LISTENER as usize] {
+            self.accept();
+        }
+        if heard[WOKEN as usize] {
+            drain(&mut self.woken);
+            if let Some(came) = self.committer.ended() {
+                self.commit_ended(came)?;
+            }
+        }
+        self.over = heard[ENDING as usize] && drain(&mut self.ending);
+        Ok(())
+    }
+
+    // ---- Connections
+
+    fn accept(&mut self) {
+        loop {
+            match self.listener.accept() {
+                Ok((stream, _)) => self.admit(stream),
+                Err(error) if error.kind() == ErrorKind::WouldBlock => return,
+                Err(error) if error.kind() == ErrorKind::Interrupted => (),
+                Err(error) => return eprintln!("phayaklitd: a connection can't be taken: {error}"),
+            }
+        }
+    }
+
+    fn admit(&mut self, mut stream: UnixStream) {
+        let user = stream.set_nonblocking(true).and_then(|()| system::peer(&stream));
+        let Ok(user) = user else { return };
+        if self.connections.len() >= self.limit {
+            // one more than may be: it is told so, where it listens
+            let _ = stream.write(UNAVAILABLE);
+            return;
+        }
+        let token = self.next;
+        self.next += 1;
+        if self.poll.add(stream.as_raw_fd(), token).is_ok() {
+            self.connections.insert(token, Connection::new(stream, user));
+        }
+    }
+
+    /// Carries out the requests that a connection has sent, in their order: those of one read, so that each has its turn.
+    fn go_on(&mut self, token: u64) {
+        let mut filled = false;
+        while let Some(connection) = self.connections.get_mut(&token) {
+            let waits = connection.held > 0 && self.committing.is_some();
+            if waits || connection.is_slow() {
+                break;
+            }
+            if let Some(request) = connection.next_request() {
+                if !self.carry_out(token, request) {
+                    break;
+                }
+            } else if filled {
+                if connection.readable {
+                    self.ready.push(token);
+                }
+                break;
+            } else if connection.fill() {
+                filled = true;
+            } else {
+                break;
+            }
+        }
+        self.touched.push(token);
+    }
+
+    /// Sends what there is to send, once for each connection, and lets go of those that are over.
+    fn send(&mut self) {
+        for token in take(&mut self.touched) {
+            let Some(connection) = self.connections.get_mut(&token) else { continue };
+            let slow = connection.is_slow();
+            connection.flush();
+            if connection.is_over() {
+                self.connections.remove(&token);
+                self.accept();
+            } else if slow && !connection.is_slow() {
+                self.ready.push(token);
+            }
+        }
+    }
+
+    // ---- Requests
+
+    /// Carries a request out; false where it has to wait for the commit in hand.
+    fn carry_out(&mut self, token: u64, request: Whole) -> bool {
+        let Some(connection) = self.connections.get_mut(&token) else { return false };
+        let line = connection.framing.line(&request);
+        let payload = connection.framing.payload(&request);
+        if line == b"status\n" {
+            if connection.held > 0 {
+                return self.park(token, request);
+            }
+            let text = self.status.shown(&self.live, &self.head, self.connections.len());
+            self.give(token, text.into_bytes(), true);
+            return true;
+        }
+        let state = if connection.held > 0 { &mut self.working } else { &mut self.live };
+        let word = match self.lent.request(state, connection.room, Allowed::Reading, line, payload) {
+            Came::Answered { word, room, answer, .. } => {
+                connection.room = room;
+                if connection.held == 0 {
+                    connection.answer(answer);
+                } else {
+                    let answer = answer.to_vec();
+                    self.give(token, answer, word < READ);
+                }
+                return true;
+            }
+            Came::HeldBack { word } => word,
+        };
+        if word == READ && connection.user != 0 && connection.user != system::own_user() {
+            self.give(token, DENIED.to_vec(), true);
+            return true;
+        }
+        if self.committing.is_some() || self.batch.changes.len() >= MOST_CHANGES {
+            return self.park(token, request);
+        }
+        self.change(token, &request);
+        true
+    }
+
+    /// Lets a request wait for the end of a commit, and those behind it.
+    fn park(&mut self, token: u64, request: Whole) -> bool {
+        if let Some(connection) = self.connections.get_mut(&token) {
+            connection.waiting = Some(request);
+            self.parked.push(token);
+        }
+        false
+    }
+
+    /// Carries out a request that may change the state, on the working copy.
+    fn change(&mut self, token: u64, request: &Whole) {
+        let Some(connection) = self.connections.get_mut(&token) else { return };
+        let line = connection.framing.line(request);
+        let payload = connection.framing.payload(request);
+        let Came::Answered { word, changed, answer, .. } =
+            self.lent.request(&mut self.working, connection.room, Allowed::Everything, line, payload)
+        else {
+            return;
+        };
+        let answer = answer.to_vec();
+        if changed {
+            let request = [line, payload].concat();
+            self.batch.changes.push(Change {
+                time: time::now(),
+                user: connection.user,
+                request,
+                answer: answer.clone(),
+            });
+            self.batch.publishes |= word == PUBLISH || word == READ;
+        }
+        if self.batch.changes.is_empty() {
+            connection.answer(&answer);
+        } else {
+            connection.held += 1;
+            self.batch.held.push(Held { connection: token, answer, certain: false });
+        }
+    }
+
+    /// An answer in its turn: behind those of its connection that wait for a commit.
+    fn give(&mut self, token: u64, answer: Vec<u8>, certain: bool) {
+        let Some(connection) = self.connections.get_mut(&token) else { return };
+        if connection.held == 0 {
+            connection.answer(&answer);
+        } else {
+            connection.held += 1;
+            self.batch.held.push(Held { connection: token, answer, certain });
+        }
+    }
+
+    // ---- Commits
+
+    /// Hands the changes of this pass over, where no commit is in hand.
+    fn commit(&mut self) {
+        if self.committing.is_some() || self.batch.changes.is_empty() {
+            return;
+        }
+        let mut batch = take(&mut self.batch);
+        let changes = take(&mut batch.changes);
+        let after = self.head.sequence + changes.len() as i64;
+        let due = after / ROWS_A_SNAPSHOT > self.head.sequence / ROWS_A_SNAPSHOT;
+        let snapshot = due.then(|| Snapshot::of(&self.working));
+        self.committer.commit(Work { changes, snapshot });
+        self.committing = Some(batch);
+    }
+
+    fn commit_ended(&mut self, came: Result<Head, Failure>) -> Result<(), String> {
+        let Some(batch) = self.committing.take() else { return Ok(()) };
+        let made = match came {
+            Ok(head) => {
+                self.head = head;
+                self.live.follow(&self.working, batch.publishes);
+                true
+            }
+            Err(failure) if failure.nothing_written() => {
+                eprintln!("phayaklitd: nothing was written, and the changes are answered `unavailable`: {failure}");
+                self.working.follow(&self.live, batch.publishes);
+                false
+            }
+            Err(failure) => {
+                return Err(format!(
+                    "the journal may or may not have the last changes, which nobody was answered: {failure}"
+                ))
+            }
+        };
+        for held in batch.held {
+            if let Some(connection) = self.connections.get_mut(&held.connection) {
+                connection.answer(if made || held.certain { &held.answer } else { UNAVAILABLE });
+                connection.held -= 1;
+                self.ready.push(held.connection);
+            }
+        }
+        self.ready.append(&mut self.parked);
+        self.ready.sort_unstable();
+        self.ready.dedup();
+        Ok(())
+    }
+
+    /// Ends the commit in hand, answers what it was for, and keeps the words for the next start.
+    fn end(&mut self) -> Result<(), String> {
+        if self.committing.is_some() {
+            if let Some(came) = self.committer.await_end() {
+                self.commit_ended(came)?;
+            }
+        }
+        for connection in self.connections.values_mut() {
+            connection.flush();
+        }
+        if self.head.sequence > 0 {
+            self.committer.commit(Work { changes: Vec::new(), snapshot: Some(Snapshot::of(&self.live)) });
+            if let Some(Err(failure)) = self.committer.await_end() {
+                eprintln!("phayaklitd: the words are not kept, and the next start takes longer: {failure}");
+            }
+        }
+        Ok(())
+    }
+}
+
+/// Takes the bytes that wake; whether there was one.
+fn drain(woken: &mut UnixStream) -> bool {
+    woken.read(&mut [0; 64]).is_ok_and(|count| count > 0)
+}
