@@ -3,8 +3,5 @@ use Rattle.basis.proofs.Prelude.{needs}
 use Rattle.phayaklit.proofs.phayaklit_mask.Statement.{statement}
 use Rattle.phayaklit.proofs.phayaklit_mask.Tie as tie
 
-returns : tie.Need-returns
-returns c = λ days. rw (c .answered .ensures) (c .before .before .before .mask .ensures days)
-
 pub phayaklit-mask-spec : {M : Type 1} → statement M
-phayaklit-mask-spec = tie.close (tie.spec (λ c κs. search needs) (λ c κs. search needs) (λ c. search needs) returns)
+phayaklit-mask-spec = tie.close (tie.spec (λ c κs. search needs) (λ c κs. search needs) (λ c. search needs) (λ c. λ days. rw (c .answered .ensures) (c .before .before .before .mask .ensures days)))
