@@ -6,7 +6,8 @@ use Rattle.framing.specs.declared.Framed.the-variants.{Whole, Part}
 use Rattle.framing.specs.declared.Taken.{Taken}
 use Rattle.framing.specs.declared.Taken.the-variants.{Whole as LineWhole, Part as LinePart}
 use Rattle.framing.specs.Stream.{Partial, inLine, inText, kept, wants, settled, lineFed, feed}
-use Rattle.framing.specs.Advancing.{Progress, going, through, next, after, partOf, Fits, Kept, lineIn, textIn, Puts, TakesLine, TakesText, least, Advances}
+use Rattle.framing.specs.Advancing.{Progress, going, through, next, after, partOf, Fits, Kept, lineIn, textIn, Advances}
+use Rattle.framing.specs.Contracts.{Puts, TakesLine, TakesText, least}
 
 -- ---- Places that keep what they held
 

@@ -10,9 +10,7 @@ use Rattle.framing.specs.declared.Advanced.{Advanced}
 use Rattle.framing.specs.declared.Frame.{Frame}
 use Rattle.framing.specs.declared.Framed.{Framed}
 use Rattle.framing.specs.declared.Framed.the-variants.{Whole, Part}
-use Rattle.framing.specs.declared.Taken.{Taken}
-use Rattle.framing.specs.declared.Taken.the-variants.{Whole as LineWhole, Part as LinePart}
-use Rattle.framing.specs.Stream.{Partial, inLine, inText, Step, whole, part, kept, wants, settled, feed}
+use Rattle.framing.specs.Stream.{Partial, inLine, inText, Step, whole, part, feed}
 
 -- bytes taken up to the end of the next request, with those after it; or all of them, and a part of a request
 pub data Progress : Type 0 where
@@ -85,72 +83,33 @@ pub record Advances (f : Frame) (arrived : List ℕ) (from : ℕ) (line payload 
   pub line-rest : Kept (lineIn r) line line′
   pub text-rest : Kept (textIn r) payload payload′
 
--- ---- The postconditions of its parts
-
--- a byte is put after the first n of a list
-pub record Puts (into : List ℕ) (n b r : ℕ) (into′ : List ℕ) : Type 0 where
-  pub sized : length into′ ≡ length into
-  pub within : r ≤ length into
-  pub on : n ≤ r
-  pub bytes : take r into′ ≡ kept (length into) (take n into) b
-  pub rest : Kept r into into′
-
--- a line that is taken up to its LF, or not whole
-abbrev pub takenOf : Taken → List ℕ → List ℕ → Progress
-takenOf (LineWhole n at) arrived line = after (settled (take n line) [] (wants (take n line))) (drop at arrived)
-takenOf (LinePart n) arrived line = going (inLine (take n line))
-
-abbrev pub TakenWithin : Taken → ℕ → Type 0
-TakenWithin (LineWhole n at) size = (n ≤ 65537) × (at ≤ size)
-TakenWithin (LinePart n) size = n ≤ 65537
-
-abbrev pub bytesIn : Taken → ℕ
-bytesIn (LineWhole n at) = n
-bytesIn (LinePart n) = n
-
-pub record TakesLine (n : ℕ) (arrived : List ℕ) (from : ℕ) (line : List ℕ) (r : Taken) (line′ : List ℕ) : Type 0 where
-  pub progress : takenOf r arrived line′ ≡ next (inLine (take n line)) (drop from arrived)
-  pub within : TakenWithin r (length arrived)
-  pub rest : Kept (bytesIn r) line line′
-
--- a text of which so many bytes are wanted, whatever line it comes after
-pub record TakesText (n m wanted : ℕ) (arrived : List ℕ) (from : ℕ) (payload : List ℕ) (r : Framed) (payload′ : List ℕ) : Type 0 where
-  pub progress : (line : List ℕ) → progressOf r arrived line payload′ ≡ after (settled (take n line) (take m payload) wanted) (drop from arrived)
-  pub within : Within r (length arrived)
-  pub line : lineIn r ≡ n
-  pub rest : Kept (textIn r) payload payload′
-
--- the less of two numbers
-abbrev pub least : ℕ → ℕ → ℕ
-least a b = cond (leb a b) a b
-
 -- ---- For a host
 
 -- whether the calls give such a frame, and the place lies in what has arrived
 abbrev pub ready : Frame → ℕ → ℕ → Bool
 ready f size from = leb (f .line) 65537 && leb (f .payload) 65536 && (ltb 0 (f .wanted) || eqb (f .payload) 0) && leb from size
 
--- what a host is told: 1 for a whole request, 0 for a part of one
-abbrev pub toldOf : Framed → ℕ → Advanced
-toldOf (Whole n m at) size = record { outcome = 1; line = n; payload = m; wanted = 0; next = at }
-toldOf (Part f) size = record { outcome = 0; line = f .line; payload = f .payload; wanted = f .wanted; next = size }
+-- what a host is given: 1 for a whole request, 0 for a part of one
+abbrev pub advancedOf : Framed → ℕ → Advanced
+advancedOf (Whole n m at) size = record { outcome = 1; line = n; payload = m; wanted = 0; next = at }
+advancedOf (Part f) size = record { outcome = 0; line = f .line; payload = f .payload; wanted = f .wanted; next = size }
 
 -- 2 for a frame that no call gave, or a place that is not there
 abbrev pub refusedFrame : Advanced
 refusedFrame = record { outcome = 2; line = 0; payload = 0; wanted = 0; next = 0 }
 
--- the host is told what `advance` gives
-pub record Tells (f : Frame) (arrived : List ℕ) (from : ℕ) (line payload : List ℕ) (r : Advanced) (line′ payload′ : List ℕ) : Type 0 where
+-- the host is given what `advance` gives
+pub record Reports (f : Frame) (arrived : List ℕ) (from : ℕ) (line payload : List ℕ) (r : Advanced) (line′ payload′ : List ℕ) : Type 0 where
   pub framed : Framed
   pub advances : Advances f arrived from line payload framed line′ payload′
-  pub told : r ≡ toldOf framed (length arrived)
+  pub result : r ≡ advancedOf framed (length arrived)
 
 -- both lists are as they were
 pub record Refuses (line payload : List ℕ) (r : Advanced) (line′ payload′ : List ℕ) : Type 0 where
-  pub told : r ≡ refusedFrame
+  pub result : r ≡ refusedFrame
   pub line-kept : line′ ≡ line
   pub text-kept : payload′ ≡ payload
 
 abbrev pub HostAdvances : Frame → List ℕ → ℕ → List ℕ → List ℕ → Advanced → List ℕ → List ℕ → Type 0
 HostAdvances f arrived from line payload r line′ payload′ =
-    cond (ready f (length arrived) from) (Tells f arrived from line payload r line′ payload′) (Refuses line payload r line′ payload′)
+    cond (ready f (length arrived) from) (Reports f arrived from line payload r line′ payload′) (Refuses line payload r line′ payload′)

@@ -1,3 +1,4 @@
 pub mod Stream
 pub mod Advancing
+pub mod Contracts
 pub mod History

@@ -3,7 +3,8 @@ ghost use mathlib.Core.Path.{_≡_};
 ghost use Prim.Native.Nat.{_≤_};
 ghost use lib.ListN.{length, take};
 ghost use Rattle.framing.specs.Stream.{wants};
-ghost use Rattle.framing.specs.Advancing.{Fits, Puts, TakesLine, TakesText, least, Advances, ready, refusedFrame, HostAdvances};
+ghost use Rattle.framing.specs.Advancing.{Fits, Advances, ready, refusedFrame, HostAdvances};
+ghost use Rattle.framing.specs.Contracts.{Puts, TakesLine, TakesText, least};
 ghost use Rattle.framing.specs.History.{opened};
 
 const LF: u8 = 10;
@@ -157,7 +158,7 @@ pub fn advance(
 
 // ---- For other software
 
-// What a host is told. Outcome 1 is a whole request: so many bytes of its line and of its text, with the place after it. Outcome 0 is a
+// What a host is given. Outcome 1 is a whole request: so many bytes of its line and of its text, with the place after it. Outcome 0 is a
 // part of one: the frame to go on with. Outcome 2 refuses a frame that no call gave and a place that is not there: all else is 0, and
 // both lists are as they were.
 #[repr(C)]

@@ -22,7 +22,7 @@ use Rattle.host_wire.proofs.Words.{word-parsed, power-none, power-keeps
 
 module _ {line days : List ℕ} {q : Request} {days′ : List ℕ} (e : length days ≡ 32768) (p : Parses line days q days′) where
   pub parsed-word : wordIn q ≡ wordOf (askedOf 32768 line)
-  parsed-word = ap wordIn (p .answer) ∙ word-parsed (askedOf (length days) line) ∙ ap (λ (n : ℕ). wordOf (askedOf n line)) e
+  parsed-word = ap wordIn (p .request) ∙ word-parsed (askedOf (length days) line) ∙ ap (λ (n : ℕ). wordOf (askedOf n line)) e
 
   pub parsed-power : {word power : ℕ} → word ≡ wordIn q → power ≡ powerOf word → power ≡ powerOf (wordOf (askedOf 32768 line))
   parsed-power w k = k ∙ ap powerOf (w ∙ parsed-word)

@@ -56,8 +56,8 @@ unfoldable pub refusedText : ℕ → List ℕ
 refusedText n = bytesText refusedWord (numberText n lf [])
 
 -- a refused reading: `refused` number line
-unfoldable pub stoppedText : ℕ → ℕ → List ℕ
-stoppedText n line = bytesText refusedWord (numberText n tab (numberText line lf []))
+unfoldable pub refusedLine : ℕ → ℕ → List ℕ
+refusedLine n line = bytesText refusedWord (numberText n tab (numberText line lf []))
 
 -- `listed` k looks, then the k spell numbers
 unfoldable pub listedText : ℕ → ℕ → List ℕ → List ℕ
@@ -111,4 +111,4 @@ callText c a = cond (eqb (a .refusal) accepted) (shapeText (shapeOf c) a) (refus
 
 -- a reading's answer
 unfoldable pub readingText : Register → List ℕ
-readingText g = cond (eqb (refusalIn g) accepted) okText (stoppedText (refusalIn g) (lineIn g))
+readingText g = cond (eqb (refusalIn g) accepted) okText (refusedLine (refusalIn g) (lineIn g))

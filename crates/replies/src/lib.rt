@@ -4,7 +4,7 @@ ghost use Prim.Native.Nat.{_≤_};
 ghost use lib.ListN.{length, take};
 ghost use Rattle.fields.specs.Answers.{Puts};
 ghost use Rattle.service.specs.Service.{answerOf};
-ghost use Rattle.replies.specs.Replies.{okText, malformedText, bytesText, refusedText, stoppedText, listedText, dashedText, severalText, tickedText, writtenText, questionShape, shapeOf, callText};
+ghost use Rattle.replies.specs.Replies.{okText, malformedText, bytesText, refusedText, refusedLine, listedText, dashedText, severalText, tickedText, writtenText, questionShape, shapeOf, callText};
 ghost use Rattle.replies.specs.Sending.{Sends, Fits};
 use model::Call;
 use model::Question;
@@ -74,8 +74,8 @@ fn put_refused(out: &mut [u8; OUT], number: u16) -> usize
 }
 
 // A refused reading.
-pub fn put_stopped(out: &mut [u8; OUT], number: u16, line: u16) -> usize
-    ensures { λ r. ⌜ Sends (stoppedText number line) (now (out .entry)) r (now (out .exit)) ⌝ }
+pub fn put_refused_line(out: &mut [u8; OUT], number: u16, line: u16) -> usize
+    ensures { λ r. ⌜ Sends (refusedLine number line) (now (out .entry)) r (now (out .exit)) ⌝ }
 {
     let i = decimals::put_number(out, OUT, line, LF);
     let j = decimals::put_number(out, i, number, TAB);

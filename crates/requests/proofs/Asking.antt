@@ -106,10 +106,10 @@ room-within malformed xs n s = omega arith
 
 module _ (line days : List ℕ) (r : Request) (days′ : List ℕ) (p : Parses line days r days′) where
   pub parsed-asked : askedFrom r days′ ≡ askedOf (length days) line
-  parsed-asked = rw (p .answer, p .places) (held (askedOf (length days) line) (daysOf (length days) line) (drop (length (daysOf (length days) line)) days) (length days) (sound (length days) line))
+  parsed-asked = rw (p .request, p .places) (held (askedOf (length days) line) (daysOf (length days) line) (drop (length (daysOf (length days) line)) days) (length days) (sound (length days) line))
 
   pub parsed-days : daysIn r ≤ length days′
-  parsed-days = rw (p .answer, p .sized) (days-within (askedOf (length days) line) (daysOf (length days) line) (length days) (sound (length days) line))
+  parsed-days = rw (p .request, p .sized) (days-within (askedOf (length days) line) (daysOf (length days) line) (length days) (sound (length days) line))
 
   pub parsed-room : roomIn r ≤ 65536
-  parsed-room = rw (p .answer) (room-within (askedOf (length days) line) (daysOf (length days) line) (length days) (sound (length days) line))
+  parsed-room = rw (p .request) (room-within (askedOf (length days) line) (daysOf (length days) line) (length days) (sound (length days) line))

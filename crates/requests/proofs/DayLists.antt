@@ -21,14 +21,14 @@ module _ (days : List ℕ) (k : ℕ) (h : k < length days) where
   last-none f e =
       let all : days ≡ over (take k days ++ []) days
       = rw (append-nil (take k days), length-take-le k days (omega arith)) (sym (take-append-drop k days)) in
-      record { answer = rw e; places = rw e all; sized = refl }
+      record { request = rw e; places = rw e all; sized = refl }
 
   pub last-one : (f : Found ℕ) (d : ℕ) → f ≡ found d [] → ReadsDays (after (take k days) (lastDay f)) days (RequestCall (Ask Days) (k + 1)) (set days k d)
   last-one f d e =
       let long : length (take k days ++ (d ∷ [])) ≡ suc k = omega (arith, length-append (take k days) (d ∷ []), length-take-le k days (omega arith)) in
       let count : k + 1 ≡ length (take k days ++ (d ∷ [])) = omega arith in
       record {
-        answer = rw e (ap (λ (n : ℕ). RequestCall (Ask Days) n) count);
+        request = rw e (ap (λ (n : ℕ). RequestCall (Ask Days) n) count);
         places = rw e (rw long (set-split days k d h ∙ sym (append-assoc (take k days) (d ∷ []) (drop (suc k) days))));
         sized = length-set days k d;
       }
@@ -83,7 +83,7 @@ module _ {l : DayList} {line entry days : List ℕ} {at k : ℕ} (p : SoFar l li
       let now : readDays (length entry - k) (drop at line) ≡ last = rw left (no-more (length entry - (k + 1)) (drop at line) e) in
       let is : l ≡ after (take k days) last = p .ahead ∙ ap (after (take k days)) now in
       let long : k ≤ length (take k days ++ last .days) = omega (arith, length-append (take k days) (last .days), length-take-le k days (omega (arith, p .sized))) in
-      rw is (record { answer = q .answer; places = q .places ∙ ap (λ (t : List ℕ). (take k days ++ last .days) ++ t) (agree days entry k (length (take k days ++ last .days)) (p .kept) long); sized = q .sized ∙ p .sized })
+      rw is (record { request = q .request; places = q .places ∙ ap (λ (t : List ℕ). (take k days ++ last .days) ++ t) (agree days entry k (length (take k days ++ last .days)) (p .kept) long); sized = q .sized ∙ p .sized })
 
 pub sofar-full : {l : DayList} {line entry days : List ℕ} {at k : ℕ} → SoFar l line entry days at k → length days ≤ k → ReadsDays l entry RequestMalformed days
 sofar-full {l} {line} {entry} {days} {at} {k} p h =
@@ -91,4 +91,4 @@ sofar-full {l} {line} {entry} {days} {at} {k} p h =
     let whole : take k days ≡ days = take-all k days h in
     let is : l ≡ record { days = days; whole = false } = p .ahead ∙ rw (none, no-room (drop at line), whole, append-nil days) in
     let past : drop (length days) entry ≡ [] = drop-of-length-le entry {i = length days} (omega (arith, p .sized)) in
-    rw is (record { answer = refl; places = rw (past, append-nil days); sized = p .sized })
+    rw is (record { request = refl; places = rw (past, append-nil days); sized = p .sized })

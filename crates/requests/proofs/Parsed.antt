@@ -13,14 +13,14 @@ use Rattle.requests.specs.Contracts.{Asks, ReadsDays}
 module _ (line days : List ℕ) where
   pub parses-long : 65536 < length line → Parses line days Malformed days
   unfolding askedOf daysOf
-  parses-long h = record { answer = rw (lt-leb (length line) 65536 h); places = rw (lt-leb (length line) 65536 h); sized = refl }
+  parses-long h = record { request = rw (lt-leb (length line) 65536 h); places = rw (lt-leb (length line) 65536 h); sized = refl }
 
   module _ (short : length line ≤ 65536) {h : Head} (is : h ≡ headOf table line) where
     -- a layout with no list of days
     pub parses-by : {l : Layout} → h .layout ≡ l → ((room : ℕ) (s : List ℕ) → daysBy l room s ≡ []) → {r : Request} → Asks l (drop (h .at) line) r → Parses line days r days
     unfolding askedOf daysOf
     parses-by e none a = record {
-      answer = rw (le-leb (length line) 65536 short, ← is, e) (a (length days));
+      request = rw (le-leb (length line) 65536 short, ← is, e) (a (length days));
       places = rw (le-leb (length line) 65536 short, ← is, e, none (length days) (drop (h .at) line));
       sized = refl;
     }
@@ -28,7 +28,7 @@ module _ (line days : List ℕ) where
     pub parses-days : h .layout ≡ Days → {r : Request} {exit : List ℕ} → ReadsDays (readDays (length days) (drop (h .at) line)) days r exit → Parses line days r exit
     unfolding askedOf daysOf askedBy daysBy
     parses-days e p = record {
-      answer = rw (le-leb (length line) 65536 short, ← is, e) (p .answer);
+      request = rw (le-leb (length line) 65536 short, ← is, e) (p .request);
       places = rw (le-leb (length line) 65536 short, ← is, e) (p .places);
       sized = p .sized;
     }

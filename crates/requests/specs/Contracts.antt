@@ -30,7 +30,7 @@ after ds l = record { days = ds ++ l .days; whole = l .whole }
 
 -- a list of days is asked, and stands in the first places of the lent list
 pub record ReadsDays (l : DayList) (days : List ℕ) (r : Request) (days′ : List ℕ) : Type 0 where
-  pub answer : r ≡ requestOf (askDays l)
+  pub request : r ≡ requestOf (askDays l)
   pub places : days′ ≡ over (l .days) days
   pub sized : length days′ ≡ length days
 

@@ -17,7 +17,7 @@ requestOf malformed = RequestMalformed
 
 -- the answer, and every place of the list lent for days
 pub record Parses (line days : List ℕ) (r : Request) (days′ : List ℕ) : Type 0 where
-  pub answer : r ≡ requestOf (askedOf (length days) line)
+  pub request : r ≡ requestOf (askedOf (length days) line)
   pub places : days′ ≡ over (daysOf (length days) line) days
   pub sized : length days′ ≡ length days
 

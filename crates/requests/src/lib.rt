@@ -205,7 +205,11 @@ fn mask_asked(line: &[u8], at: usize) -> Request
     let Length::Value(mask, next) = hex::read_mask(line, i, LF) else {
         return Request::Malformed;
     };
-    if_ended(line, next, Request::Call(Call::Ask(Question::Mask(base, mask)), 0))
+    if_ended(
+        line,
+        next,
+        Request::Call(Call::Ask(Question::Mask(base, mask)), 0),
+    )
 }
 
 // The largest decimal of a word, and what it asks.

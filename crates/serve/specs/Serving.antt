@@ -26,15 +26,15 @@ pub record Takes (arrived : List ℕ) (start end : ℕ) (r : Incoming) (arrived�
   pub bytes : List ℕ
   pub came : r .whole ≡ true → done (sentOf (r .line) (r .payload) line′ payload′) (between arrived′ (r .start) (r .end)) ≡ next begun (between arrived start end ++ bytes)
 
--- what a turn says of its request, and of the answer
+-- what is said of a request that was served, and of its answer
 abbrev pub requestIn : Session → Incoming
 requestIn r = record { line = r .line; payload = r .payload; whole = r .whole; start = r .start; end = r .end }
 
 abbrev pub answeredIn : Session → Answered
 answeredIn r = record { service = r .service; room = r .room; place = r .place }
 
--- A turn takes a request, and answers it where it is whole
-pub record Turns (sv : Service) (bs : Blocks) (room : ℕ) (arrived : List ℕ) (start end : ℕ) (days numbers text out : List ℕ) (r : Session) (bs′ : Blocks) (arrived′ line′ payload′ days′ numbers′ text′ out′ : List ℕ) : Type 0 where
+-- Serving one takes a request, and answers it where it is whole
+pub record ServesOne (sv : Service) (bs : Blocks) (room : ℕ) (arrived : List ℕ) (start end : ℕ) (days numbers text out : List ℕ) (r : Session) (bs′ : Blocks) (arrived′ line′ payload′ days′ numbers′ text′ out′ : List ℕ) : Type 0 where
   pub given : Given (r .service) bs′
   pub takes : Takes arrived start end (requestIn r) arrived′ line′ payload′
   pub serves : r .whole ≡ true

@@ -5,7 +5,7 @@ ghost use lib.ListN.{length, take};
 ghost use Rattle.framing.specs.Advancing.{Advances};
 ghost use Rattle.service.specs.Service.{blocks, Given};
 ghost use Rattle.wire.specs.Answering.{Served};
-ghost use Rattle.serve.specs.Serving.{Takes, Turns};
+ghost use Rattle.serve.specs.Serving.{Takes, ServesOne};
 use framing::Frame;
 use framing::Framed;
 use framing::LINE;
@@ -180,7 +180,7 @@ struct Session {
 }
 
 // Serves one request. One that the input's end cuts short is not carried out.
-fn turn(
+fn serve_one(
     service: Service,
     index: &mut [u16; INDEX],
     room: usize,
@@ -196,7 +196,7 @@ fn turn(
 ) -> Session
     requires { ⌜ Given service (blocks (now index)) ⌝ }
     requires { ⌜ end ≤ 65536 ⌝ }
-    ensures { λ r. ⌜ Turns service (blocks (now (index .entry))) room (now (arrived .entry)) start end (now (days .entry)) (now (numbers .entry)) (now (text .entry)) (now (out .entry)) r (blocks (now (index .exit))) (now (arrived .exit)) (now (line .exit)) (now (payload .exit)) (now (days .exit)) (now (numbers .exit)) (now (text .exit)) (now (out .exit)) ⌝ }
+    ensures { λ r. ⌜ ServesOne service (blocks (now (index .entry))) room (now (arrived .entry)) start end (now (days .entry)) (now (numbers .entry)) (now (text .entry)) (now (out .entry)) r (blocks (now (index .exit))) (now (arrived .exit)) (now (line .exit)) (now (payload .exit)) (now (days .exit)) (now (numbers .exit)) (now (text .exit)) (now (out .exit)) ⌝ }
 {
     let q = next(arrived, start, end, line, payload);
     if !q.whole {
@@ -258,7 +258,7 @@ fn serve(service: Service, index: &mut [u16; INDEX])
     let mut end = 0;
     let mut turns = u64::MAX;
     while turns > 0 {
-        let r = turn(
+        let r = serve_one(
             s,
             index,
             room,

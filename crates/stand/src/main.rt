@@ -9,9 +9,9 @@ use input::Input;
 use libc::STDERR_FILENO;
 use libc::STDIN_FILENO;
 use libc::STDOUT_FILENO;
+use replies::OUT;
 use stabbing::INDEX;
 use stand_text::LAST_DAY;
-use stand_text::LINE;
 use stand_text::PART;
 
 // One byte more than a register may have: a longer text is refused whatever follows.
@@ -26,11 +26,12 @@ fn print(bytes: &[u8], start: usize, end: usize) -> bool
     output::write(STDOUT_FILENO, &bytes[start..end], b"stand: standard output")
 }
 
-// Prints the line that ends the buffer.
-fn print_line(buf: &[u8; LINE], at: usize) -> bool
-    requires { ⌜ at ≤ 8192 ⌝ }
-{
-    print(buf, at, LINE)
+// Prints the line that ends a list.
+fn print_line(out: &[u8; OUT], at: usize) -> bool {
+    if OUT < at {
+        return false;
+    }
+    print(out, at, OUT)
 }
 
 // Prints the lines in the first places of a list.
@@ -50,9 +51,9 @@ fn tell_refusal(number: u16, line: u16) {
 }
 
 fn print_refusal(number: u16, line: u16) {
-    let mut buf = [0u8; LINE];
-    let at = stand_text::refused_line(number, line, &mut buf);
-    print_line(&buf, at);
+    let mut out = [0u8; OUT];
+    let at = replies::put_refused_line(&mut out, number, line);
+    print_line(&out, at);
     tell_refusal(number, line);
 }
 

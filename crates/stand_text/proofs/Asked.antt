@@ -36,7 +36,7 @@ filter-off d off (s ∷ p) g = go (onDay d s) refl (filter-off d off p (g .1))
 -- ---- The answer
 
 -- k spells stand on day d, with c comparisons (document 01's looks), and their numbers are the first of a list
-pub record Told (p : List Spell) (d k c : ℕ) (out : List ℕ) : Type 0 where
+pub record DayAnswer (p : List Spell) (d k c : ℕ) (out : List ℕ) : Type 0 where
   pub count : k ≡ length (listed (onDay d) p)
   pub comparisons : c ≡ comparisonsOf d d p
   pub numbers : take k out ≡ listed (onDay d) p
@@ -47,14 +47,14 @@ module _ (m : State) (q : Request) (g : Good (m .published)) (room : 1024 ≤ le
   abbrev p : List Spell
   p = m .published
 
-  abbrev ToldBy : After → Type 0
-  ToldBy x = Told p d (x .answer .count) (x .answer .comparisons) (x .answer .numbers)
+  abbrev AnswersBy : After → Type 0
+  AnswersBy x = DayAnswer p d (x .answer .count) (x .answer .comparisons) (x .answer .numbers)
 
-  told-on : ToldBy (settle (gives (listed (onDay d) p) (comparisonsOf d d p) 0) m q)
+  answer-on : AnswersBy (settle (gives (listed (onDay d) p) (comparisonsOf d d p) 0) m q)
   unfolding settle
-  told-on =
+  answer-on =
       let few : length (listed (onDay d) p) ≤ 1024 = omega (arith, listed-few (onDay d) p, g .few) in
-      by-cases ToldBy (leb (length (listed (onDay d) p)) (length (q .numbers)))
+      by-cases AnswersBy (leb (length (listed (onDay d) p)) (length (q .numbers)))
       (λ _. record {
         count = refl;
         comparisons = refl;
@@ -64,10 +64,10 @@ module _ (m : State) (q : Request) (g : Good (m .published)) (room : 1024 ≤ le
       })
       (λ e. absurd (clash (le-leb (length (listed (onDay d) p)) (length (q .numbers)) (omega arith)) e))
 
-  told : ToldBy (settle (ask (Day d) (q .days) p) m q)
+  answers : AnswersBy (settle (ask (Day d) (q .days) p) m q)
   unfolding ask settle
-  told =
-      by-cases (λ (e : Effect). ToldBy (settle e m q)) (isDay d) (λ _. told-on) (λ off.
+  answers =
+      by-cases (λ (e : Effect). AnswersBy (settle e m q)) (isDay d) (λ _. answer-on) (λ off.
       let none : listed (onDay d) p ≡ [] = ap (map (λ (s : Spell). s .number)) (filter-off d off p (g .each)) in
       record {
         count = rw none;
@@ -79,12 +79,12 @@ module _ (m : State) (q : Request) (g : Good (m .published)) (room : 1024 ≤ le
 
 -- a question's answer does not go by what stands, so the service beside the index may be a fresh one, and the state one in which nothing stands
 pub day-tells : (ix : List ℕ) (p : List Spell) (d : ℕ) (days ns : List ℕ) (o : Outcome) (ns′ : List ℕ) → 1024 ≤ length ns → Shows ix p
-    → Asked (blocks ix) (Day d) days ns o ns′ → Told p d (o .count) (o .comparisons) ns′
+    → Asked (blocks ix) (Day d) days ns o ns′ → DayAnswer p d (o .count) (o .comparisons) ns′
 unfolding effectOf
 day-tells ix p d days ns o ns′ room s a =
     let alone : State = withPublished p fresh in
     let stood : Represents freshService (blocks ix) alone
     = record { valid = record { standing = fresh-is .wf }; standing = fresh-is .list; past = fresh-is .past; shows = s } in
     let same = a .met _ [] (represented stood) .answer alone stood in
-    subst (λ (x : Answer). Told p d (x .count) (x .comparisons) (x .numbers)) (sym same)
-    (told alone (asking (Ask (Day d)) days ns []) (s .good) room d)
+    subst (λ (x : Answer). DayAnswer p d (x .count) (x .comparisons) (x .numbers)) (sym same)
+    (answers alone (asking (Ask (Day d)) days ns []) (s .good) room d)

@@ -1,5 +1,5 @@
 -- The lines of days put one after the other into a part, and the parts one after another into the whole text. Assumes nothing.
-use Rattle.basis.proofs.Prelude.{_∙_, _≡_, ap, refl, sym, _+_, _-_, _<_, _≤_, suc, zero, ℕ, List, [], _++_, append-assoc, append-nil, Bool, cond, false, true, _⊎_, ⊎-elim, leb, drop, drop-of-length-le, length, length-append, take, drop-append-add, drop-at, drop-drop, length-take-le, take-at, take-length, add-one, arith, le-leb, lt-leb, clash}
+use Rattle.basis.proofs.Prelude.{_∙_, _≡_, ap, refl, sym, _+_, _-_, _<_, _≤_, suc, zero, ℕ, List, [], _++_, append-assoc, append-nil, Bool, cond, false, true, _⊎_, ⊎-elim, leb, drop, drop-of-length-le, length, length-append, take, drop-append-add, drop-drop, take-at, take-length, add-one, arith, le-leb, lt-leb, clash}
 use borrow.Rule.Slice.PartMut.{midOf, putMid, post-is, mid-len}
 use Rattle.spell.specs.declared.Spell.{Spell}
 use Rattle.register.specs.Text.{readText}
@@ -7,8 +7,10 @@ use Rattle.model.specs.declared.Call.the-variants.{Publish}
 use Rattle.model.specs.Effects.{settle}
 use Rattle.model.specs.Model.{begun, refusalIn, effectOf, step}
 use Rattle.service.specs.Service.{Shows, Published, asking}
+use Rattle.replies.proofs.Sending.{sends-bytes, sends-put}
 use Rattle.stand_text.specs.declared.Part.{Part}
-use Rattle.stand_text.specs.Report.{dayLine, linesOf, textOf, taken, partDays, partOf, nextOf, Come, none, more, Reached, Printed, PrintedOn, PrintedOf, DayEnds, Appends, Stands, PartStands}
+use Rattle.stand_text.specs.Report.{dayLine, linesOf, textOf, taken, partDays, partOf, nextOf, Come, none, more, Reached, Printed, PrintedOn, PrintedOf, DayEnds, Stands, PartStands}
+use Rattle.stand_text.specs.Contracts.{Appends}
 
 -- ---- Lines
 
@@ -136,20 +138,17 @@ filled-none ix from entry = record { inside = omega arith; lines = λ p shows. f
 -- a buffer that a day's line ends, from r on: it keeps its length, and the line stands from r on
 module _ {ix : List ℕ} {d : ℕ} {buf₀ buf : List ℕ} {r : ℕ} (size : length buf₀ ≡ 8192) (e : DayEnds ix d buf₀ r buf) where
   stands : (p : List Spell) → Shows ix p → drop r buf ≡ dayLine d p
-  stands p shows = ap (drop r) (e .line p shows .places) ∙ drop-at (take r buf₀) (dayLine d p) r (length-take-le r buf₀ (omega (arith, e .inside)))
+  stands p shows = sends-bytes (e .line p shows)
 
   pub line-sized : Published ix → length buf ≡ 8192
-  line-sized g =
-      let line = e .line (g .list) (g .shows) in
-      ap length (line .places) ∙ length-append (take r buf₀) (dayLine d (g .list))
-      ∙ omega (arith, line .place, length-take-le r buf₀ (omega (arith, e .inside)))
+  line-sized g = sends-put (e .line (g .list) (g .shows)) .sized ∙ size
 
 module _ {ix : List ℕ} {from : ℕ} {entry : List ℕ} {n d : ℕ} {out : List ℕ} (g : Published ix) (f : Filled ix from entry n d out) where
   -- and is appended
   pub filled-one : {buf₀ buf : List ℕ} {r n′ : ℕ} {out′ : List ℕ} → length buf₀ ≡ 8192 → d ≤ 4000 → n ≤ 57344
       → DayEnds ix d buf₀ r buf → Appends (drop r buf) out n n′ out′ → Filled ix from entry n′ (d + 1) out′
   filled-one {buf₀} {buf} {r} {n′} {out′} size last room e a = record {
-    inside = omega (arith, a .place, ap length (stands size e (g .list) (g .shows)), e .line (g .list) (g .shows) .place);
+    inside = omega (arith, a .place, ap length (stands size e (g .list) (g .shows)), e .line (g .list) (g .shows) .fits);
     lines = λ p shows. filling-one (f .lines p shows) last room (stands size e p shows) a;
   }
 

@@ -11,6 +11,7 @@ use Rattle.spell.specs.declared.Spell.{Spell}
 use Rattle.register.specs.Text.{good, readText}
 use Rattle.model.specs.Questions.{onDay, listed, comparisonsOf}
 use Rattle.service.specs.Service.{Shows}
+use Rattle.replies.specs.Sending.{Sends}
 use Rattle.stand_text.specs.declared.Part.{Part}
 
 -- ---- The lines
@@ -33,35 +34,12 @@ linesOf (suc k) d p = dayLine d p ++ linesOf k (suc d) p
 abbrev pub textOf : List Spell → List ℕ
 textOf p = linesOf 4000 1 p
 
--- the bytes of `refused`
-abbrev pub refusedWord : List ℕ
-refusedWord = 114 ∷ 101 ∷ 102 ∷ 117 ∷ 115 ∷ 101 ∷ 100 ∷ []
-
--- `refused`, the refusal's number and the line of the text, tab-parted and ended by LF
-abbrev pub refusedLine : ℕ → ℕ → List ℕ
-refusedLine number line = refusedWord ++ 9 ∷ numbersText (number ∷ line ∷ []) []
-
 -- ---- The buffer
 
--- the line stands in the last of 8,192 places, from r on, and the places before keep what they held
-pub record Ends (line entry : List ℕ) (r : ℕ) (exit : List ℕ) : Type 0 where
-  pub place : r + length line ≡ 8192
-  pub places : exit ≡ take r entry ++ line
-
--- the line of day d over whatever published list the index shows
+-- the line of day d over whatever published list the index shows, in the last of 8,192 places: the places before keep what they held
 pub record DayEnds (ix : List ℕ) (d : ℕ) (entry : List ℕ) (r : ℕ) (exit : List ℕ) : Type 0 where
   pub inside : r ≤ 8192
-  pub line : (p : List Spell) → Shows ix p → Ends (dayLine d p) entry r exit
-
--- the line of a refused text
-pub record RefusedEnds (number at : ℕ) (entry : List ℕ) (r : ℕ) (exit : List ℕ) : Type 0 where
-  pub inside : r ≤ 8192
-  pub line : Ends (refusedLine number at) entry r exit
-
--- the text is copied to the places from `at` on, and the others keep what they held
-pub record Appends (text entry : List ℕ) (at r : ℕ) (exit : List ℕ) : Type 0 where
-  pub place : r ≡ at + length text
-  pub places : exit ≡ take at entry ++ (text ++ drop r entry)
+  pub line : (p : List Spell) → Shows ix p → Sends (dayLine d p) entry r exit
 
 -- ---- The parts of the whole text. A part is whole lines in a list of 65,536 places; a line is put as long as 8,192 are left.
 

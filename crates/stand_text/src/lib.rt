@@ -1,10 +1,9 @@
 // What the program `stand` prints: each line put into the last places of a buffer, and the whole text in parts of many lines.
 ghost use Prim.Native.Nat.{_≤_, _+_, _-_};
-ghost use mathlib.Core.List.{_++_};
 ghost use lib.ListN.{length, drop};
-ghost use Rattle.fields.specs.Answers.{Puts};
 ghost use Rattle.service.specs.Service.{Published};
-ghost use Rattle.stand_text.specs.Report.{Appends, DayEnds, PartStands, RefusedEnds};
+ghost use Rattle.stand_text.specs.Report.{DayEnds, PartStands};
+ghost use Rattle.stand_text.specs.Contracts.{Appends};
 use stabbing::INDEX;
 
 const TAB: u8 = 9;
@@ -68,28 +67,4 @@ pub fn days_part(index: &[u16; INDEX], from: u16, out: &mut [u8; PART]) -> Part
         d += 1;
     }
     Part { bytes, next: d }
-}
-
-// The bytes of a word before the place `at`: the place where it begins.
-fn put_word(buf: &mut [u8], at: usize, word: &[u8]) -> usize
-    requires { ⌜ length (now word) ≤ at ⌝ }
-    requires { ⌜ at ≤ length (now buf) ⌝ }
-    ensures { λ r. ⌜ Puts (length (now (word .entry))) (λ rest. now (word .entry) ++ rest) (now (buf .entry)) at r (now (buf .exit)) ⌝ }
-{
-    let mut place = at;
-    let mut i = word.len();
-    while 0 < i {
-        i -= 1;
-        place = fields::put_byte(buf, place, word[i]);
-    }
-    place
-}
-
-// The line of a refused text: the place where it begins.
-pub fn refused_line(number: u16, line: u16, buf: &mut [u8; LINE]) -> usize
-    ensures { λ r. ⌜ RefusedEnds number line (now (buf .entry)) r (now (buf .exit)) ⌝ }
-{
-    let pair = [number, line];
-    let at_pair = decimals::put_numbers(buf, LINE, &pair);
-    put_word(buf, at_pair, b"refused\t")
 }

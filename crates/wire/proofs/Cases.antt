@@ -16,7 +16,7 @@ use Rattle.model.specs.Model.{takeBack, cover, ask, effectOf}
 use Rattle.requests.specs.Words.{table, begins, headOf}
 use Rattle.requests.specs.Requests.{readDays, askedBy, askedOf}
 use Rattle.requests.proofs.Cases.{spelled}
-use Rattle.replies.specs.Replies.{refusedText, stoppedText, listedText, dashedText, severalText, tickedText, writtenText, shapeText, callText, readingText}
+use Rattle.replies.specs.Replies.{refusedText, refusedLine, listedText, dashedText, severalText, tickedText, writtenText, shapeText, callText, readingText}
 use Rattle.wire.specs.Conversation.{Sent, opening, registerOf, turnOf, converse}
 
 -- a request and its answer: the line, the bytes after the line of a `read`, and the answer's bytes
@@ -63,7 +63,7 @@ edges =
 
 -- THE PROTOCOL'S EXAMPLE, and the edges
 pub example : map (λ c. converse opening (map sent c)) (session ∷ edges ∷ []) ≡ map (map (λ x. spelled (x .2))) (session ∷ edges ∷ [])
-unfolding spelled converse turnOf registerOf callText readingText shapeText refusedText stoppedText listedText dashedText severalText tickedText writtenText
+unfolding spelled converse turnOf registerOf callText readingText shapeText refusedText refusedLine listedText dashedText severalText tickedText writtenText
     table begins headOf askedBy askedOf readDays digitsOf decimalOf hexDigit hexOf numbersText passed readDigits readDecimal hexValue readHex
     lineText textOnto readLetter readValue readUrgency readLine follows lineRefusal lineAnswer nextLine readLines readText
     settle effectOf takeBack ask cover enterRefusal strikeRefusal insertBy remember earlierOf stands isNan toBits ofBits

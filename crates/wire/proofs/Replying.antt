@@ -9,7 +9,7 @@ use Rattle.service.proofs.Represented.{stateOf, stands}
 use Rattle.replies.specs.Replies.{callText}
 use Rattle.replies.specs.Sending.{Sends, Fits}
 use Rattle.wire.specs.Conversation.{lent, callOf}
-use Rattle.wire.specs.Answering.{Called}
+use Rattle.wire.specs.Contracts.{CallTurn}
 use Rattle.wire.proofs.Bounds.{fits-step}
 use Rattle.wire.proofs.Shown.{Same, same-step, same-call}
 
@@ -25,7 +25,7 @@ module _ (sv : Service) (bs : Blocks) (call : Call) (ds numbers text : List ℕ)
 
   pub called : (r : Stepped) (bs′ : Blocks) (ns ts out out′ : List ℕ) (place : ℕ) → Met sv bs (asking call ds numbers text) r bs′ ns ts
       → Sends (callText call (answerOf (r .outcome) ns ts)) out place out′
-      → Called sv bs (asking call ds numbers text) room out (record { service = r .service; room = room; place = place }) bs′ ns ts out′
+      → CallTurn sv bs (asking call ds numbers text) room out (record { service = r .service; room = room; place = place }) bs′ ns ts out′
   called r bs′ ns ts out out′ place met s = record {
     turned = record {
       given = met .given;

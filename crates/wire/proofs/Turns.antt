@@ -9,14 +9,15 @@ use Rattle.service.specs.Service.{Blocks, Represents, Given, Begins}
 use Rattle.service.proofs.Represented.{represented}
 use Rattle.wire.specs.declared.Answered.{Answered}
 use Rattle.requests.specs.Requests.{asksCall, asksRoom, asksRead, malformed}
-use Rattle.replies.specs.Replies.{okText, malformedText, stoppedText, readingText}
+use Rattle.replies.specs.Replies.{okText, malformedText, refusedLine, readingText}
 use Rattle.replies.specs.Sending.{Sends}
 use Rattle.wire.specs.Conversation.{registerOf, turnOf}
-use Rattle.wire.specs.Answering.{Called, Restarted, Answers, lentOf}
+use Rattle.wire.specs.Answering.{Restarted, Answers, lentOf}
+use Rattle.wire.specs.Contracts.{CallTurn}
 
 -- ---- a reading
 module _ (room n : ℕ) (payload : List ℕ) (bs : Blocks) (out out′ : List ℕ) (place : ℕ) where
-  pub restart-long : (sv : Service) → 65536 < n → Represents sv bs fresh → Sends (stoppedText 12 0) out place out′
+  pub restart-long : (sv : Service) → 65536 < n → Represents sv bs fresh → Sends (refusedLine 12 0) out place out′
       → Restarted room n payload out (record { service = sv; room = room; place = place }) bs out′
   unfolding registerOf turnOf begun readingText
   restart-long sv h r s =
@@ -24,7 +25,7 @@ module _ (room n : ℕ) (payload : List ℕ) (bs : Blocks) (out out′ : List �
       record { given = represented r; taken = λ m. record { sends = rw no s; after = rw no r; room = refl } }
 
   module _ (h : n ≤ 65536) (g : Started) (b : Begins (readText payload) g bs) where
-    pub restart-refused : (g .refusal ≡ 0 → ⊥) → Sends (stoppedText (g .refusal) (g .line)) out place out′
+    pub restart-refused : (g .refusal ≡ 0 → ⊥) → Sends (refusedLine (g .refusal) (g .line)) out place out′
         → Restarted room n payload out (record { service = g .service; room = room; place = place }) bs out′
     unfolding registerOf turnOf readingText
     restart-refused e s =
@@ -43,7 +44,7 @@ module _ (room n : ℕ) (payload : List ℕ) (bs : Blocks) (out out′ : List �
 
 -- ---- any request
 module _ (sv : Service) (bs : Blocks) (room : ℕ) (payload numbers text out out′ : List ℕ) where
-  pub turn-call : {bs′ : Blocks} (c : Call) (ds ns ts : List ℕ) (r : Answered) → Called sv bs (lentOf c ds room numbers text) room out r bs′ ns ts out′
+  pub turn-call : {bs′ : Blocks} (c : Call) (ds ns ts : List ℕ) (r : Answered) → CallTurn sv bs (lentOf c ds room numbers text) room out r bs′ ns ts out′
       → Answers sv bs room (asksCall c ds) payload numbers text out r bs′ (ns ++ drop room numbers) (ts ++ drop room text) out′
   unfolding turnOf
   turn-call c ds ns ts r d = record {

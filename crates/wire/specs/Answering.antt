@@ -11,7 +11,7 @@ use Rattle.service.specs.declared.Service.{Service}
 use Rattle.service.specs.Service.{Blocks, Represents, Given}
 use Rattle.replies.specs.Sending.{Sends}
 use Rattle.wire.specs.declared.Answered.{Answered}
-use Rattle.wire.specs.Conversation.{Conv, Turn, callOf, turnBy, turnOf}
+use Rattle.wire.specs.Conversation.{Conv, Turn, turnOf}
 use Rattle.requests.specs.Requests.{Asked, asksCall, asksRoom, asksRead, malformed, askedOf, daysOf}
 use Rattle.buffer.specs.Buffer.{over}
 
@@ -33,11 +33,6 @@ conv m room = record { state = m; room = room }
 -- a call that is lent the first places of these lists
 abbrev pub lentOf : Call → List ℕ → ℕ → List ℕ → List ℕ → Request
 lentOf c ds room numbers text = record { call = c; days = ds; numbers = take room numbers; text = take room text }
-
--- the turn of a call that is lent these lists, which are as long as the room
-pub record Called (sv : Service) (bs : Blocks) (q : Request) (room : ℕ) (out : List ℕ) (r : Answered) (bs′ : Blocks) (numbers text out′ : List ℕ) : Type 0 where
-  pub turned : Turned sv bs (λ m. turnBy (q .call) room (step m (callOf (q .call) (q .days) room))) out r bs′ out′
-  pub lists : (m : State) → Represents sv bs m → (numbers ≡ step m q .answer .numbers) × (text ≡ step m q .answer .text)
 
 -- the turn of a reading, whatever service and blocks were there before
 pub record Restarted (room n : ℕ) (payload out : List ℕ) (r : Answered) (bs′ : Blocks) (out′ : List ℕ) : Type 0 where

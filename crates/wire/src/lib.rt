@@ -3,7 +3,8 @@ ghost use mathlib.Core.Path.{_≡_};
 ghost use Prim.Native.Nat.{_≤_};
 ghost use lib.ListN.{length};
 ghost use Rattle.requests.specs.Parsing.{askedFrom, daysIn, roomIn};
-ghost use Rattle.wire.specs.Answering.{Called, Restarted, Answers, roomOf, Served};
+ghost use Rattle.wire.specs.Answering.{Restarted, Answers, roomOf, Served};
+ghost use Rattle.wire.specs.Contracts.{CallTurn};
 ghost use Rattle.service.specs.Service.{blocks, Given, asking};
 use model::Call;
 use refusal::ACCEPTED;
@@ -42,7 +43,7 @@ fn call_turn(
 ) -> Answered
     requires { ⌜ Given service (blocks (now index)) ⌝ }
     requires { ⌜ (room ≤ 65536) × (length (now numbers) ≡ room) × (length (now text) ≡ room) ⌝ }
-    ensures { λ r. ⌜ Called service (blocks (now (index .entry))) (asking call (now (days .entry)) (now (numbers .entry)) (now (text .entry))) room (now (out .entry)) r (blocks (now (index .exit))) (now (numbers .exit)) (now (text .exit)) (now (out .exit)) ⌝ }
+    ensures { λ r. ⌜ CallTurn service (blocks (now (index .entry))) (asking call (now (days .entry)) (now (numbers .entry)) (now (text .entry))) room (now (out .entry)) r (blocks (now (index .exit))) (now (numbers .exit)) (now (text .exit)) (now (out .exit)) ⌝ }
 {
     let r = service::step(service, index, call, days, numbers, text);
     let place = replies::put_reply(out, call, r.outcome, numbers, text);
@@ -66,7 +67,7 @@ pub fn restart(
 {
     if length > LONGEST_TEXT {
         let service = service::fresh(index);
-        let place = replies::put_stopped(out, MALFORMED, 0);
+        let place = replies::put_refused_line(out, MALFORMED, 0);
         return Answered {
             service,
             room,
@@ -76,7 +77,7 @@ pub fn restart(
     let r = service::read(payload, index);
     let service = r.service;
     if r.refusal != ACCEPTED {
-        let place = replies::put_stopped(out, r.refusal, r.line);
+        let place = replies::put_refused_line(out, r.refusal, r.line);
         return Answered {
             service,
             room,

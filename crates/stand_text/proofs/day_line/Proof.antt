@@ -2,7 +2,7 @@
 use Rattle.basis.proofs.Prelude.{_≡_, sym, _<_, _≤_, List, [], length, take, length-take-le, arith, needs}
 use Rattle.spell.specs.declared.Spell.{Spell}
 use Rattle.service.specs.Service.{Shows}
-use Rattle.stand_text.proofs.Asked.{Told, day-tells}
+use Rattle.stand_text.proofs.Asked.{DayAnswer, day-tells}
 use Rattle.stand_text.proofs.Lines.{day-none, day-some, day-ends}
 use Rattle.stand_text.proofs.day_line.Statement.{statement}
 use Rattle.stand_text.proofs.day_line.Tie as tie
@@ -10,7 +10,7 @@ use Rattle.stand_text.proofs.day_line.Tie as tie
 -- what the answer says of whatever list the index shows
 tells : (a : tie.After-day) →
     let args = a .before .before .args in
-    (p : List Spell) → Shows (args .index .now) p → Told p (args .d) (a .day .result .count) (a .day .result .comparisons) (a .day .last .1 .1 .0)
+    (p : List Spell) → Shows (args .index .now) p → DayAnswer p (args .d) (a .day .result .count) (a .day .result .comparisons) (a .day .last .1 .1 .0)
 tells a p shows = day-tells _ p (a .before .before .args .d) [] _ _ _ (omega arith) shows (a .day .ensures [])
 
 -- and of a list that it does show
@@ -39,7 +39,7 @@ returns : tie.Need-returns
 returns c =
     let n = c .before .before in
     let a = n .before .before .before in
-    day-ends (a .before .before .pre) (λ p shows.
+    day-ends (sized (n .before)) (a .before .before .pre) (λ p shows.
     day-none (tells a p shows) (sized (n .before)) (full n) (c .before .put-numbers .ensures) (c .if1 .taken))
 
 cast-put-number : tie.Need-cast-put-number
@@ -56,7 +56,7 @@ returns-2 c =
     let n = else .before .before in
     let a = n .before .before .before in
     let some : 0 < a .day .result .count = omega (arith, else .if1 .left) in
-    day-ends (a .before .before .pre) (λ p shows.
+    day-ends (sized (n .before)) (a .before .before .pre) (λ p shows.
     day-some (tells a p shows) (sized (n .before)) (full n) (else .before .put-numbers .ensures) some
     (comparisons .put-number .ensures) (count .put-number2 .ensures) (c .put-number3 .ensures))
 

@@ -1,7 +1,7 @@
--- `serve::turn` meets its contract. Assumes nothing.
+-- `serve::serve_one` meets its contract. Assumes nothing.
 use Rattle.basis.proofs.Prelude.{_∙_, sym, false≢true, arith, needs, not-true}
-use Rattle.serve.proofs.turn.Statement.{statement}
-use Rattle.serve.proofs.turn.Tie as tie
+use Rattle.serve.proofs.serve_one.Statement.{statement}
+use Rattle.serve.proofs.serve_one.Tie as tie
 
 returns : tie.Need-returns
 returns c =
@@ -28,5 +28,5 @@ returns-2 c =
       serves = λ _. replied .reply .ensures;
     }
 
-pub turn-spec : {M : Type 1} → statement M
-turn-spec = tie.close (tie.spec (λ c κs. search needs) returns reply-requires (λ c κs. search needs) returns-2)
+pub serve-one-spec : {M : Type 1} → statement M
+serve-one-spec = tie.close (tie.spec (λ c κs. search needs) returns reply-requires (λ c κs. search needs) returns-2)

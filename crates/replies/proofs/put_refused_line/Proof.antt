@@ -1,12 +1,12 @@
--- `replies::put_stopped` meets its contract. Assumes nothing.
+-- `replies::put_refused_line` meets its contract. Assumes nothing.
 use Rattle.basis.proofs.Prelude.{arith, needs}
-use Rattle.replies.specs.Replies.{refusedWord, stoppedText}
+use Rattle.replies.specs.Replies.{refusedWord, refusedLine}
 use Rattle.replies.proofs.Sending.{put-end, put-sends, on-number, on-bytes}
-use Rattle.replies.proofs.put_stopped.Statement.{statement}
-use Rattle.replies.proofs.put_stopped.Tie as tie
+use Rattle.replies.proofs.put_refused_line.Statement.{statement}
+use Rattle.replies.proofs.put_refused_line.Tie as tie
 
 returns : tie.Need-returns
-unfolding stoppedText
+unfolding refusedLine
 returns c =
     let number = c .before .before .before in
     let line = number .before .before in
@@ -15,5 +15,5 @@ returns c =
     let q = on-number (p .0) (start .args .number) 9 (omega (arith, p .1)) (number .put-number2 .ensures) in
     put-sends (on-bytes (q .0) refusedWord (omega (arith, p .1, q .1)) (c .put-bytes .ensures) .0)
 
-pub put-stopped-spec : {M : Type 1} → statement M
-put-stopped-spec = tie.close (tie.spec (λ c κs. search needs) (λ c κs. search needs) (λ c. search needs) (λ c κs. search needs) returns)
+pub put-refused-line-spec : {M : Type 1} → statement M
+put-refused-line-spec = tie.close (tie.spec (λ c κs. search needs) (λ c κs. search needs) (λ c. search needs) (λ c κs. search needs) returns)

@@ -1,0 +1,49 @@
+-- The contracts of the private functions. Assumes nothing.
+use Prim.Native.Nat.{ℕ, _≤_}
+use mathlib.Core.Path.{_≡_}
+use mathlib.Core.Bool.{cond}
+use mathlib.Core.List.{List, []}
+use lib.Dec.{leb}
+use lib.ListN.{length, take, drop}
+use Rattle.framing.specs.declared.Framed.{Framed}
+use Rattle.framing.specs.declared.Taken.{Taken}
+use Rattle.framing.specs.declared.Taken.the-variants.{Whole as LineWhole, Part as LinePart}
+use Rattle.framing.specs.Stream.{inLine, kept, wants, settled}
+use Rattle.framing.specs.Advancing.{Progress, going, next, after, progressOf, Within, Kept, lineIn, textIn}
+
+-- a byte is put after the first n of a list
+pub record Puts (into : List ℕ) (n b r : ℕ) (into′ : List ℕ) : Type 0 where
+  pub sized : length into′ ≡ length into
+  pub within : r ≤ length into
+  pub on : n ≤ r
+  pub bytes : take r into′ ≡ kept (length into) (take n into) b
+  pub rest : Kept r into into′
+
+-- a line that is taken up to its LF, or not whole
+abbrev pub takenOf : Taken → List ℕ → List ℕ → Progress
+takenOf (LineWhole n at) arrived line = after (settled (take n line) [] (wants (take n line))) (drop at arrived)
+takenOf (LinePart n) arrived line = going (inLine (take n line))
+
+abbrev pub TakenWithin : Taken → ℕ → Type 0
+TakenWithin (LineWhole n at) size = (n ≤ 65537) × (at ≤ size)
+TakenWithin (LinePart n) size = n ≤ 65537
+
+abbrev pub bytesIn : Taken → ℕ
+bytesIn (LineWhole n at) = n
+bytesIn (LinePart n) = n
+
+pub record TakesLine (n : ℕ) (arrived : List ℕ) (from : ℕ) (line : List ℕ) (r : Taken) (line′ : List ℕ) : Type 0 where
+  pub progress : takenOf r arrived line′ ≡ next (inLine (take n line)) (drop from arrived)
+  pub within : TakenWithin r (length arrived)
+  pub rest : Kept (bytesIn r) line line′
+
+-- a text of which so many bytes are wanted, whatever line it comes after
+pub record TakesText (n m wanted : ℕ) (arrived : List ℕ) (from : ℕ) (payload : List ℕ) (r : Framed) (payload′ : List ℕ) : Type 0 where
+  pub progress : (line : List ℕ) → progressOf r arrived line payload′ ≡ after (settled (take n line) (take m payload) wanted) (drop from arrived)
+  pub within : Within r (length arrived)
+  pub line : lineIn r ≡ n
+  pub rest : Kept (textIn r) payload payload′
+
+-- the less of two numbers
+abbrev pub least : ℕ → ℕ → ℕ
+least a b = cond (leb a b) a b
