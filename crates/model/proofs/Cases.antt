@@ -4,14 +4,16 @@ use lib.Ieee.{binary32, isNan, toBits, ofBits}
 use Rattle.spell.specs.declared.Urgency.{Urgency}
 use Rattle.spell.specs.declared.Urgency.the-variants.{Grade, Reading}
 use Rattle.spell.specs.declared.Spell.{Spell}
-use Rattle.spell.specs.Order.{earlierOf}
+use Rattle.spell.specs.Order.{listedBefore, earlierOf}
 use Rattle.spell.specs.Listing.{stands}
 use Rattle.spell.specs.Same.{sameReading, sameOf}
 use Rattle.stabbing.specs.Tree.{below, keep, count, head, next, parent, child, leftSibling, lastChild, fitsAt, start, onPath, formula}
 use Rattle.model.specs.declared.Call.{Call}
 use Rattle.model.specs.declared.Call.the-variants.{Enter, Amend, Strike, TakeBack, Publish, Ask}
 use Rattle.model.specs.declared.Question.the-variants.{Day, Span, Cover, Days, Mask}
+use Rattle.orders.specs.Orders.{sortedBy}
 use Rattle.model.specs.Edits.{insertBy, remove, idle, enterRefusal, amendRefusal, strikeRefusal, remember}
+use Rattle.model.specs.Publishing.{publishedOf}
 use Rattle.calendar.specs.Calendar.{daysOk}
 use Rattle.masks.specs.Masks.{isSet, ticksFrom}
 use Rattle.model.specs.Questions.{onAny, rising, filter, comparisonsOf}
@@ -96,7 +98,7 @@ pub document-cases : map answers ((entering ++ asking) ∷ M1 ∷ M2 ∷ [])
     ∷ (replicate 3 (plain 0) ++ ((0 ∷ 1 ∷ 0 ∷ 1 ∷ 99 ∷ 99 ∷ 99 ∷ 99 ∷ 99 ∷ []) ∷ []))
     ∷ (replicate 5 (plain 0) ++ ((0 ∷ 3 ∷ 0 ∷ 1 ∷ 2 ∷ 4 ∷ 99 ∷ 99 ∷ 99 ∷ []) ∷ []))
     ∷ []
-unfolding run settle effectOf ask cover enterRefusal insertBy remember earlierOf stands isNan toBits ofBits
+unfolding run settle effectOf ask cover enterRefusal insertBy publishedOf sortedBy listedBefore remember earlierOf stands isNan toBits ofBits
     onAny daysOk rising filter comparisonsOf below keep count head next parent child leftSibling lastChild fitsAt start onPath formula
 document-cases = refl
 
@@ -134,7 +136,7 @@ refusing = call TakeBack
 
 pub refusals : map (λ (a : Answer). a .refusal) (run fresh refusing)
     ≡ 9 ∷ 0 ∷ 6 ∷ 1 ∷ 7 ∷ 3 ∷ 7 ∷ 7 ∷ 0 ∷ 11 ∷ 0 ∷ 3 ∷ 4 ∷ 3 ∷ 10 ∷ 3 ∷ 0 ∷ 0 ∷ 0 ∷ 9 ∷ []
-unfolding run settle effectOf takeBack ask cover enterRefusal amendRefusal strikeRefusal insertBy remove remember earlierOf stands idle sameOf isNan toBits
+unfolding run settle effectOf takeBack ask cover enterRefusal amendRefusal strikeRefusal insertBy publishedOf sortedBy listedBefore remove remember earlierOf stands idle sameOf isNan toBits
     onAny daysOk rising filter comparisonsOf
 refusals = refl
 
@@ -168,7 +170,7 @@ pub masks : map review (run fresh (entering ++ reviewing))
     ∷ (0 ∷ 0 ∷ 0 ∷ 0 ∷ [])
     ∷ (0 ∷ 11 ∷ 0 ∷ 0 ∷ [])
     ∷ [])
-unfolding run settle effectOf ask enterRefusal insertBy remember earlierOf stands isNan toBits ofBits onAny daysOk rising filter ticksFrom isSet
+unfolding run settle effectOf ask enterRefusal insertBy publishedOf sortedBy listedBefore remember earlierOf stands isNan toBits ofBits onAny daysOk rising filter ticksFrom isSet
 masks = refl
 
 -- ---- Edits, and what a day lists before and after they are published
@@ -210,7 +212,7 @@ pub edits : map found (run fresh editing)
     ∷ (1 ∷ 3 ∷ []) ∷ []
     ∷ (1 ∷ [])
     ∷ []
-unfolding run settle effectOf takeBack ask enterRefusal amendRefusal strikeRefusal insertBy remove remember earlierOf stands idle sameOf filter
+unfolding run settle effectOf takeBack ask enterRefusal amendRefusal strikeRefusal insertBy publishedOf sortedBy listedBefore remove remember earlierOf stands idle sameOf filter
 edits = refl
 
 -- ---- The 65th list falls off
@@ -229,7 +231,7 @@ abbrev longPast : List Request
 longPast = (call (Enter one) ∷ alternating 32) ++ (replicate 65 (call TakeBack) ++ (call (Strike 11) ∷ call (Strike 11) ∷ []))
 
 pub past-64 : map (λ (a : Answer). a .refusal) (run fresh longPast) ≡ replicate 129 0 ++ (9 ∷ 0 ∷ 7 ∷ [])
-unfolding run settle effectOf takeBack enterRefusal amendRefusal strikeRefusal insertBy remove remember earlierOf stands idle sameOf alternating isNan toBits ofBits
+unfolding run settle effectOf takeBack enterRefusal amendRefusal strikeRefusal insertBy publishedOf sortedBy listedBefore remove remember earlierOf stands idle sameOf alternating isNan toBits ofBits
 past-64 = refl
 
 -- ---- Saving a form twice
@@ -250,7 +252,7 @@ saving = call (Enter one)
     ∷ [])
 
 pub saves : map (λ (a : Answer). a .refusal) (run fresh saving) ≡ replicate 67 0 ++ (5 ∷ 5 ∷ 0 ∷ 0 ∷ 0 ∷ 0 ∷ 9 ∷ [])
-unfolding run settle effectOf takeBack enterRefusal amendRefusal insertBy remove remember earlierOf stands idle sameOf sameReading isNan toBits ofBits
+unfolding run settle effectOf takeBack enterRefusal amendRefusal insertBy publishedOf sortedBy listedBefore remove remember earlierOf stands idle sameOf sameReading isNan toBits ofBits
 saves = refl
 
 -- What is idle: the spell that stands, and none that differs in one field.

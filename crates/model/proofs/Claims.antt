@@ -2,7 +2,8 @@
 use Rattle.basis.proofs.Prelude.{_≡_, refl, _*_, _≤_, ℕ, List, List·Memᴰ, _++_, Bool, true, _↔_, _⊎_, inl, inr, drop, length, arith}
 use Rattle.refusal.specs.Table.{accepted}
 use Rattle.spell.specs.declared.Spell.{Spell}
-use Rattle.spell.specs.Order.{ordered}
+use Rattle.spell.specs.Order.{listedBefore, orderedBy}
+use Rattle.spell.proofs.Order.{answer-order}
 use Rattle.spell.specs.Listing.{distinct}
 use Rattle.masks.specs.Masks.{ticks}
 use Rattle.masks.proofs.Claims.{in-sheet}
@@ -142,8 +143,8 @@ module _ (t : Spell → Bool) (p : List Spell) where
   listed-exactly x = (filter-in t p x, λ i. in-filter t p x (i .0) (i .1))
 
   -- in the order; the published list is in the order and has unique numbers in every state that calls lead to (`Runs.antt`)
-  pub listed-ordered : ordered p ≡ true → ordered (filter t p) ≡ true
-  listed-ordered = filter-ordered t p
+  pub listed-ordered : orderedBy listedBefore p ≡ true → orderedBy listedBefore (filter t p) ≡ true
+  listed-ordered = filter-ordered t answer-order p
 
   -- each number once
   pub listed-once : distinct p ≡ true → distinct (filter t p) ≡ true

@@ -10,6 +10,7 @@ use Rattle.model.specs.declared.Call.the-variants.{Enter, Amend, Strike,
 use Rattle.model.specs.declared.Question.the-variants.{Day}
 use Rattle.model.specs.Edits.{insert, remove, replace, idle, enterRefusal, amendRefusal, strikeRefusal, remember}
 use Rattle.model.specs.Questions.{onDay, listed}
+use Rattle.model.specs.Publishing.{publishedOf}
 use Rattle.model.specs.Effects.{State, withStanding, Request, After, Effect, refuse, settle}
 use Rattle.buffer.specs.Buffer.{over}
 use Rattle.model.specs.Model.{edit, effectOf, stepOf}
@@ -138,11 +139,11 @@ module _ (m : State) (p e : Request) (s : Spell) (real : idle (m .standing) s �
   abbrev amended : After
   amended = stepOf (Amend s) (stepOf Publish m p .state) e
 
-  amended-lists : amended .answer .refusal ≡ accepted → (amended .state .standing ≡ replace s (m .standing)) × (amended .state .published ≡ m .standing)
+  amended-lists : amended .answer .refusal ≡ accepted → (amended .state .standing ≡ replace s (m .standing)) × (amended .state .published ≡ publishedOf (m .standing))
   unfolding effectOf settle
   amended-lists =
       let x : State = stepOf Publish m p .state in
-      rw real (become-does (λ f. settle f x e .answer .refusal ≡ accepted → (settle f x e .state .standing ≡ replace s (m .standing)) × (settle f x e .state .published ≡ m .standing))
+      rw real (become-does (λ f. settle f x e .answer .refusal ≡ accepted → (settle f x e .state .standing ≡ replace s (m .standing)) × (settle f x e .state .published ≡ publishedOf (m .standing)))
       x (amendRefusal (m .standing) s) (replace s (m .standing)) (remember (m .standing) (m .past)) (λ _ _. (refl, refl)) (λ no r. absurd (no r)))
 
   -- WRITING gives the amended list, and a DAY still asks the list as it was published
@@ -150,7 +151,7 @@ module _ (m : State) (p e : Request) (s : Spell) (real : idle (m .standing) s �
       → (stepOf Write (amended .state) q .answer .refusal ≡ accepted
       → stepOf Write (amended .state) q .answer .text ≡ over (writeAll (replace s (m .standing))) (q .text))
       × (stepOf (Ask (Day d)) (amended .state) q .answer .refusal ≡ accepted
-      → stepOf (Ask (Day d)) (amended .state) q .answer .numbers ≡ over (listed (onDay d) (m .standing)) (q .numbers))
+      → stepOf (Ask (Day d)) (amended .state) q .answer .numbers ≡ over (listed (onDay d) (publishedOf (m .standing))) (q .numbers))
   amended-unpublished r q d =
       let x = amended .state in
       let is = amended-lists r in (

@@ -1,9 +1,9 @@
 -- The spells of a list that pass a test: exactly those, in the order, each number once. Assumes nothing.
 use Rattle.basis.proofs.Prelude.{_∙_, _≡_, ap, refl, sym, _≤_, suc, ℕ, List, List·Memᴰ, List·Memᴰ·cases-cons, List·Memᴰ·head, List·Memᴰ·not-nil, List·Memᴰ·tail, [], _∷_, Bool, _||_, cond, false, false≢true, not, true, _⊎_, inl, inr, eqb, length, length-map, arith, not-true, both}
 use Rattle.spell.specs.declared.Spell.{Spell}
-use Rattle.spell.specs.Order.{earlierOf, ordered, orderedBy}
+use Rattle.spell.specs.Order.{orderedBy}
 use Rattle.spell.specs.Listing.{stands, distinct, Each}
-use Rattle.spell.proofs.Order.{text-order, ordered-tail, ordered-first, ordered-cons}
+use Rattle.spell.proofs.Order.{StrictOrder, ordered-tail, ordered-first, ordered-cons}
 use Rattle.model.specs.Questions.{filter, listed}
 
 module _ (t : Spell → Bool) where
@@ -62,13 +62,13 @@ module _ (t : Spell → Bool) where
 
   -- ---- A list in the order stays in the order
 
-  pub filter-ordered : (l : List Spell) → ordered l ≡ true → ordered (filter t l) ≡ true
+  pub filter-ordered : {u : Spell → Spell → Bool} (o : StrictOrder u) (l : List Spell) → orderedBy u l ≡ true → orderedBy u (filter t l) ≡ true
   unfolding filter orderedBy
-  filter-ordered [] h = refl
-  filter-ordered (y ∷ l) h = go (t y) (filter-ordered l (ordered-tail text-order y l h))
+  filter-ordered o [] h = refl
+  filter-ordered {u} o (y ∷ l) h = go (t y) (filter-ordered o l (ordered-tail o y l h))
     where
-      go : (b : Bool) → ordered (filter t l) ≡ true → ordered (cond b (y ∷ filter t l) (filter t l)) ≡ true
-      go true k = ordered-cons text-order y (filter t l) (filter-each (λ z. earlierOf y z ≡ true) l (ordered-first text-order y l h)) k
+      go : (b : Bool) → orderedBy u (filter t l) ≡ true → orderedBy u (cond b (y ∷ filter t l) (filter t l)) ≡ true
+      go true k = ordered-cons o y (filter t l) (filter-each (λ z. u y z ≡ true) l (ordered-first o y l h)) k
       go false k = k
 
   -- ---- Unique numbers stay unique

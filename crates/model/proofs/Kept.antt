@@ -3,7 +3,7 @@ use Rattle.basis.proofs.Prelude.{_≡_, refl, _≤_, suc, zero, ℕ, List, List
 use Rattle.refusal.specs.Table.{accepted}
 use Rattle.spell.specs.declared.Spell.{Spell}
 use Rattle.spell.specs.Listing.{Sound, Good, Orderly}
-use Rattle.spell.proofs.Order.{text-order, each-map}
+use Rattle.spell.proofs.Order.{text-order, answer-order, each-map}
 use Rattle.register.specs.Text.{Register, readText}
 use Rattle.register.specs.Text.Register.{good, bad}
 use Rattle.register.proofs.Claims.{text-again}
@@ -14,6 +14,7 @@ use Rattle.model.specs.Effects.{State, Request, After, Effect}
 use Rattle.model.specs.Model.{begun, edit, takeBack, effectOf, step}
 use Rattle.model.specs.Reached.{Begun, afresh, reading, after, Kept, Brings}
 use Rattle.model.proofs.Edits.{orderly-none, orderly-insert, orderly-remove, orderly-replace}
+use Rattle.model.proofs.Publishing.{published-orderly}
 use Rattle.model.proofs.Checks.{enters, amends, strike-accepted}
 use Rattle.model.proofs.Effects.{Comes, settles, become-does, amend-does, asks-does}
 use Rattle.model.proofs.Rules.{reading-begins}
@@ -28,7 +29,7 @@ module _ (P : Spell → Type 0) where
 
   kept-none : {m : State} → Orderly P (m .standing) → m .past ≡ [] → m .published ≡ [] → Kept P m
   kept-none o past published =
-      record { standing = o; past = λ l i. absurd (List·Memᴰ·not-nil (rw past at i)); depth = rw past (omega arith); published = rw published (orderly-none text-order P) }
+      record { standing = o; past = λ l i. absurd (List·Memᴰ·not-nil (rw past at i)); depth = rw past (omega arith); published = rw published (orderly-none answer-order P) }
 
   pub begun-kept : ((s : Spell) → Sound s → P s) → {m : State} → Begun m → Kept P m
   begun-kept f afresh = kept-none (orderly-none text-order P) refl refl
@@ -80,7 +81,7 @@ module _ (P : Spell → Type 0) where
         edit-keeps (strikeRefusal (m .standing) n) (remove n (m .standing)) (λ e.
         orderly-remove text-order P n (m .standing) (k .standing) (strike-accepted (m .standing) n .0 e))
     call-keeps TakeBack b = back-keeps (m .past) (k .past) (k .depth)
-    call-keeps Publish b = record { standing = k .standing; past = k .past; depth = k .depth; published = k .standing }
+    call-keeps Publish b = record { standing = k .standing; past = k .past; depth = k .depth; published = published-orderly P (m .standing) (k .standing) }
     call-keeps Write b = k
     call-keeps (Ask w) b = asks-does Keeps (record { refusing = λ n _. k; asked = λ h l. k; several = k; masked = λ b n. k }) w
 

@@ -6,6 +6,7 @@ pub mod Claims
 pub mod Masks
 pub mod Checks
 pub mod Edits
+pub mod Publishing
 pub mod Idle
 pub mod Editing
 pub mod Kept

@@ -7,6 +7,7 @@ use Rattle.register.specs.Text.{Register, readText, writeAll}
 use Rattle.register.specs.Text.Register.{good, bad}
 use Rattle.register.proofs.Claims.{text-again}
 use Rattle.model.specs.declared.Call.the-variants.{TakeBack, Publish, Write}
+use Rattle.model.specs.Publishing.{publishedOf}
 use Rattle.model.specs.Effects.{State, withStanding, withPublished, Request, Answer, gives, writes, refuse, gave, wrote, settle}
 use Rattle.model.specs.Model.{fresh, begun, takeBack, effectOf, stepOf}
 
@@ -62,7 +63,7 @@ module _ (m : State) (q : Request) where
   back-refused e = rw e
 
   -- PUBLISH is never refused, and leaves the standing list and the past as they are
-  pub publish-keeps-past : stepOf Publish m q ≡ refuse accepted (withPublished (m .standing) m) q
+  pub publish-keeps-past : stepOf Publish m q ≡ refuse accepted (withPublished (publishedOf (m .standing)) m) q
   unfolding effectOf settle
   publish-keeps-past = refl
 

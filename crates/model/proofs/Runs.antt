@@ -2,7 +2,7 @@
 use Rattle.basis.proofs.Prelude.{_∙_, _≡_, ap, refl, sym, _≤_, ℕ, List, List·Memᴰ, List·Memᴰ·cases-cons, List·Memᴰ·head, List·Memᴰ·not-nil, List·Memᴰ·tail, [], _++_, _∷_, map, Bool, _||_, false, false≢true, true, _↔_, _⊎_, inl, inr, leb, drop, length, length-map, le-leb, leb-true, both, either}
 use Rattle.refusal.specs.Table.{accepted}
 use Rattle.spell.specs.declared.Spell.{Spell}
-use Rattle.spell.specs.Order.{ordered}
+use Rattle.spell.specs.Order.{listedBefore, orderedBy}
 use Rattle.spell.specs.Listing.{distinct, HeldUrgency, Sound}
 use Rattle.spell.proofs.Order.{each-member, each-map}
 use Rattle.register.specs.Text.{writeAll, readText}
@@ -85,7 +85,7 @@ pub record Answered (m : State) (q : Request) (w : Question) (a : Answer) : Type
   pub spells : List Spell
   pub exactly : (x : Spell) → List·Memᴰ x spells ↔ (List·Memᴰ x (m .published) × Fits w (q .days) (m .published) x)
   pub once : distinct spells ≡ true
-  pub in-order : ordered spells ≡ true
+  pub in-order : orderedBy listedBefore spells ≡ true
   pub count : a .count ≡ length spells
   pub numbers : a .numbers ≡ map (λ (s : Spell). s .number) spells ++ drop (a .count) (q .numbers)
 
@@ -116,7 +116,7 @@ any-on (e ∷ ds) x d i f = go (onDay e x) refl (List·Memᴰ·cases-cons i) (λ
 on-days : (ds : List ℕ) (x : Spell) → (onAny ds x ≡ true) ↔ Contains ds x
 on-days ds x = (on-any ds x, λ f. any-on ds x (f .0) (f .1) (f .2, f .3))
 
-module _ (m : State) (unique : distinct (m .published) ≡ true) (sorted : ordered (m .published) ≡ true) (q : Request) where
+module _ (m : State) (unique : distinct (m .published) ≡ true) (sorted : orderedBy listedBefore (m .published) ≡ true) (q : Request) where
   answered : (w : Question) (t : Spell → Bool) {c n : ℕ} {a : Answer} → ((x : Spell) → (t x ≡ true) ↔ Fits w (q .days) (m .published) x)
       → Lists m q t c n a → Answered m q w a
   answered w t is l =

@@ -4,6 +4,7 @@ use mathlib.Core.Bool.{Bool, false, cond}
 use mathlib.Core.List.{List, [], _∷_}
 use lib.Dec.{leb, eqb}
 use lib.ListN.{length, take}
+unfoldable pub use Rattle.orders.specs.Orders.{insertBy}
 use Rattle.refusal.specs.Table.{accepted, duplicateNumber, unknownNumber, full, noHistory}
 use Rattle.spell.specs.declared.Spell.{Spell}
 use Rattle.spell.specs.Entry.{refusalOf}
@@ -13,12 +14,7 @@ use Rattle.spell.specs.Listing.{stands}
 
 -- ---- The standing list, kept in the order
 
--- the spell s put in by an order, before the first that is not earlier
-unfoldable pub insertBy : (Spell → Spell → Bool) → Spell → List Spell → List Spell
-insertBy t s [] = s ∷ []
-insertBy t s (x ∷ l) = cond (t x s) (x ∷ insertBy t s l) (s ∷ x ∷ l)
-
--- the spell s put in by the order
+-- the spell s put in by the order, before the first that is not earlier
 abbrev pub insert : Spell → List Spell → List Spell
 insert s l = insertBy earlierOf s l
 

@@ -1,4 +1,5 @@
 pub mod Edits
+pub mod Publishing
 pub mod Questions
 pub mod Effects
 pub mod Model

@@ -16,6 +16,7 @@ use Rattle.model.specs.declared.Call.the-variants.{Enter, Amend, Strike,
 use Rattle.model.specs.declared.Question.{Question}
 use Rattle.model.specs.declared.Question.the-variants.{Day, Span, Cover, Days, Mask}
 use Rattle.model.specs.Edits.{insert, remove, replace, idle, enterRefusal, amendRefusal, strikeRefusal, takeBackRefusal, remember, frontOr, restOf}
+use Rattle.model.specs.Publishing.{publishedOf}
 use Rattle.model.specs.Questions.{reaches, onAny, rising, listed, comparisonsOf}
 use Rattle.model.specs.Effects.{Effect, refused, done, gives, writes, settle}
 pub use Rattle.model.specs.Effects.{State, withStanding, withPublished, Request, Answer, After}
@@ -62,9 +63,9 @@ unfoldable pub takeBack : List (List Spell) → State → Effect
 unfolding takeBackRefusal frontOr restOf
 takeBack past m = become (takeBackRefusal past) (frontOr (m .standing) past) (restOf past) m
 
--- the published list becomes the standing list; the past is untouched
+-- the published list becomes the standing list, in the order of the answers; the past is untouched
 abbrev pub publish : State → Effect
-publish m = done (withPublished (m .standing) m)
+publish m = done (withPublished (publishedOf (m .standing)) m)
 
 -- ---- Questions, of the published list p
 

@@ -8,7 +8,8 @@ use lib.ListN.{length}
 use Rattle.refusal.specs.Table.{accepted}
 use Rattle.spell.specs.declared.Spell.{Spell}
 use Rattle.spell.specs.Entry.{refusalOf}
-use Rattle.spell.specs.Listing.{Orderly}
+use Rattle.spell.specs.Order.{listedBefore}
+use Rattle.spell.specs.Listing.{Orderly, OrderlyBy}
 use Rattle.register.specs.Text.{readText}
 use Rattle.model.specs.declared.Call.{Call}
 use Rattle.model.specs.declared.Call.the-variants.{Enter, Amend}
@@ -28,12 +29,12 @@ after m (q ∷ qs) = after (step m q .state) qs
 
 -- ---- Their lists
 
--- such lists are the standing list, each of at most 64 lists of the past, and the published list
+-- such lists are the standing list, each of at most 64 lists of the past, and, in the order of the answers, the published list
 pub record Kept (P : Spell → Type 0) (m : State) : Type 0 where
   pub standing : Orderly P (m .standing)
   pub past : (l : List Spell) → List·Memᴰ l (m .past) → Orderly P l
   pub depth : length (m .past) ≤ 64
-  pub published : Orderly P (m .published)
+  pub published : OrderlyBy listedBefore P (m .published)
 
 -- a spell that passes the checks 1 to 5
 abbrev pub Passes : Spell → Type 0

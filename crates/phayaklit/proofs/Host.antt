@@ -7,6 +7,7 @@ use Rattle.service.specs.declared.Service.{Service}
 use Rattle.service.specs.declared.Stepped.{Stepped}
 use Rattle.service.specs.Places.{freshService}
 use Rattle.service.specs.Packed.{packed, unpacked, Packs}
+use Rattle.model.specs.Publishing.{publishedOf}
 use Rattle.service.specs.Service.{Blocks, indexOf, Valid, Represents, Changed, Publishes}
 use Rattle.phayaklit.specs.declared.Reply.{Reply}
 use Rattle.phayaklit.specs.Host.{Held, Laid, outcomeOf, steppedOf}
@@ -32,4 +33,4 @@ edited words words′ sv c r x e f h = rw (← e, f) h
 -- publish keeps the service, so the words need not be packed again
 pub published : (words : List ℕ) (bs′ : Blocks) (sv : Service) (r : Stepped) (x : Reply) → sv ≡ unpacked words → outcomeOf x ≡ r .outcome → Publishes sv r bs′
     → Publishes (unpacked words) (steppedOf words x) bs′
-published words bs′ sv r x e f p = record { kept = refl; outcome = f ∙ p .outcome; index = p .index ∙ ap (λ (s : Service). indexOf (listOf (s .standing))) e }
+published words bs′ sv r x e f p = record { kept = refl; outcome = f ∙ p .outcome; index = p .index ∙ ap (λ (s : Service). indexOf (publishedOf (listOf (s .standing)))) e }

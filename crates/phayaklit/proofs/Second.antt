@@ -2,7 +2,9 @@
 use Rattle.basis.proofs.Prelude.{_≡_, refl, ℕ, List, []}
 use Rattle.model.specs.Model.{State, withStanding, fresh, Request, Answer, run}
 use Rattle.standing.specs.Standing.{listOf, pasts}
-use Rattle.standing.proofs.Calls.{good-none}
+use Rattle.spell.specs.Listing.{Sound}
+use Rattle.spell.proofs.Order.{answer-order}
+use Rattle.model.proofs.Edits.{orderly-none}
 use Rattle.service.specs.Packed.{unpacked}
 use Rattle.service.specs.Service.{Blocks, indexOf, Represents}
 use Rattle.service.proofs.Claims.{made-run}
@@ -15,7 +17,7 @@ abbrev pub beside : List ℕ → State
 beside words = withStanding (listOf (unpacked words .standing)) (pasts (unpacked words .standing)) fresh
 
 pub second-represents : (words : List ℕ) {bs : Blocks} → Held words → bs .index ≡ indexOf [] → Represents (unpacked words) bs (beside words)
-second-represents words h e = record { valid = h; standing = refl; past = refl; shows = record { good = good-none; index = e } }
+second-represents words h e = record { valid = h; standing = refl; past = refl; shows = record { good = orderly-none answer-order Sound; index = e } }
 
 -- BEGUN BY `phayaklit_fresh_index` beside a service that the calls gave: the answers are the account's from that state
 pub hosted-second : {words words′ : List ℕ} {bs bs′ : Blocks} {qs : List Request} {answers : List Answer} → Held words → bs .index ≡ indexOf []

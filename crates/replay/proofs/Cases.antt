@@ -2,13 +2,15 @@
 use Rattle.basis.proofs.Prelude.{_≡_, refl, ℕ, List, [], _++_, _∷_, length, replicate}
 use lib.Ieee.{binary32, isNan, toBits, ofBits}
 use Rattle.spell.specs.declared.Urgency.the-variants.{Grade, Reading}
-use Rattle.spell.specs.Order.{earlierOf}
+use Rattle.spell.specs.Order.{listedBefore, earlierOf}
 use Rattle.spell.specs.Listing.{stands}
 use Rattle.stabbing.specs.Tree.{below, keep, count, head, next, parent, child, leftSibling, lastChild, fitsAt, start, onPath, formula}
 use Rattle.model.specs.declared.Call.{Call}
 use Rattle.model.specs.declared.Call.the-variants.{Enter, Amend, Strike, TakeBack, Publish, Write, Ask}
 use Rattle.model.specs.declared.Question.the-variants.{Day, Span, Cover, Days, Mask}
+use Rattle.orders.specs.Orders.{sortedBy}
 use Rattle.model.specs.Edits.{insertBy, enterRefusal, remember}
+use Rattle.model.specs.Publishing.{publishedOf}
 use Rattle.calendar.specs.Calendar.{daysOk}
 use Rattle.masks.specs.Masks.{isSet, ticksFrom}
 use Rattle.model.specs.Questions.{onAny, rising, filter, comparisonsOf}
@@ -63,7 +65,7 @@ no-room = refl
 pub answered : (over (resultsOf (run fresh (coded 35))) (results 35)
     ≡ replicate 15 0 ++ (0 ∷ 2 ∷ 0 ∷ 0 ∷ 0 ∷ []) ++ (0 ∷ 2 ∷ 0 ∷ 0 ∷ 0 ∷ []) ++ (11 ∷ 0 ∷ 0 ∷ 0 ∷ 0 ∷ []) ++ replicate 5 77)
     × (over (numbersOf (run fresh (coded 35))) lentNumbers ≡ 11 ∷ 12 ∷ 93 ∷ 11 ∷ 12 ∷ 96 ∷ [])
-unfolding decodeFrom codeAt nextOf callOf written run settle effectOf ask enterRefusal insertBy remember earlierOf stands isNan toBits ofBits
+unfolding decodeFrom codeAt nextOf callOf written run settle effectOf ask enterRefusal insertBy publishedOf sortedBy listedBefore remember earlierOf stands isNan toBits ofBits
     onAny daysOk rising ticksFrom isSet filter comparisonsOf below keep count head next parent child leftSibling lastChild fitsAt start onPath formula
 answered = (refl, refl)
 

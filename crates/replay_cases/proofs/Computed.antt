@@ -2,11 +2,13 @@
 use Rattle.basis.proofs.Prelude.{_≡_, ap, refl, ℕ, List, [], _++_, _∷_, true, eqb, getD, length, replicate, eq-eqb}
 use lib.Ieee.{isNan, toBits, ofBits}
 use Rattle.fields.specs.Fields.{digitsOf, decimalOf}
-use Rattle.spell.specs.Order.{earlierOf}
+use Rattle.spell.specs.Order.{listedBefore, earlierOf}
 use Rattle.spell.specs.Listing.{stands}
 use Rattle.register.specs.Text.{lineText, textOnto}
 use Rattle.stabbing.specs.Tree.{below, keep, count, head, next, parent, child, leftSibling, lastChild, fitsAt, start, onPath, formula}
+use Rattle.orders.specs.Orders.{sortedBy}
 use Rattle.model.specs.Edits.{insertBy, enterRefusal, remember}
+use Rattle.model.specs.Publishing.{publishedOf}
 use Rattle.model.specs.Questions.{filter, comparisonsOf}
 use Rattle.model.specs.Effects.{settle}
 use Rattle.model.specs.Model.{Answer, fresh, takeBack, ask, effectOf, run}
@@ -65,7 +67,7 @@ pub record Seen : Type 0 where
   pub written : over (textsOf answers) text ≡ line ++ (7 ∷ 7 ∷ 7 ∷ [])
 
 pub seen : Seen
-unfolding decodeFrom codeAt nextOf callOf written run settle effectOf takeBack ask enterRefusal insertBy remember earlierOf stands isNan toBits ofBits
+unfolding decodeFrom codeAt nextOf callOf written run settle effectOf takeBack ask enterRefusal insertBy publishedOf sortedBy listedBefore remember earlierOf stands isNan toBits ofBits
     filter comparisonsOf below keep count head next parent child leftSibling lastChild fitsAt start onPath formula textOnto lineText decimalOf digitsOf
 seen = record { made = refl; told = refl; listed = refl; written = refl }
 

@@ -1,19 +1,23 @@
 -- Service and blocks at the beginning, after publish, and beside a written text. Assumes nothing.
-use Rattle.basis.proofs.Prelude.{_∙_, _≡_, ap, refl, subst, sym, ℕ, List, [], map, Bool, true, leb, drop, length, length-map, take, take-at, arith, le-leb, by-test}
+use Rattle.basis.proofs.Prelude.{_∙_, _≡_, ap, refl, subst, sym, ℕ, List, [], map, Bool, true, leb, drop, length, length-map, take, take-all, take-at, arith, le-leb, by-test}
 use Rattle.spell.specs.declared.Spell.{Spell}
+use Rattle.spell.specs.Listing.{Sound}
+use Rattle.spell.proofs.Order.{answer-order}
+use Rattle.model.proofs.Edits.{orderly-none}
 use Rattle.register.specs.declared.Written.{Written}
 use Rattle.register.specs.declared.Reading.{Reading}
 use Rattle.register.specs.Text.{Register, good, bad, readText, writeAll}
 use Rattle.register.specs.Answers.{readingOf, Writes}
 use Rattle.stabbing.specs.Index.{rowsAfter}
 use Rattle.stabbing_index.specs.Build.{publishable, Builds}
+use Rattle.publishing.specs.Rows.{arrangedColumn}
 use Rattle.standing.specs.declared.Standing.{Standing}
 use Rattle.standing.specs.Places.{loadedOf}
 use Rattle.standing.specs.Standing.{columnOf, Wf, listOf, Fresh, LaidOut}
-use Rattle.standing.proofs.Calls.{good-none}
 use Rattle.standing.proofs.Loading.{Loads, loads}
 use Rattle.model.specs.declared.Call.the-variants.{Publish, Write}
-use Rattle.model.specs.Questions.{firstsOf, lastsOf}
+use Rattle.model.specs.Publishing.{publishedOf}
+use Rattle.model.proofs.Publishing.{published-length, published-orderly}
 use Rattle.model.specs.Effects.{settle}
 use Rattle.model.specs.Model.{fresh, begun, refusalIn, lineIn, effectOf}
 use Rattle.model.proofs.Claims.{reads-keep}
@@ -23,6 +27,7 @@ use Rattle.service.specs.Places.{serviceOf}
 use Rattle.service.specs.Outcomes.{wroteOf}
 use Rattle.service.specs.Service.{Blocks, blocks, indexOf, Valid, Represents, Given, asking, Met, Publishes, Wrote, Begins}
 use Rattle.service.proofs.Publishing.{rows-ok}
+use Rattle.service.proofs.Arranged.{Holds, holds, short-days, column-is}
 
 -- ---- Nothing is published
 
@@ -32,7 +37,7 @@ unfolding rowsAfter
 no-rows x entry exit r b = b .block
 
 pub represents-fresh : (st : Standing) (ix : List ℕ) → Fresh st → ix ≡ indexOf [] → Represents (serviceOf st) (blocks ix) fresh
-represents-fresh st ix f e = record { valid = record { standing = f .wf }; standing = f .list; past = f .past; shows = record { good = good-none; index = e } }
+represents-fresh st ix f e = record { valid = record { standing = f .wf }; standing = f .list; past = f .past; shows = record { good = orderly-none answer-order Sound; index = e } }
 
 -- a beginning publishes nothing
 begun-none : (g : Register) → begun g .published ≡ []
@@ -48,7 +53,7 @@ begins g st n line ix d r l e = record {
     valid = record { standing = d .wf };
     standing = d .list;
     past = d .past;
-    shows = record { good = rw (begun-none g) good-none; index = e ∙ rw (begun-none g) };
+    shows = record { good = rw (begun-none g) (orderly-none answer-order Sound); index = e ∙ rw (begun-none g) };
   };
   refusal = r;
   line = l;
@@ -72,27 +77,30 @@ begins-read text got st ix r l e =
 laid-take : (f : Spell → ℕ) (l : List Spell) (before after : List ℕ) (n : ℕ) → n ≡ length l → after ≡ columnOf f l before → take n after ≡ map f l
 laid-take f l before after n e a = rw (a, e) (take-at (map f l) (drop (length (map f l)) before) (length l) (length-map l f))
 
-module _ (st : Standing) (w : Wf st) (n : ℕ) (ns fs ls ns′ fs′ ls′ : List ℕ) (laid : LaidOut st n ns fs ls ns′ fs′ ls′)
-    (ix ix′ : List ℕ) (r : Bool) (b : Builds ns′ fs′ ls′ n ix r ix′) where
+module _ (st : Standing) (w : Wf st) {n : ℕ} {ns fs ls ns′ fs′ ls′ : List ℕ} (laid : LaidOut st n ns fs ls ns′ fs′ ls′)
+    {ix ix′ : List ℕ} {r : Bool} (b : Builds (arrangedColumn ns′ fs′ ls′ n ns′) (arrangedColumn ns′ fs′ ls′ n fs′) (arrangedColumn ns′ fs′ ls′ n ls′) n ix r ix′) where
   abbrev l : List Spell
   l = listOf st
 
-  first-is : take n fs′ ≡ firstsOf l
-  first-is = laid-take (λ (s : Spell). s .first) l fs fs′ n (laid .count) (laid .first)
+  held : (f : Spell → ℕ) (before : List ℕ) {after : List ℕ} → after ≡ columnOf f l before → Holds f l after
+  held f before {after} e = holds f l after (laid-take f l before after (length l) refl e)
 
-  last-is : take n ls′ ≡ lastsOf l
-  last-is = laid-take (λ (s : Spell). s .last) l ls ls′ n (laid .count) (laid .last)
+  -- a column of the rows, in the order, is one of the published list
+  column : (f : Spell → ℕ) (before : List ℕ) {after : List ℕ} → after ≡ columnOf f l before → take n (arrangedColumn ns′ fs′ ls′ n after) ≡ map f (publishedOf l)
+  column f before {after} e =
+      let is = column-is l (w .good .unique) (short-days l (w .good .each)) ns′ fs′ ls′ (held (λ s. s .number) ns (laid .number)) (held (λ s. s .first) fs (laid .first)) (held (λ s. s .last) ls (laid .last)) f after (held f before e) in
+      rw (laid .count, is) (take-all (length l) (map f (publishedOf l)) (omega (arith, length-map (publishedOf l) f, published-length l)))
 
-  right : publishable fs′ ls′ n ≡ true
-  right = rw (first-is, last-is, le-leb n 1024 (omega (arith, laid .count, w .good .few))) (rows-ok l (w .good))
+  right : publishable (arrangedColumn ns′ fs′ ls′ n fs′) (arrangedColumn ns′ fs′ ls′ n ls′) n ≡ true
+  right = rw (column (λ s. s .first) fs (laid .first), column (λ s. s .last) ls (laid .last), le-leb n 1024 (omega (arith, laid .count, w .good .few))) (rows-ok (publishedOf l) (published-orderly Sound l (w .good)))
 
-  pub indexed : ix′ ≡ indexOf l
-  indexed = b .block ∙ rw (right, first-is, last-is, laid-take (λ (s : Spell). s .number) l ns ns′ n (laid .count) (laid .number))
+  pub indexed : ix′ ≡ indexOf (publishedOf l)
+  indexed = b .block ∙ rw (right, column (λ s. s .number) ns (laid .number), column (λ s. s .first) fs (laid .first), column (λ s. s .last) ls (laid .last))
 
 module _ {sv : Service} {r : Stepped} {bs′ : Blocks} (v : Valid sv) (p : Publishes sv r bs′) where
-  -- the index shows the standing list
+  -- the index shows the standing list in the order of the answers
   pub publishes-given : Given (r .service) bs′
-  publishes-given = record { valid = rw (p .kept) v; published = record { list = _; shows = record { good = v .standing .good; index = p .index } } }
+  publishes-given = record { valid = rw (p .kept) v; published = record { list = _; shows = record { good = published-orderly Sound _ (v .standing .good); index = p .index } } }
 
   -- PUBLISH is the account's, whatever the blocks held before
   pub publishes-met : (bs : Blocks) (days numbers text : List ℕ) → Met sv bs (asking Publish days numbers text) r bs′ numbers text
@@ -104,7 +112,7 @@ module _ {sv : Service} {r : Stepped} {bs′ : Blocks} (v : Valid sv) (p : Publi
       valid = rw (p .kept) v;
       standing = rw (p .kept) (h .standing);
       past = rw (p .kept) (h .past);
-      shows = record { good = rw (← h .standing) (v .standing .good); index = p .index ∙ ap indexOf (h .standing) };
+      shows = record { good = rw (← h .standing) (published-orderly Sound _ (v .standing .good)); index = p .index ∙ ap (λ (l : List Spell). indexOf (publishedOf l)) (h .standing) };
     };
   }
 

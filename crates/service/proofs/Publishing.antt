@@ -1,10 +1,10 @@
--- The columns of a list that stands can be published. Assumes nothing.
+-- The columns of a list in the order of the answers can be published. Assumes nothing.
 use Rattle.basis.proofs.Prelude.{_≡_, refl, _<_, _≤_, ℕ, List, [], _∷_, Bool, _||_, false, true, _⊎_, inl, inr, ltb, eq-eqb, le-leb, lt-ltb, both}
 use Rattle.spell.specs.declared.Spell.{Spell}
-use Rattle.spell.specs.Order.{earlierOf, ordered, orderedBy}
-use Rattle.spell.specs.Listing.{Each, Sound, Good}
+use Rattle.spell.specs.Order.{listedBefore, orderedBy}
+use Rattle.spell.specs.Listing.{Each, Sound, OrderlyBy}
 use Rattle.spell.proofs.Entered.{entered}
-use Rattle.spell.proofs.Order.{earlier-days}
+use Rattle.spell.proofs.Order.{listed-days}
 use Rattle.stabbing.specs.Index.{rowOk, mayFollow, rowsAfter, rowsOk}
 use Rattle.model.specs.Questions.{firstsOf, lastsOf}
 
@@ -22,15 +22,15 @@ may-follow f l g m (inr h) = rw (eq-eqb f g (h .0), le-leb l m (h .1)) (either (
     either false = refl
 
 -- each spell after one with the days f and l
-rows-after : (f l : ℕ) (x : Spell) (p : List Spell) → mayFollow f l (x .first) (x .last) ≡ true → Each Sound (x ∷ p) → ordered (x ∷ p) ≡ true
+rows-after : (f l : ℕ) (x : Spell) (p : List Spell) → mayFollow f l (x .first) (x .last) ≡ true → Each Sound (x ∷ p) → orderedBy listedBefore (x ∷ p) ≡ true
     → rowsAfter f l (firstsOf (x ∷ p)) (lastsOf (x ∷ p)) ≡ true
 unfolding rowsAfter Each orderedBy
 rows-after f l x [] h s o = rw (row-right x (s .0), h)
 rows-after f l x (y ∷ p) h s o =
-    let b = both (earlierOf x y) (ordered (y ∷ p)) o in
-    rw (row-right x (s .0), h) (rows-after (x .first) (x .last) y p (may-follow (x .first) (x .last) (y .first) (y .last) (earlier-days x y (b .0))) (s .1) (b .1))
+    let b = both (listedBefore x y) (orderedBy listedBefore (y ∷ p)) o in
+    rw (row-right x (s .0), h) (rows-after (x .first) (x .last) y p (may-follow (x .first) (x .last) (y .first) (y .last) (listed-days x y (b .0))) (s .1) (b .1))
 
-pub rows-ok : (p : List Spell) → Good p → rowsOk (firstsOf p) (lastsOf p) ≡ true
+pub rows-ok : (p : List Spell) → OrderlyBy listedBefore Sound p → rowsOk (firstsOf p) (lastsOf p) ≡ true
 unfolding Each
 rows-ok [] g = unfold rowsAfter in refl
 rows-ok (x ∷ p) g =

@@ -65,7 +65,7 @@ stands-at (x ∷ l) (suc i) h = rw (stands-at l i (omega arith)) (either (eqb (x
     either false = refl
 
 -- unique numbers differ at different places
-differ : (l : List Spell) → distinct l ≡ true → (i j : ℕ) → j < i → i < length l → getD l j blank .number ≡ getD l i blank .number → ⊥
+pub differ : (l : List Spell) → distinct l ≡ true → (i j : ℕ) → j < i → i < length l → getD l j blank .number ≡ getD l i blank .number → ⊥
 unfolding distinct
 differ [] d i j h k e = omega arith
 differ (x ∷ l) d zero j h k e = omega arith

@@ -6,11 +6,13 @@ use lib.Dec.{eqb}
 use Rattle.refusal.specs.Table.{accepted}
 use mathlib.Core.List.{List, map}
 use Rattle.spell.specs.declared.Spell.{Spell}
-use Rattle.spell.specs.Listing.{Good}
+use Rattle.spell.specs.Order.{listedBefore}
+use Rattle.spell.specs.Listing.{Sound, OrderlyBy}
 use Rattle.stabbing.specs.Index.{blockOf}
 use Rattle.standing.specs.Standing.{Wf, listOf, pasts}
 use Rattle.model.specs.declared.Call.{Call}
 use Rattle.model.specs.declared.Question.{Question}
+use Rattle.model.specs.Publishing.{publishedOf}
 use Rattle.model.specs.Questions.{firstsOf, lastsOf}
 use Rattle.register.specs.Text.{Register}
 use Rattle.model.specs.Model.{State, begun, refusalIn, lineIn, Request, step}
@@ -37,7 +39,7 @@ indexOf p = blockOf (map (λ (s : Spell). s .number) p) (firstsOf p) (lastsOf p)
 
 -- the index ix shows the published list p
 pub record Shows (ix : List ℕ) (p : List Spell) : Type 0 where
-  pub good : Good p
+  pub good : OrderlyBy listedBefore Sound p
   pub index : ix ≡ indexOf p
 
 -- an index that the calls gave shows some published list
@@ -94,12 +96,12 @@ pub record Asked (bs : Blocks) (w : Question) (days numbers : List ℕ) (o : Out
 pub record Wrote (sv : Service) (text : List ℕ) (o : Outcome) (text′ : List ℕ) : Type 0 where
   pub met : (bs : Blocks) (days numbers : List ℕ) → Given sv bs → Met sv bs (asking Call.Write days numbers text) (keeping sv o) bs numbers text′
 
--- publish: the index becomes that of the standing list, every word of it, whatever it held before; the service is as it was, and no
+-- publish: the index becomes that of the standing list in the order of the answers, every word of it, whatever it held before; the service is as it was, and no
 -- more is told than that it is accepted
 pub record Publishes (sv : Service) (r : Stepped) (bs′ : Blocks) : Type 0 where
   pub kept : r .service ≡ sv
   pub outcome : r .outcome ≡ toldOf accepted
-  pub index : bs′ .index ≡ indexOf (listOf (sv .standing))
+  pub index : bs′ .index ≡ indexOf (publishedOf (listOf (sv .standing)))
 
 -- ---- The beginning
 

@@ -6,6 +6,7 @@ ghost use Rattle.standing.specs.Standing.{Wf, listOf};
 ghost use mathlib.Core.List.{[]};
 ghost use Rattle.refusal.specs.Table.{accepted};
 ghost use Rattle.register.specs.Text.{readText};
+ghost use Rattle.model.specs.Publishing.{publishedOf};
 ghost use Rattle.model.specs.Model.{fresh};
 ghost use Rattle.service.specs.Places.{serviceOf, freshService};
 ghost use Rattle.service.specs.Outcomes.{toldOf, foundOf, wroteOf, tickingOf};
@@ -197,16 +198,16 @@ fn done(service: Service) -> Stepped
     Stepped { service, outcome }
 }
 
-// The index of the standing list.
+// The index of the standing list, in the order of the answers.
 fn lay(standing: Standing, index: &mut [u16; INDEX])
     requires { ⌜ Wf standing ⌝ }
-    ensures { λ _. ⌜ now (index .exit) ≡ indexOf (listOf standing) ⌝ }
+    ensures { λ _. ⌜ now (index .exit) ≡ indexOf (publishedOf (listOf standing)) ⌝ }
 {
     let mut number = [0u16; 1024];
     let mut first = [0u16; 1024];
     let mut last = [0u16; 1024];
     let n = standing::columns(standing, &mut number, &mut first, &mut last);
-    stabbing_index::build(&number, &first, &last, n, index);
+    publishing::lay(&number, &first, &last, n, index);
 }
 
 // The published list becomes the standing list. The index may hold anything beforehand.

@@ -73,6 +73,10 @@ pub earlier-days : (a b : Spell) → earlierOf a b ≡ true → (a .first < b .f
 unfolding earlierOf
 earlier-days = days-rise ((λ s. s .number) ∷ [])
 
+pub listed-days : (a b : Spell) → listedBefore a b ≡ true → (a .first < b .first) ⊎ ((a .first ≡ b .first) × (a .last ≤ b .last))
+unfolding listedBefore
+listed-days = days-rise ((λ s. s .number) ∷ [])
+
 -- ---- Each spell of a list
 
 pub each-map : (P Q : Spell → Type 0) → ((x : Spell) → P x → Q x) → (l : List Spell) → Each P l → Each Q l

@@ -2,7 +2,8 @@
 use Rattle.basis.proofs.Prelude.{_≡_, ap, refl, subst, sym, _≤_, ℕ, List, [], _∷_, map, Bool, cond, false, true, leb, drop, length, take, take-append-seam, arith, le-leb, leb-true, both, by-cases, clash}
 use Rattle.spell.specs.declared.Spell.{Spell}
 use Rattle.calendar.specs.Calendar.{isDay}
-use Rattle.spell.specs.Listing.{Each, Sound, Good}
+use Rattle.spell.specs.Listing.{Each, Sound, OrderlyBy}
+use Rattle.spell.specs.Order.{listedBefore}
 use Rattle.spell.proofs.Entered.{entered}
 use Rattle.standing.proofs.Calls.{fresh-is}
 use Rattle.model.specs.declared.Call.the-variants.{Ask}
@@ -43,7 +44,7 @@ pub record DayAnswer (p : List Spell) (d k c : ℕ) (out : List ℕ) : Type 0 wh
   pub few : k ≤ 1024
   pub comparisons-few : c ≤ 3072
 
-module _ (m : State) (q : Request) (g : Good (m .published)) (room : 1024 ≤ length (q .numbers)) (d : ℕ) where
+module _ (m : State) (q : Request) (g : OrderlyBy listedBefore Sound (m .published)) (room : 1024 ≤ length (q .numbers)) (d : ℕ) where
   abbrev p : List Spell
   p = m .published
 

@@ -2,12 +2,14 @@
 use Prim.Native.String.{String}
 use Rattle.basis.proofs.Prelude.{_≡_, refl, List, [], _∷_, map}
 use lib.Ieee.{isNan, toBits, ofBits}
-use Rattle.spell.specs.Order.{earlierOf}
+use Rattle.spell.specs.Order.{listedBefore, earlierOf}
 use Rattle.spell.specs.Listing.{stands}
 use Rattle.stabbing.specs.Tree.{below, keep, count, head, next, parent, child, leftSibling, lastChild, fitsAt, start, onPath, formula}
 use Rattle.fields.specs.Fields.{digitsOf, decimalOf, hexDigit, hexOf, numbersText, passed, readDigits, readDecimal, hexValue, readHex}
 use Rattle.register.specs.Text.{lineText, textOnto, readLetter, readValue, readUrgency, readLine, follows, lineRefusal, lineAnswer, nextLine, readLines, readText}
+use Rattle.orders.specs.Orders.{sortedBy}
 use Rattle.model.specs.Edits.{insertBy, enterRefusal, strikeRefusal, remember}
+use Rattle.model.specs.Publishing.{publishedOf}
 use Rattle.calendar.specs.Calendar.{daysOk}
 use Rattle.masks.specs.Masks.{isSet, ticksFrom}
 use Rattle.model.specs.Questions.{onAny, rising, filter, comparisonsOf}
@@ -66,6 +68,6 @@ pub example : map (λ c. converse opening (map sent c)) (session ∷ edges ∷ [
 unfolding spelled converse turnOf registerOf callText readingText shapeText refusedText refusedLine listedText dashedText severalText tickedText writtenText
     table begins headOf askedBy askedOf readDays digitsOf decimalOf hexDigit hexOf numbersText passed readDigits readDecimal hexValue readHex
     lineText textOnto readLetter readValue readUrgency readLine follows lineRefusal lineAnswer nextLine readLines readText
-    settle effectOf takeBack ask cover enterRefusal strikeRefusal insertBy remember earlierOf stands isNan toBits ofBits
+    settle effectOf takeBack ask cover enterRefusal strikeRefusal insertBy publishedOf sortedBy listedBefore remember earlierOf stands isNan toBits ofBits
     onAny daysOk rising ticksFrom isSet filter comparisonsOf below keep count head next parent child leftSibling lastChild fitsAt start onPath formula
 example = refl
