@@ -1,0 +1,39 @@
+-- What the rules do to a spell: rule 1 nothing, rule 2 cuts a reading within its own days. Assumes nothing.
+use Rattle.basis.proofs.Prelude.{_≡_, refl, _∙_, _+_, _≤_, ℕ, Bool, true, false, cond, leb, eqb, eqb-true, arith, leb-true, leb-false, by-test, by-cases}
+use Rattle.spell.specs.declared.Urgency.{Urgency}
+use Rattle.spell.specs.declared.Urgency.the-variants.{Grade, Reading}
+use Rattle.spell.specs.declared.Spell.{Spell}
+use Rattle.rules.specs.Rules.{lapsed, lapsedLast, lastOf, cut}
+
+-- RULE 1 publishes each spell as entered
+pub as-entered : (s : Spell) → cut 1 s ≡ s
+unfolding lastOf
+as-entered s = refl
+
+-- RULE 2: a grade as entered
+pub grade-kept : (s : Spell) (g : ℕ) → s .urgency ≡ Grade g → lastOf 2 s ≡ s .last
+unfolding lastOf
+grade-kept s g e = rw e
+
+-- a reading until the earlier of its last day and its first day + 6
+pub reading-lapses : (s : Spell) {x : _} → s .urgency ≡ Reading x → lastOf 2 s ≡ lapsed (s .first) (s .last)
+unfolding lastOf
+reading-lapses s e = rw e
+
+-- ---- A cut day is between the first and the last
+
+module _ (first last : ℕ) (forward : first ≤ last) where
+  lapsed-within : (first ≤ lapsed first last) × (lapsed first last ≤ last)
+  lapsed-within = by-cases (λ d. (first ≤ d) × (d ≤ last)) (leb last (first + 6))
+      (λ e. (forward, omega arith))
+      (λ e. (omega arith, omega (arith, leb-false last (first + 6) e)))
+
+  urgency-within : (u : Urgency) → (first ≤ lapsedLast u first last) × (lapsedLast u first last ≤ last)
+  urgency-within (Grade g) = (forward, omega arith)
+  urgency-within (Reading x) = lapsed-within
+
+pub last-within : (rule : ℕ) (s : Spell) → s .first ≤ s .last → (s .first ≤ lastOf rule s) × (lastOf rule s ≤ s .last)
+unfolding lastOf
+last-within rule s h = by-cases (λ d. (s .first ≤ d) × (d ≤ s .last)) (eqb rule 2)
+    (λ _. urgency-within (s .first) (s .last) h (s .urgency))
+    (λ _. (h, omega arith))
