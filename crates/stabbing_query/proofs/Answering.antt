@@ -64,7 +64,7 @@ module _ {ix xs : List ℕ} {s : ℕ} {f : Progress} (g : Now ix xs s f) (out : 
   ns = numbered ix (f .list)
 
   at-is : s / 65536 ≡ 1024 - length (f .list)
-  at-is = now-place ix xs s f g
+  at-is = now-place g
 
   pub at-in : s / 65536 ≤ 1024
   at-in = omega (arith, at-is)
