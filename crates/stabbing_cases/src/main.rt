@@ -1,11 +1,11 @@
 // Families of rows, built by `stabbing_index::build` and asked the four questions. Standard input has how many families there
 // are, and then each: a line with its name, 1 where it is asked about days all over the calendar and else 0, and how many rows
-// it has; then a line for each row with its number, first day and last day. A line is printed of its rows: the name, their
-// count, a checksum. Where they cannot be published, a line says so, and whether the index is as it was. Else a line follows
-// for each kind of question: the name, the kind, how many questions were asked, the sum of the counts listed, the sum of the
-// comparisons, and a checksum over every answer. Each question is asked with a list of 1,025 places and, where it lists some,
-// again with just as many places as it lists and with one less; the sums are of the first of these, the checksum is of all
-// three: refusal, count, comparisons, the numbers listed, and the place after them, which must hold what it held.
+// it has; then a line for each row with its number, first day and last day. A line is printed of each family: its name, the
+// count of its rows, a checksum of them. Where they cannot be published, a line says so, and whether the index is as it was.
+// Else a line follows for each kind of question: the kind, how many questions were asked, the sum of the counts listed, the
+// sum of the comparisons, and a checksum over every answer. Each question is asked with a list of 1,025 places and, where it
+// lists some, again with just as many places as it lists and with one less; the sums are of the first of these, the checksum
+// is of all three: refusal, count, comparisons, the numbers listed, and the place after them, which must hold what it held.
 use libc::STDIN_FILENO;
 use libc::STDOUT_FILENO;
 use stabbing::BY_NUMBER;
@@ -216,7 +216,21 @@ fn ask_stride(index: &[u16; INDEX], i: usize, t: Tally) -> Tally
     ask_part(index, &days, n, t)
 }
 
-// The question i of a kind: a day, a span, a cover, two days, days a step apart.
+// The question i of a kind: a day, a span, a cover, or several days.
+fn question_of(number: &[u16; 1024], kind: usize, i: usize, a: u16, b: u16, d: u16) -> Question {
+    if kind == 0 {
+        return Question::Day(d);
+    }
+    if kind == 1 {
+        return Question::Span(a, b);
+    }
+    if kind == 2 {
+        return Question::Cover(covered(number, i));
+    }
+    Question::Days
+}
+
+// Asks it: several days are two, or a step apart.
 fn ask_kind(
     index: &[u16; INDEX],
     number: &[u16; 1024],
@@ -227,22 +241,18 @@ fn ask_kind(
 ) -> Tally
     requires { ⌜ Built (now index) ⌝ }
 {
+    if kind == 4 {
+        return ask_stride(index, i, t);
+    }
     let a = pick(i / 15, far);
     let b = pick(i % 15, far);
     let two = [a, b];
-    if kind == 0 {
-        return ask(index, Question::Day(pick(i, far)), &two, t);
-    }
-    if kind == 1 {
-        return ask(index, Question::Span(a, b), &two, t);
-    }
-    if kind == 2 {
-        return ask(index, Question::Cover(covered(number, i)), &two, t);
-    }
-    if kind == 3 {
-        return ask(index, Question::Days, &two, t);
-    }
-    ask_stride(index, i, t)
+    ask(
+        index,
+        question_of(number, kind, i, a, b, pick(i, far)),
+        &two,
+        t,
+    )
 }
 
 // The first m questions of a kind.
@@ -265,27 +275,28 @@ fn each(index: &[u16; INDEX], number: &[u16; 1024], kind: usize, m: usize, far: 
 
 // ---- A family
 
-// A family's name: a part of the text.
-struct Name {
-    from: usize,
-    to: usize,
-}
-
-fn print_name(text: &[u8], name: Name) {
-    let from = name.from;
-    let to = name.to;
-    if to < from {
+fn print_kind(kind: usize) {
+    if kind == 0 {
+        print(b"day");
         return;
     }
-    if text.len() < to {
+    if kind == 1 {
+        print(b"span");
         return;
     }
-    print(&text[from..to]);
+    if kind == 2 {
+        print(b"cover");
+        return;
+    }
+    if kind == 3 {
+        print(b"two");
+        return;
+    }
+    print(b"days");
 }
 
-fn report(text: &[u8], name: Name, kind: &[u8], t: Tally) {
-    print_name(text, name);
-    print(kind);
+fn report(kind: usize, t: Tally) {
+    print_kind(kind);
     next_number(t.asked);
     next_number(t.listed);
     next_number(t.comparisons);
@@ -293,33 +304,24 @@ fn report(text: &[u8], name: Name, kind: &[u8], t: Tally) {
     print(b"\n");
 }
 
-// The questions of a day, of a span and of a cover.
-fn ask_one(text: &[u8], name: Name, index: &[u16; INDEX], number: &[u16; 1024], n: usize, far: bool)
-    requires { ⌜ Built (now index) ⌝ }
-{
-    report(text, name, b" day", each(index, number, 0, 120, far));
-    report(text, name, b" span", each(index, number, 1, 225, far));
-    report(
-        text,
-        name,
-        b" cover",
-        each(index, number, 2, n % 1025 * 2 + 1, far),
-    );
+// How many questions of a kind are asked of n rows.
+fn asked(kind: usize, n: usize) -> usize {
+    if kind == 2 {
+        return n % 1025 * 2 + 1;
+    }
+    let counts: [usize; 5] = [120, 225, 0, 225, 6];
+    counts[kind % 5]
 }
 
-// The questions of several days.
-fn ask_several(text: &[u8], name: Name, index: &[u16; INDEX], number: &[u16; 1024], far: bool)
+// The questions of every kind.
+fn ask_all(index: &[u16; INDEX], number: &[u16; 1024], n: usize, far: bool)
     requires { ⌜ Built (now index) ⌝ }
 {
-    report(text, name, b" two", each(index, number, 3, 225, far));
-    report(text, name, b" days", each(index, number, 4, 6, far));
-}
-
-fn ask_all(text: &[u8], name: Name, index: &[u16; INDEX], number: &[u16; 1024], n: usize, far: bool)
-    requires { ⌜ Built (now index) ⌝ }
-{
-    ask_one(text, name, index, number, n, far);
-    ask_several(text, name, index, number, far);
+    let mut kind: usize = 0;
+    while kind < 5 {
+        report(kind, each(index, number, kind, asked(kind, n), far));
+        kind += 1;
+    }
 }
 
 // Whether the table by number leads from the number of each row to that row: a number that two rows have leads to one of them.
@@ -338,28 +340,17 @@ fn own_numbers(index: &[u16; INDEX]) -> bool
     true
 }
 
-fn report_rows(text: &[u8], name: Name, n: usize, hash: u64) {
-    print_name(text, name);
-    print(b" rows");
-    next_number(n as u64);
-    next_number(hash);
-    print(b"\n");
-}
-
-fn refused(text: &[u8], name: Name, kept: bool) {
-    print_name(text, name);
+fn refused(kept: bool) {
     if kept {
-        print(b" refused kept\n");
-    } else {
-        print(b" refused changed\n");
+        print(b"refused kept\n");
+        return;
     }
+    print(b"refused changed\n");
 }
 
 // The rows are taken into a checksum of their own, so that both accounts are seen to have the same. `before` is that of the
 // index.
 fn family(
-    text: &[u8],
-    name: Name,
     number: &[u16; 1024],
     first: &[u16; 1024],
     last: &[u16; 1024],
@@ -370,16 +361,17 @@ fn family(
 ) {
     let a = mix_list(0, number, n);
     let b = mix_list(a, first, n);
-    report_rows(text, name, n, mix_list(b, last, n));
+    next_number(mix_list(b, last, n));
+    print(b"\n");
     if !stabbing_index::build(number, first, last, n, index) {
-        refused(text, name, before == mix_list(0, index, INDEX));
+        refused(before == mix_list(0, index, INDEX));
         return;
     }
     if !own_numbers(index) {
         print(b"a number twice\n");
         return;
     }
-    ask_all(text, name, index, number, n, far);
+    ask_all(index, number, n, far);
 }
 
 // ---- The text
@@ -419,6 +411,20 @@ fn number_from(text: &[u8], from: usize) -> Number {
         value: value,
         next: i,
     }
+}
+
+// Prints the name that begins after a place, up to the space after it: the place of that.
+fn print_name(text: &[u8], at: usize) -> usize {
+    let from = std::num::wrapping_add_usize(at, 1);
+    let to = name_end(text, from);
+    if to < from {
+        return to;
+    }
+    if text.len() < to {
+        return to;
+    }
+    print(&text[from..to]);
+    to
 }
 
 // The next place of a space or a line's end.
@@ -482,27 +488,14 @@ fn next_family(
     last: &mut [u16; 1024],
     index: &mut [u16; INDEX],
 ) -> usize {
-    let start = std::num::wrapping_add_usize(at, 1);
-    let name = Name {
-        from: start,
-        to: name_end(text, start),
-    };
-    let far = number_from(text, name.to);
+    let far = number_from(text, print_name(text, at));
     let count = number_from(text, far.next);
     let n = count.value as usize;
+    print(b" rows");
+    next_number(n as u64);
     let next = read_rows(text, count.next, n, number, first, last);
     let before = mix_list(0, index, INDEX);
-    family(
-        text,
-        name,
-        number,
-        first,
-        last,
-        n,
-        far.value == 1,
-        before,
-        index,
-    );
+    family(number, first, last, n, far.value == 1, before, index);
     next
 }
 

@@ -106,7 +106,7 @@ pub fn printed() -> String {
         let hash = columns.map(u64::from).fold(0, mix);
         writeln!(text, "{} rows {} {hash}", family.name, family.rows.len()).expect("a text grows");
         if !family.fit {
-            writeln!(text, "{} refused kept", family.name).expect("a text grows");
+            text.push_str("refused kept\n");
             continue;
         }
         let mut account = published(&family);
@@ -114,7 +114,7 @@ pub fn printed() -> String {
             let mut tally = Tally::default();
             questions.into_iter().for_each(|question| tally.ask(&mut account, question));
             let Tally { asked, listed, looks, hash } = tally;
-            writeln!(text, "{} {kind} {asked} {listed} {looks} {hash}", family.name).expect("a text grows");
+            writeln!(text, "{kind} {asked} {listed} {looks} {hash}").expect("a text grows");
         }
     }
     text
