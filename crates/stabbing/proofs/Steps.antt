@@ -1,5 +1,5 @@
 -- The walk's recursions with no fuel to follow: what code that goes by the links is proved against. Assumes nothing.
-use Rattle.basis.proofs.Prelude.{_∙_, _≡_, ap, refl, sym, _+_, _-_, _<_, _≤_, suc, zero, ℕ, List, [], _∷_, Bool, _&&_, false, not, true, leb, length, length-append, le-refl, arith, le-leb, lt-leb, by-eq, by-mark, by-test}
+use Rattle.basis.proofs.Prelude.{_∙_, _≡_, ap, refl, sym, _+_, _-_, _<_, _≤_, suc, zero, ℕ, List, [], _∷_, Bool, false, true, length, length-append, le-refl, arith, le-leb, lt-leb, by-eq, by-mark, by-test}
 use Rattle.stabbing.specs.Tree.{keep, dayAt, head, parent, child, leftSibling, lastChild}
 use Rattle.stabbing.specs.Walk.{Progress, tick, compare, chain, descend, climb}
 use Rattle.stabbing.specs.Contracts.{Stretch, above, over}
@@ -74,19 +74,14 @@ module _ (t : ℕ → Bool) where
       by-test (t k) (λ e. omega (arith, keep-one k e)) (λ e. rw (keep-miss t k e) (omega arith)))
 
 module _ (fs ls : List ℕ) (m v : ℕ) (r : Stretch fs ls m v) (c : ℕ) (e : child fs ls m v ≡ suc c) where
-  pub heads-child : heads fs ls (suc c) v < heads fs ls m v
+  pub heads-fall : (heads fs ls (suc c) v < heads fs ls m v) × (heads fs ls m c < heads fs ls m v)
   unfolding heads
-  heads-child =
+  heads-fall =
       let t : ℕ → Bool = head fs ls in
       let one : length (keep t (suc c)) ≡ suc (length (keep t c)) = keep-one t c (c-head fs ls m v r c e) in
-      omega (arith, keep-grows t m c (c-over fs ls m v r c e), keep-grows t (suc c) v (c-under fs ls m v r c e))
-
-  pub heads-left : heads fs ls m c < heads fs ls m v
-  unfolding heads
-  heads-left =
-      let t : ℕ → Bool = head fs ls in
-      let one : length (keep t (suc c)) ≡ suc (length (keep t c)) = keep-one t c (c-head fs ls m v r c e) in
-      omega (arith, keep-grows t m c (c-over fs ls m v r c e), keep-grows t (suc c) v (c-under fs ls m v r c e))
+      let a = keep-grows t m c (c-over fs ls m v r c e) in
+      let b = keep-grows t (suc c) v (c-under fs ls m v r c e) in
+      (omega arith, omega arith)
 
 -- ---- where the stretch of a last child ends: at the first later head that lasts longer
 

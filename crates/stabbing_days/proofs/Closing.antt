@@ -1,5 +1,5 @@
 -- The steps of `close`, apart from the code: the finds from the place f on are moved to the front, one after the other. Assumes nothing.
-use Rattle.basis.proofs.Prelude.{_∙_, _≡_, ap, refl, sym, _+_, _-_, _<_, _≤_, ℕ, List, _++_, append-assoc, append-nil, drop, getD, length, length-drop, length-set, set, take, take-append-drop, drop-append-le, drop-length, getD-append-add, getD-drop, length-take-le, take-all, take-length, arith}
+use Rattle.basis.proofs.Prelude.{_∙_, _≡_, ap, refl, sym, _+_, _-_, _<_, _≤_, ℕ, List, _++_, append-assoc, append-nil, drop, getD, length, length-drop, length-set, set, take, take-append-drop, drop-append-le, drop-length, getD-append-add, getD-drop, length-take-le, take-length, arith}
 use Rattle.buffer.specs.Buffer.{overlaid}
 use Rattle.buffer.proofs.Overlaid.{filled, overlaid-all}
 

@@ -1,5 +1,5 @@
 -- The steps of the days question, apart from the code. Assumes nothing.
-use Rattle.basis.proofs.Prelude.{_∙_, _≡_, ap, refl, sym, _+_, _-_, _<_, _≤_, zero-le, ℕ, List, [], _++_, _∷_, append-assoc, append-nil, map, map-append, false, true, ltb, drop, drop-of-length-le, getD, length, length-append, length-drop, length-map, take, take-append-drop, drop-append-le, drop-at, drop-cons, drop-drop, getD-drop, length-take-le, take-all, take-at, add-one, arith, le-ltb, lt-ltb, ltb-true, both}
+use Rattle.basis.proofs.Prelude.{_∙_, _≡_, ap, refl, sym, _+_, _-_, _<_, _≤_, zero-le, ℕ, List, [], _++_, _∷_, append-assoc, append-nil, map, map-append, false, true, ltb, drop, drop-of-length-le, getD, length, length-append, length-drop, length-map, take, take-append-drop, drop-at, drop-cons, drop-drop, getD-drop, length-take-le, take-all, take-at, add-one, arith, le-ltb, lt-ltb, ltb-true, both}
 use borrow.Rule.Slice.PartMut.{putMid, postOf}
 use Rattle.stabbing.specs.Tree.{keep, fitsAt, start, formula}
 use Rattle.stabbing.specs.Stored.{latest}
@@ -8,7 +8,7 @@ use Rattle.buffer.specs.Buffer.{overlaid}
 use Rattle.buffer.proofs.Overlaid.{overlaid-all}
 use Rattle.stabbing.specs.declared.Listed.{Listed}
 use Rattle.calendar.specs.Calendar.{isDay, daysOk}
-use Rattle.stabbing.specs.Answer.{Outcome, Gave, refused, give, question, risingFrom, containsAny, dayIn, daysOf, daysIn}
+use Rattle.stabbing.specs.Answer.{Outcome, Gave, give, question, risingFrom, containsAny, dayIn, daysOf, daysIn}
 use Rattle.stabbing.specs.Contracts.{Holds, from}
 use Rattle.stabbing.proofs.Starts.{latest-is}
 use Rattle.stabbing.proofs.Steps.{keep-room}

@@ -1,10 +1,11 @@
 -- The rows of a list that lie past the first m, counted from its end, and the steps of `skip`, apart from the code. Assumes nothing.
-use Rattle.basis.proofs.Prelude.{_∙_, _≡_, ap, refl, sym, _+_, _-_, _<_, _≤_, suc, zero, zero-le, ℕ, List, [], _++_, _∷_, map, Bool, _&&_, leb, ltb, List·getD-append, drop, drop-of-length-le, getD, length, length-append, length-drop, length-map, drop-append-le, drop-cons, drop-length, getD-append-seam, le-refl, arith, le-leb, leb-false, leb-true, lt-leb, ltb-false, ltb-true, both, by-test}
+use Rattle.basis.proofs.Prelude.{_∙_, _≡_, ap, refl, sym, _+_, _-_, _<_, _≤_, suc, zero, zero-le, ℕ, List, [], _++_, _∷_, map, Bool, _&&_, leb, ltb, List·getD-append, drop, drop-of-length-le, getD, length, length-append, length-drop, length-map, drop-append-le, drop-cons, drop-length, getD-append-seam, le-refl, arith, le-leb, leb-false, leb-true, lt-leb, ltb-false, ltb-true, by-test}
 use Rattle.stabbing.specs.Tree.{keep}
 use Rattle.stabbing.specs.Index.{numberTable, Built, numbers, firsts, lasts}
 use Rattle.stabbing.specs.Contracts.{Holds, from}
-use Rattle.stabbing.proofs.Marks.{keep-hit, keep-miss, keep-skip}
+use Rattle.stabbing.proofs.Marks.{keep-hit, keep-miss}
 use Rattle.stabbing.proofs.Block.{built-holds}
+use Rattle.stabbing.proofs.Days.{none-from}
 use Rattle.stabbing_query.specs.Contracts.{numbered}
 use Rattle.stabbing_days.specs.Contracts.{past, InRows, Skips}
 
@@ -64,10 +65,6 @@ past-last m (p ∷ ps) n h =
     past-short m p (ps ++ (n ∷ [])) (omega (arith, ih, length-append ps (n ∷ []))) ∙ ih
 
 -- of the positions that pass a test, those from m on come last, and they are what is counted
-none-from : (t : ℕ → Bool) (m n : ℕ) → n ≤ m → keep (from m t) n ≡ []
-unfolding keep
-none-from t m n h = keep-skip (from m t) 0 n zero-le (λ p x y z. omega (arith, leb-true m p (both (leb m p) (t p) z .0)))
-
 pub past-from : (t : ℕ → Bool) (m n : ℕ) → past m (keep t n) ≡ length (keep (from m t) n)
 unfolding keep past
 past-from t m zero = refl

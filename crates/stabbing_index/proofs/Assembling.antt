@@ -4,14 +4,14 @@ use Rattle.stabbing.specs.Tree.{dayAt, head, parent, child, leftSibling, lastCh
 use Rattle.stabbing.specs.Stored.{latest}
 use Rattle.stabbing.specs.Index.{capacity, dayCount, numberCount, firstColumn, lastColumn, parentColumn, leftColumn, childColumn, nextColumn, startTable, latestTable, numberTable, rowCount, indexLength, rowsOk, column, lastOf, headLink, rowLink, named, laid, blockOf}
 use Rattle.stabbing.proofs.Marks.{below-ext}
-use Rattle.stabbing.proofs.Links.{child-is, left-is}
+use Rattle.stabbing.proofs.Links.{child-is, left-is, next-le}
 use Rattle.stabbing.proofs.Columns.{column-at, column-length, column-only}
 use Rattle.stabbing_index.specs.Build.{Builds}
 use Rattle.stabbing_index.specs.Contracts.{Columns, ColumnsOf, FilledTo, LinkedOf, ChainedOf, Dayed, DaysAsks, Extends, nameWord, MarksIn, markWords, BlankFrom, beside, linkWords, dayWords, RowsOf}
 use Rattle.stabbing_index.proofs.Laying.{laid-more, column-ext}
-use Rattle.stabbing_index.proofs.Links.{held-at, link-head}
-use Rattle.stabbing_index.proofs.Chains.{same-last, next-below}
-use Rattle.stabbing.proofs.Block.{rows-sorted, rows-days}
+use Rattle.stabbing_index.proofs.Links.{held-at}
+use Rattle.stabbing_index.proofs.Chains.{same-last}
+use Rattle.stabbing.proofs.Block.{head-link, rows-sorted, rows-days}
 
 -- a word of a column that is laid
 laid-at : {e x : List ℕ} {a b : ℕ} (size : ℕ) (f : ℕ → ℕ) → Extends e a b (column size f) x → b ≡ a + size → b ≤ length e → (j : ℕ) → j < size → getD x (a + j) 0 ≡ f j
@@ -70,7 +70,7 @@ module _ {xs ys fs ls : List ℕ} {n : ℕ} (q : Columns xs ys fs ls n) where
   child-small = head-small (lastChild fs ls) (λ v h. omega (arith, child-is fs ls (suc v) (length fs) .within, q .count))
 
   next-small : (p : ℕ) → rowLink fs ls (next fs ls) p ≤ n
-  next-small p = by-test (ltb p (length fs)) (λ e. rw e (omega (arith, next-below fs ls p, ltb-true p (length fs) e, q .count))) (λ e. rw e zero-le)
+  next-small p = by-test (ltb p (length fs)) (λ e. rw e (omega (arith, next-le fs ls p, ltb-true p (length fs) e, q .count))) (λ e. rw e zero-le)
 
   -- a column of marks, and the last days beside it
   module _ {ws : List ℕ} {f : ℕ → ℕ} {k : ℕ} (w : FilledTo ws f k) (past : (p : ℕ) → k ≤ p → f p ≡ 0) (small : (p : ℕ) → f p ≤ n) where
@@ -125,7 +125,7 @@ module _ {xs ys ps qs cs ns : List ℕ} {n : ℕ} (q : ColumnsOf xs ys n) (found
     columns = q;
     begins = λ p h. rows-days fs ls (rows .in-order) p (omega (arith, rows .count)) .0;
     forward = λ p h. rows-days fs ls (rows .in-order) p (omega (arith, rows .count)) .1;
-    parents = λ v h hv. found .0 .parents .words v h ∙ link-head fs ls (parent fs ls) v (omega (arith, rows .count)) hv;
+    parents = λ v h hv. found .0 .parents .words v h ∙ head-link fs ls (parent fs ls) v (omega (arith, rows .count)) hv;
   }
 
   pub tree-laid : {e₀ e₁ e₂ e₃ e₄ e₅ : List ℕ} → Extends e₀ parentColumn (parentColumn + length ps) ps e₁ → Extends e₁ leftColumn childColumn (markWords ys qs) e₂ → Extends e₂ childColumn nextColumn (markWords ys cs) e₃

@@ -1,6 +1,5 @@
 -- The steps of the passes over the chains and the neighbours' last days, apart from the code. Assumes nothing.
-use Rattle.basis.proofs.Prelude.{_≡_, ap, refl, _-_, _≤_, suc, zero, zero-le, ℕ, List, eqb, getD, le-refl, arith, by-test}
-use Rattle.stabbing.specs.Tree.{dayAt, next}
+use Rattle.basis.proofs.Prelude.{_≡_, ap, refl, _-_, _≤_, suc, zero, ℕ, List, getD, arith}
 use Rattle.stabbing.specs.Index.{lastOf}
 use Rattle.stabbing_index.specs.Contracts.{Columns}
 
@@ -15,9 +14,3 @@ last-some ys (suc p) h = let z : suc p - 1 ≡ p = omega arith in ap (λ (x : �
 pub same-last : {xs ys fs ls : List ℕ} {n : ℕ} (m : ℕ) → Columns xs ys fs ls n → m ≤ n → lastOf ys m ≡ lastOf ls m
 same-last zero q h = refl
 same-last (suc p) q h = q .lasts p h
-
--- the next in a chain is never above
-pub next-below : (fs ls : List ℕ) (p : ℕ) → next fs ls p ≤ p
-unfolding next
-next-below fs ls zero = zero-le
-next-below fs ls (suc p) = by-test (eqb (dayAt fs p) (dayAt fs (suc p))) (λ e. rw (e, next) (le-refl (suc p))) (λ e. rw (e, next) zero-le)

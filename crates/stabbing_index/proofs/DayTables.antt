@@ -6,8 +6,8 @@ use Rattle.stabbing.specs.Tree.{below, dayAt, head, parent, start}
 use Rattle.stabbing.specs.Stored.{Sorted, nearest, latest}
 use Rattle.stabbing.specs.Contracts.{Head}
 use Rattle.stabbing.proofs.Marks.{below-is, below-skip, below-hit}
-use Rattle.stabbing.proofs.Links.{Top, top}
 use Rattle.stabbing.proofs.Walk.{start-is}
+use Rattle.stabbing.proofs.Days.{latest-after, latest-rises, latest-none}
 use Rattle.stabbing.proofs.Starts.{latest-is, latest-before, lasting, nearest-is, start-nearest}
 use Rattle.stabbing_index.specs.Contracts.{Columns, ClimbAt, Climbed, Dayed, AdvanceAt, DaysAt, DayAt}
 
@@ -33,16 +33,11 @@ module _ (fs ls : List ℕ) (sorted : Sorted fs ls) where
 -- a row that begins by day d is below the latest's mark
 reached : (fs ls : List ℕ) (sorted : Sorted fs ls) (d x : ℕ) → x < length fs → dayAt fs x ≤ d → x < latest fs ls d
 reached fs ls sorted d x h k = by-test (leb (latest fs ls d) x)
-    (λ e.
-    let y = top fs ls sorted x h in
-    let z : Top fs ls sorted x (y .0) = y .1 in
-    absurd (omega (arith, latest-is fs ls sorted d .miss (y .0) (omega (arith, z .above, leb-true (latest fs ls d) x e)) (z .inside) (z .is), z .first)))
+    (λ e. absurd (omega (arith, latest-after fs ls sorted d x (leb-true (latest fs ls d) x e) h)))
     (λ e. leb-false (latest fs ls d) x e)
 
 later : (fs ls : List ℕ) (sorted : Sorted fs ls) (d : ℕ) → latest fs ls d ≤ latest fs ls (suc d)
-later fs ls sorted d = by-mark (latest fs ls d) (λ z. rw z zero-le) (λ v z.
-    let i = latest-is fs ls sorted d in
-    rw z (reached fs ls sorted (suc d) v (omega (arith, i .within)) (omega (arith, i .hit v z .1))))
+later fs ls sorted d = latest-rises fs ls sorted d (suc d) (omega arith)
 
 module _ {xs ys fs ls : List ℕ} {n d m : ℕ} (q : AdvanceAt xs ys fs ls n d m) where
   c : Columns xs ys fs ls n
@@ -104,9 +99,7 @@ pub record Tabling (xs ys fs ls : List ℕ) (n : ℕ) (ps ss bs : List ℕ) (d m
 
 pub starts : {xs ys fs ls : List ℕ} {n : ℕ} {ps : List ℕ} → DaysAt xs ys fs ls n ps → (ss bs : List ℕ) → length ss ≡ dayCount → length bs ≡ dayCount → Tabling xs ys fs ls n ps (set ss 0 0) (set bs 0 0) 0 0 0
 starts {fs = fs} {ls} q ss bs a b =
-    let m-is : 0 ≡ latest fs ls 0 = by-mark (latest fs ls 0) sym (λ v z.
-    let i = latest-is fs ls (q .columns .sorted) 0 in
-    absurd (omega (arith, i .hit v z .1, q .begins v (omega (arith, i .within, q .columns .count))))) in
+    let m-is : 0 ≡ latest fs ls 0 = sym (latest-none fs ls (q .columns .sorted) (λ p h. q .begins p (omega (arith, q .columns .count)))) in
     let s-is : 0 ≡ start fs ls 0 0 = by-mark (start fs ls 0 0) sym (λ v z.
     let i = start-is fs ls (q .columns .sorted) 0 0 in
     absurd (omega (arith, i .hit v z .1, q .begins v (omega (arith, i .within, q .columns .count))))) in

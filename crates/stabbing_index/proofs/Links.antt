@@ -1,12 +1,13 @@
 -- The steps of the builder over what it reads and has written, apart from the code. Assumes nothing.
-use Rattle.basis.proofs.Prelude.{_∙_, _≡_, ap, refl, sym, _+_, _-_, _<_, _≤_, suc, zero, zero-le, ℕ, List, [], Bool, false, true, _≢_, eqb, leb, ltb, List·getD-eq-default, getD, getD-replicate, length, length-replicate, length-set, replicate, set, getD-set-other, getD-set-same, le-refl, add-one, arith, eq-eqb, eqb-false, eqb-true, le-leb, lt-leb, lt-ltb, ltb-false, ltb-true, ne-eqb, by-eq, by-mark, by-test, clash}
+use Rattle.basis.proofs.Prelude.{_∙_, _≡_, refl, sym, _+_, _-_, _<_, _≤_, suc, zero, zero-le, ℕ, List, Bool, false, true, _≢_, eqb, leb, ltb, List·getD-eq-default, getD, getD-replicate, length, length-replicate, length-set, replicate, set, getD-set-other, getD-set-same, le-refl, add-one, arith, eq-eqb, eqb-false, eqb-true, le-leb, lt-leb, lt-ltb, ltb-false, ltb-true, ne-eqb, by-eq, by-mark, by-test, clash}
 use Rattle.stabbing_index.specs.declared.Way.{Way}
 use Rattle.stabbing.specs.Tree.{below, dayAt, head, next, parent, child, leftSibling}
 use Rattle.stabbing.specs.Stored.{nearest}
 use Rattle.stabbing.specs.Index.{headLink, rowLink}
 use Rattle.stabbing.specs.Contracts.{Head, bottom}
 use Rattle.stabbing.proofs.Marks.{below-hit, below-miss}
-use Rattle.stabbing.proofs.Links.{bottom-is, parent-is, child-is, left-is}
+use Rattle.stabbing.proofs.Block.{head-link}
+use Rattle.stabbing.proofs.Links.{bottom-is, parent-is, child-is, left-is, head-false, next-none, next-some}
 use Rattle.stabbing_index.proofs.Parents.{parent-nearest, left-passed, child-next, child-same}
 use Rattle.stabbing_index.specs.Contracts.{passed, Columns, FilledTo, Linked, Chained, headAt, ClimbAt, Climbed, HeadAt}
 
@@ -142,34 +143,16 @@ child-none fs ls k = by-mark (child fs ls (suc k) (suc k)) (λ z. z) (λ b z.
     absurd (omega (arith, c .within, c .hit b z .1, parent-is fs ls b .within)))
 
 module _ (fs ls : List ℕ) where
-  -- a link of a head, and of what is none
-  pub link-head : (link : ℕ → ℕ) (p : ℕ) → p < length fs → Head fs ls p → headLink fs ls link p ≡ link p
-  link-head link p h e = rw (lt-ltb p (length fs) h, e)
-
+  -- a link of what is no head
   link-none : (link : ℕ → ℕ) (p : ℕ) → head fs ls p ≡ false → headLink fs ls link p ≡ 0
   link-none link p h = by-test (ltb p (length fs)) (λ e. rw (e, h)) (λ e. rw e)
 
   -- the chain's link of the position above a head, and above what is none
-  next-none : (k : ℕ) → Head fs ls k → rowLink fs ls (next fs ls) (suc k) ≡ 0
-  unfolding head next
-  next-none k h = by-test (ltb (suc k) (length fs))
-      (λ e.
-      let lt : suc k < length fs = ltb-true (suc k) (length fs) e in
-      by-test (eqb (dayAt fs k) (dayAt fs (suc k)))
-      (λ z. absurd (clash h (rw (ne-eqb (suc k) (length fs) (λ y. omega arith), z))))
-      (λ z. rw (e, z, next)))
-      (λ e. rw e)
+  next-link-none : (k : ℕ) → Head fs ls k → rowLink fs ls (next fs ls) (suc k) ≡ 0
+  next-link-none k h = by-test (ltb (suc k) (length fs)) (λ e. rw (e, next-none fs ls k h (ltb-true (suc k) (length fs) e))) (λ e. rw e)
 
-  module _ (k : ℕ) (inside : k < length fs) (h : head fs ls k ≡ false) where
-    above : suc k < length fs
-    unfolding head
-    above = by-eq (suc k) (length fs) inside (λ e. absurd (clash (rw (eq-eqb (suc k) (length fs) e)) h)) (λ lt. lt)
-
-    next-same : suc k ≡ rowLink fs ls (next fs ls) (suc k)
-    unfolding head next
-    next-same = by-test (eqb (dayAt fs k) (dayAt fs (suc k)))
-        (λ z. sym (rw (lt-ltb (suc k) (length fs) above, z, next)))
-        (λ z. absurd (clash (rw (ne-eqb (suc k) (length fs) (λ y. omega (arith, above)), z)) h))
+  next-link : (k : ℕ) → k < length fs → head fs ls k ≡ false → suc k ≡ rowLink fs ls (next fs ls) (suc k)
+  next-link k h e = sym (rw (lt-ltb (suc k) (length fs) (head-false fs ls k h e .0), next-some fs ls k h e))
 
 pub none-yet : {fs ls : List ℕ} (size : ℕ) → size ≡ 1024 → Linked fs ls (replicate size 0) (replicate size 0) (replicate size 0) 0 × Chained fs ls (replicate size 0) 0
 unfolding next
@@ -193,7 +176,7 @@ module _ {xs ys fs ls : List ℕ} {n k prev : ℕ} {ps qs cs : List ℕ} (q : He
         columns = q .columns;
         within = omega (arith, q .before, i .within, q .inside);
         at-head = λ v z. i .hit v (sym (q .before) ∙ z);
-        parents = λ v a hv. q .links .parents .words v (omega (arith, q .before, i .within)) ∙ link-head fs ls (parent fs ls) v (omega (arith, q .before, i .within, in-list)) hv;
+        parents = λ v a hv. q .links .parents .words v (omega (arith, q .before, i .within)) ∙ head-link fs ls (parent fs ls) v (omega (arith, q .before, i .within, in-list)) hv;
       }
 
   module _ {l : ℕ} (e : l ≡ getD ys k 0) {w : Way} (g : Climbed fs ls l prev 0 w) where
@@ -220,18 +203,18 @@ module _ {xs ys fs ls : List ℕ} {n k prev : ℕ} {ps qs cs : List ℕ} (q : He
     linked cs′ s c₁ c₂ =
         let i = parent-is fs ls k in
         record {
-          parents = held-set (q .links .parents) (w .parent) room (parent-of ∙ sym (link-head fs ls (parent fs ls) k in-list (q .top)));
-          lefts = held-set (q .links .lefts) (w .left) room (left-of ∙ sym (link-head fs ls (leftSibling fs ls) k in-list (q .top)));
+          parents = held-set (q .links .parents) (w .parent) room (parent-of ∙ sym (head-link fs ls (parent fs ls) k in-list (q .top)));
+          lefts = held-set (q .links .lefts) (w .left) room (left-of ∙ sym (head-link fs ls (leftSibling fs ls) k in-list (q .top)));
           children = record {
             size = s;
             words = λ v a. by-test (eqb (parent fs ls k) (suc v))
                 (λ t.
                 let y : parent fs ls k ≡ suc v = eqb-true _ _ t in
-                c₁ v y ∙ sym (link-head fs ls (λ u. child fs ls (suc u) (suc k)) v (omega (arith, in-list)) (i .hit v y .0) ∙ child-next fs ls (suc v) k (q .top) y))
+                c₁ v y ∙ sym (head-link fs ls (λ u. child fs ls (suc u) (suc k)) v (omega (arith, in-list)) (i .hit v y .0) ∙ child-next fs ls (suc v) k (q .top) y))
                 (λ t.
                 let y : parent fs ls k ≢ suc v = eqb-false _ _ t in
                 c₂ v y ∙ by-eq v k (omega arith)
-                (λ z. rw z (q .links .children .rest k (le-refl k) ∙ sym (link-head fs ls (λ u. child fs ls (suc u) (suc k)) k in-list (q .top) ∙ child-none fs ls k)))
+                (λ z. rw z (q .links .children .rest k (le-refl k) ∙ sym (head-link fs ls (λ u. child fs ls (suc u) (suc k)) k in-list (q .top) ∙ child-none fs ls k)))
                 (λ lt. q .links .children .words v lt ∙ rw (child-same fs ls (suc v) k (λ _. y))));
             rest = λ v a. c₂ v (λ y. omega (arith, i .within)) ∙ q .links .children .rest v (omega arith);
           };
@@ -290,7 +273,7 @@ module _ {xs ys fs ls : List ℕ} {n k prev : ℕ} {ps qs cs ns : List ℕ} (i :
     pub turn-head : r ≡ true → {ps′ qs′ cs′ : List ℕ} → Linked fs ls ps′ qs′ cs′ (suc k) → Linking xs ys fs ls n ps′ qs′ cs′ ns (k + 1) (k + 1)
     turn-head z g =
         let h : Head fs ls k = sym is-head ∙ z in
-        rw (add-one k) (record { columns = i .columns; links = g; before = sym (below-hit (head fs ls) k h); chains = held-skip (i .chains) (next-none fs ls k h); within = inside })
+        rw (add-one k) (record { columns = i .columns; links = g; before = sym (below-hit (head fs ls) k h); chains = held-skip (i .chains) (next-link-none fs ls k h); within = inside })
 
     -- no head
     module _ (z : r ≡ false) where
@@ -298,7 +281,7 @@ module _ {xs ys fs ls : List ℕ} {n k prev : ℕ} {ps qs cs ns : List ℕ} (i :
       np = sym is-head ∙ z
 
       pub goes-on : k + 1 < 1024
-      goes-on = omega (arith, above fs ls k (rw (i .columns .count) inside) np, i .columns .count, i .columns .few)
+      goes-on = omega (arith, head-false fs ls k (rw (i .columns .count) inside) np .0, i .columns .count, i .columns .few)
 
       pub turn-skip : Linking xs ys fs ls n ps qs cs (set ns (k + 1) (k + 1)) prev (k + 1)
       turn-skip =
@@ -312,6 +295,6 @@ module _ {xs ys fs ls : List ℕ} {n k prev : ℕ} {ps qs cs ns : List ℕ} (i :
               children = record { size = c .size; words = λ v h. c .words v h ∙ rw (same v); rest = c .rest };
             };
             before = i .before ∙ sym (below-miss (head fs ls) k np);
-            chains = held-set (i .chains) (suc k) (omega (arith, goes-on)) (next-same fs ls k (rw (i .columns .count) inside) np);
+            chains = held-set (i .chains) (suc k) (omega (arith, goes-on)) (next-link fs ls k (rw (i .columns .count) inside) np);
             within = inside;
           })

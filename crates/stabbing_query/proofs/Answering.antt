@@ -1,5 +1,5 @@
 -- From the walk to the answers of day, span and cover: what is written, the theorems on listing and comparisons, the starts. Assumes nothing.
-use Rattle.basis.proofs.Prelude.{_∙_, _≡_, ap, refl, sym, _%_, _+_, _-_, _/_, _<_, _≤_, suc, zero, zero-le, ℕ, List, [], _++_, _∷_, map, map-append, Bool, _&&_, false, true, _≢_, leb, drop, drop-of-length-le, getD, length, length-map, take, take-all, le-refl, arith, le-leb, leb-true, lt-leb, both, by-test}
+use Rattle.basis.proofs.Prelude.{_∙_, _≡_, ap, refl, sym, _%_, _+_, _-_, _/_, _<_, _≤_, suc, zero, zero-le, ℕ, List, [], _++_, _∷_, map, map-append, Bool, _&&_, false, true, _≢_, drop, drop-of-length-le, getD, length, length-map, take, take-all, le-refl, arith, le-leb, lt-leb, by-test}
 use Rattle.buffer.specs.Buffer.{overlaid}
 use Rattle.buffer.proofs.Overlaid.{overlaid-all}
 use Rattle.stabbing.specs.declared.Listed.{Listed}
@@ -15,7 +15,7 @@ use Rattle.calendar.specs.Calendar.{isDay}
 pub use Rattle.calendar.proofs.Calendar.{dated}
 use Rattle.stabbing.specs.Answer.{Outcome, refused, give, question, dayOf, dayIn, Gave, spanOf, spanIn, covering, coverOf, coverIn}
 use Rattle.stabbing.specs.Contracts.{Holds}
-use Rattle.stabbing_query.specs.Contracts.{Now, Does, ClimbAt, StartAt, WalkAsks, SpanAsks, numbered, decoded, listedOf}
+use Rattle.stabbing_query.specs.Contracts.{Now, Does, ClimbAt, WalkAsks, SpanAsks, numbered, decoded, listedOf}
 use Rattle.stabbing_query.proofs.Keeping.{now-place, comparisons-is}
 
 -- the walk's beginning and its end

@@ -1,5 +1,5 @@
 -- `stabbing_days::close` meets its contract: each need is a step of `proofs/Closing.antt`. Assumes nothing.
-use Rattle.basis.proofs.Prelude.{_-_, length, arith, needs}
+use Rattle.basis.proofs.Prelude.{_-_, arith, needs}
 use Rattle.stabbing_days.proofs.Closing as Steps
 use Rattle.stabbing_days.proofs.Closing.{Closing}
 use Rattle.stabbing_days.proofs.close.Statement.{statement}

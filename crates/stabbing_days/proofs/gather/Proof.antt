@@ -1,5 +1,5 @@
 -- `stabbing_days::gather` meets its contract: each need is a step of `proofs/Several.antt`. Assumes nothing.
-use Rattle.basis.proofs.Prelude.{_≡_, refl, _-_, _≤_, length, arith, needs}
+use Rattle.basis.proofs.Prelude.{refl, _-_, length, arith, needs}
 use Rattle.stabbing_days.proofs.Several as Steps
 use Rattle.stabbing_days.proofs.Several.{Going}
 use Rattle.stabbing_days.proofs.gather.Statement.{statement}

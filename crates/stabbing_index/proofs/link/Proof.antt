@@ -1,5 +1,5 @@
 -- `stabbing_index::link` meets its contract: each need is a step of `proofs/Links.antt`. Assumes nothing.
-use Rattle.basis.proofs.Prelude.{_≡_, _-_, take, arith, needs}
+use Rattle.basis.proofs.Prelude.{_-_, take, needs}
 use Rattle.stabbing_index.proofs.Links as Steps
 use Rattle.stabbing_index.proofs.link.Statement.{statement}
 use Rattle.stabbing_index.proofs.link.Tie as tie
