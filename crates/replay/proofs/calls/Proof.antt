@@ -1,9 +1,9 @@
 -- `replay::calls` meets its contract. The invariant is Going: what is done, followed by what is still to come, is the whole. The
 -- measure is the codes that are left. Assumes nothing.
-use Rattle.basis.proofs.Prelude.{_∙_, _≡_, sym, _*_, _+_, _-_, _≤_, length, arith, needs}
+use Rattle.basis.proofs.Prelude.{_∙_, _≡_, sym, _*_, _+_, _-_, _<_, _≤_, length, arith, needs}
 use Rattle.service.specs.Service.{blocks}
 use Rattle.replay.specs.Coded.{codeWidth, resultWidth, nextOf}
-use Rattle.replay.proofs.Runs.{Going, Room, next-room, starts, ended-all, ended-stop, turned, whole-room}
+use Rattle.replay.proofs.Runs.{Going, next-room, starts, ended-all, ended-stop, turned, whole-room}
 use Rattle.replay.proofs.calls.Statement.{statement}
 use Rattle.replay.proofs.calls.Tie as tie
 
@@ -12,119 +12,49 @@ Inv-loop index₀ codes days results₀ numbers₀ text₀ whole s₀ made₀ d�
     Going s₀ (blocks index₀) codes days results₀ numbers₀ text₀ whole s (blocks index) results numbers text made d n t
 
 abbrev μ-loop : tie.MeasureT-loop
-μ-loop index₀ codes days results₀ numbers₀ text₀ whole s₀ made₀ d₀ n₀ t₀ index results numbers text s made d n t =
-    whole - made
+μ-loop index₀ codes days results₀ numbers₀ text₀ whole s₀ made₀ d₀ n₀ t₀ index results numbers text s made d n t = whole - made
 
 -- what is found at a code
 found : (c : tie.After-next-of Inv-loop μ-loop)
     → let l = c .before .before .before .loop in
     let a = c .before .before .before .before .before .before .before .before .before .before .args in
-    c .next-of .result
-    ≡ nextOf (c .before .code-at .result) (length (a .days .now) - l .d) (length (l .numbers) - l .n) (length (l .text) - l .t)
+    c .next-of .result ≡ nextOf (c .before .code-at .result) (length (a .days .now) - l .d) (length (l .numbers) - l .n) (length (l .text) - l .t)
 found c = c .next-of .ensures
-
--- and that there is room for it
-fits : (c : tie.After-known-told Inv-loop μ-loop)
-    → let l = c .before .before .before .before .before .before .loop in
-    let a = c .before .before .before .before .before .before .before .before .before .before .before .before .before .args in
-    Room (c .before .before .before .before .code-at .result) (length (a .days .now) - l .d) (length (l .numbers) - l .n) (length (l .text) - l .t)
-fits c = next-room (c .before .before .before .before .code-at .result) _ _ _ _ (sym (found (c .before .before .before)) ∙ c .before .call .given .1)
 
 -- the code is whole, and its results have room
 whole : (c : tie.In-loop Inv-loop μ-loop)
-    → (codeWidth * c .before .loop .made + codeWidth ≤ length (c .before .before .before .before .before .before .before .before .args .codes .now)) × (resultWidth * c .before .loop .made + resultWidth ≤ length (c .before .before .before .before .before .before .before .before .args .results .now))
+    → let a = c .before .before .before .before .before .before .before .before .args in
+    (codeWidth * c .before .loop .made + codeWidth ≤ length (a .codes .now)) × (resultWidth * c .before .loop .made + resultWidth ≤ length (a .results .now))
 whole c = whole-room _ _ _ (c .before .loop .made) (c .before .before .whole-of .ensures) (c .loop-test .taken)
 
-loop-holds : tie.Need-loop-holds Inv-loop μ-loop
-loop-holds c = starts _ _ _ _ _ _ _ _ (c .before .before .before .before .before .before .pre)
-
-code-at-requires : tie.Need-code-at-requires Inv-loop μ-loop
-code-at-requires c κs = whole c .0
-
-returns : tie.Need-returns Inv-loop μ-loop
-returns c =
-    let p = c .before .before in
-    let l = p .before .before .before .loop in
-    rw (← p .before .before .before .before .whole-of .ensures)
-    (ended-stop _ _ _ _ _ _ _ _ _ _ _ _ _ _ _ _ _ (l .inv) _ (p .before .code-at .ensures) (sym (found p) ∙ c .enum-told .given .1))
-
-add-step : tie.Need-add-step Inv-loop μ-loop
-add-step c = omega (arith, fits (c .before .before), c .before .before .before .before .before .before .before .before .before .before .before .before .before .before .before .good)
-
-mul-step : tie.Need-mul-step Inv-loop μ-loop
-mul-step c = omega (arith, fits (c .before .before), c .before .before .before .before .before .before .before .before .before .before .before .before .before .before .before .good)
-
-sub-step : tie.Need-sub-step Inv-loop μ-loop
-sub-step c = omega (arith, fits (c .before .before), c .before .before .before .before .before .before .before .before .before .before .before .before .before .before .before .good)
-
-part-step-start : tie.Need-part-step-start Inv-loop μ-loop
-part-step-start c = omega (arith, fits (c .before .before), c .before .before .before .before .before .before .before .before .before .before .before .before .before .before .before .good)
-
-part-step-end : tie.Need-part-step-end Inv-loop μ-loop
-part-step-end c = omega (arith, fits (c .before .before), c .before .before .before .before .before .before .before .before .before .before .before .before .before .before .before .good)
-
-add-step-2 : tie.Need-add-step-2 Inv-loop μ-loop
-add-step-2 c = omega (arith, fits (c .before .before .before .before), c .before .before .before .before .before .before .before .before .before .before .before .before .before .before .before .before .before .good)
-
-mul-step-2 : tie.Need-mul-step-2 Inv-loop μ-loop
-mul-step-2 c = omega (arith, fits (c .before .before .before .before), c .before .before .before .before .before .before .before .before .before .before .before .before .before .before .before .before .before .good)
-
-sub-step-2 : tie.Need-sub-step-2 Inv-loop μ-loop
-sub-step-2 c = omega (arith, fits (c .before .before .before .before), c .before .before .before .before .before .before .before .before .before .before .before .before .before .before .before .before .before .good)
-
-part-step-start-2 : tie.Need-part-step-start-2 Inv-loop μ-loop
-part-step-start-2 c = omega (arith, fits (c .before .before .before .before), c .before .before .before .before .before .before .before .before .before .before .before .before .before .before .before .before .before .good)
-
-part-step-end-2 : tie.Need-part-step-end-2 Inv-loop μ-loop
-part-step-end-2 c = omega (arith, fits (c .before .before .before .before), c .before .before .before .before .before .before .before .before .before .before .before .before .before .before .before .before .before .good)
-
-add-step-3 : tie.Need-add-step-3 Inv-loop μ-loop
-add-step-3 c = omega (arith, fits (c .before .before .before .before .before .before), c .before .before .before .before .before .before .before .before .before .before .before .before .before .before .before .before .before .before .before .good)
-
-sub-step-3 : tie.Need-sub-step-3 Inv-loop μ-loop
-sub-step-3 c = omega (arith, fits (c .before .before .before .before .before .before), c .before .before .before .before .before .before .before .before .before .before .before .before .before .before .before .before .before .before .before .good)
-
-part-step-start-3 : tie.Need-part-step-start-3 Inv-loop μ-loop
-part-step-start-3 c = omega (arith, fits (c .before .before .before .before .before .before), c .before .before .before .before .before .before .before .before .before .before .before .before .before .before .before .before .before .before .before .good)
-
-part-step-end-3 : tie.Need-part-step-end-3 Inv-loop μ-loop
-part-step-end-3 c = omega (arith, fits (c .before .before .before .before .before .before), c .before .before .before .before .before .before .before .before .before .before .before .before .before .before .before .before .before .before .before .good)
-
-tell-requires : tie.Need-tell-requires Inv-loop μ-loop
-tell-requires c κs = omega (arith, whole (c .before .before .before .before .before .before .before .before .before .before .before .before .before .before .before .before .before .before), c .before .before .before .before .before .before .before .before .before .before .before .before .before .before .before .before .before .before .before .loop .inv .results-long)
-
-add-made : tie.Need-add-made Inv-loop μ-loop
-add-made c = omega (arith, whole (c .before .before .before .before .before .before .before .before .before .before .before .before .before .before .before .before .before .before .before .before .before .before), c .before .before .before .before .before .before .before .before .before .before .before .before .before .before .before .before .before .before .before .before .before .before .before .before .before .before .before .before .before .before .good)
-
-add-d : tie.Need-add-d Inv-loop μ-loop
-add-d c = omega (arith, fits (c .before .before .before .before .before .before .before .before .before .before .before .before .before .before .before .before .before .before), c .before .before .before .before .before .before .before .before .before .before .before .before .before .before .before .before .before .before .before .before .before .before .before .before .loop .inv, c .before .before .before .before .before .before .before .before .before .before .before .before .before .before .before .before .before .before .before .before .before .before .before .before .before .before .before .before .before .before .before .good)
-
-add-n : tie.Need-add-n Inv-loop μ-loop
-add-n c = omega (arith, fits (c .before .before .before .before .before .before .before .before .before .before .before .before .before .before .before .before .before .before .before), c .before .before .before .before .before .before .before .before .before .before .before .before .before .before .before .before .before .before .before .before .before .before .before .before .before .loop .inv, c .before .before .before .before .before .before .before .before .before .before .before .before .before .before .before .before .before .before .before .before .before .before .before .before .before .before .before .before .before .before .before .before .good)
-
-add-t : tie.Need-add-t Inv-loop μ-loop
-add-t c = omega (arith, fits (c .before .before .before .before .before .before .before .before .before .before .before .before .before .before .before .before .before .before .before .before), c .before .before .before .before .before .before .before .before .before .before .before .before .before .before .before .before .before .before .before .before .before .before .before .before .before .before .loop .inv, c .before .before .before .before .before .before .before .before .before .before .before .before .before .before .before .before .before .before .before .before .before .before .before .before .before .before .before .before .before .before .before .before .before .good)
-
-loop-less : tie.Need-loop-less Inv-loop μ-loop
-loop-less c = omega (arith, c .before .before .before .before .before .before .before .before .before .before .before .before .before .before .before .before .before .before .before .before .before .before .before .before .before .loop-test .taken)
+-- the parts that are lent are in their lists, whose bytes a number of the machine counts
+parts : (c : tie.After-known-told Inv-loop μ-loop)
+    → let l = c .before .before .before .before .before .before .loop in
+    let m = c .before .before .before .before .code-at .result in
+    let a = c .before .before .before .before .before .before .before .before .before .before .before .before .before .args in
+    (l .d + m .days ≤ length (a .days .now)) × (l .n + m .numbers ≤ length (l .numbers)) × (l .t + m .text ≤ length (l .text))
+    × (2 * length (a .days .now) < 18446744073709551616) × (2 * length (l .numbers) < 18446744073709551616) × (length (l .text) < 18446744073709551616)
+parts c =
+    let head = c .before .before .before .before .before .before in
+    let good = head .before .before .before .before .before .before .before .good in
+    let room = next-room (c .before .before .before .before .code-at .result) _ _ _ _ (sym (found (c .before .before .before)) ∙ c .before .call .given .1) in
+    let i = head .loop .inv in
+    (omega (arith, room, i), omega (arith, room, i), omega (arith, room, i), omega (arith, good), omega (arith, good, i .numbers-long), omega (arith, good, i .text-long))
 
 loop-again : tie.Need-loop-again Inv-loop μ-loop
 loop-again c =
-    let s = c .before .before .before .before .before .before .before .before .before .before .before .before in
-    let k = c .before .before .before .before .before .before .before .before .before .before .before .before .before .before .before .before .before .before .before .before .before in
-    let p = c .before .before .before .before .before .before .before .before .before .before .before .before .before .before .before .before .before .before .before .before .before .before .before in
-    let w = c .before .before .before .before .before .before .before .before .before .before .before .before .before .before .before .before .before .before .before .before .before .before .before .before .before in
+    let told = c .before .before .before .before .before .before in
+    let s = told .before .before .before .before .before .before in
+    let k = s .before .before .before .before .before .before .before .before .before in
+    let p = k .before .before in
+    let w = p .before .before in
     let l = w .before .loop in
     let m = p .before .code-at .result in
     turned _ _ _ _ _ _ _ _ _ _ _ _ _ _ _ _ _ (l .inv) m _ (s .step .result) _ _ _ _
     (l .d + m .days - l .d) (l .n + m .numbers - l .n) (l .t + m .text - l .t)
     (w .loop-test .taken) (omega (arith, whole w .1, l .inv .results-long)) (p .before .code-at .ensures) (sym (found p) ∙ k .call .given .1)
     (omega arith) (omega arith) (omega arith)
-    (s .step .kept .1 .1 .1 .1 .0) (s .step .kept .1 .1 .1 .1 .1 .0) (s .step .ensures) (c .before .before .before .before .before .before .tell .ensures)
-
-returns-2 : tie.Need-returns-2 Inv-loop μ-loop
-returns-2 c =
-    rw (← c .before .before .whole-of .ensures) (ended-all _ _ _ _ _ _ _ _ _ _ _ _ _ _ _ _ _ (c .before .loop .inv) (c .loop-test .left))
+    (s .step .kept .1 .1 .1 .1 .0) (s .step .kept .1 .1 .1 .1 .1 .0) (s .step .ensures) (told .tell .ensures)
 
 pub calls-spec : {M : Type 1} → statement M
 calls-spec =
@@ -133,32 +63,37 @@ calls-spec =
     Inv-loop
     μ-loop
     (λ c κs. search needs)
-    loop-holds
-    code-at-requires
+    (λ c. starts _ _ _ _ _ _ _ _ (c .before .before .before .before .before .before .pre))
+    (λ c κs. whole c .0)  -- code_at(codes, made)
     (λ c. search needs) (λ c. search needs) (λ c. search needs) (λ c κs. search needs) (λ c. search needs)
     (λ c. search needs) (λ c. search needs) (λ c. search needs) (λ c. search needs)
-    returns
-    add-step
-    mul-step
-    sub-step
-    part-step-start
-    part-step-end
-    add-step-2
-    mul-step-2
-    sub-step-2
-    part-step-start-2
-    part-step-end-2
-    add-step-3
-    sub-step-3
-    part-step-start-3
-    part-step-end-3
+    -- return made
+    (λ c.
+    let p = c .before .before in
+    rw (← p .before .before .before .before .whole-of .ensures)
+    (ended-stop _ _ _ _ _ _ _ _ _ _ _ _ _ _ _ _ _ (p .before .before .before .loop .inv) _ (p .before .code-at .ensures) (sym (found p) ∙ c .enum-told .given .1)))
+    -- &days[d..d + c.days]
+    (λ c. omega (arith, parts (c .before .before))) (λ c. omega (arith, parts (c .before .before))) (λ c. omega (arith, parts (c .before .before)))
+    (λ c. omega (arith, parts (c .before .before))) (λ c. omega (arith, parts (c .before .before)))
+    -- &mut numbers[n..n + c.numbers]
+    (λ c. omega (arith, parts (c .before .before .before .before))) (λ c. omega (arith, parts (c .before .before .before .before))) (λ c. omega (arith, parts (c .before .before .before .before)))
+    (λ c. omega (arith, parts (c .before .before .before .before))) (λ c. omega (arith, parts (c .before .before .before .before)))
+    -- &mut text[t..t + c.text]
+    (λ c. omega (arith, parts (c .before .before .before .before .before .before))) (λ c. omega (arith, parts (c .before .before .before .before .before .before)))
+    (λ c. omega (arith, parts (c .before .before .before .before .before .before))) (λ c. omega (arith, parts (c .before .before .before .before .before .before)))
     (λ c κs. search needs)
-    tell-requires
-    add-made
-    add-d
-    add-n
-    add-t
-    loop-less
+    -- tell(results, made, r.outcome)
+    (λ c κs.
+    let w = c .before .before .before .before .before .before .before .before .before .before .before .before .before .before .before .before .before .before in
+    omega (arith, whole w, w .before .loop .inv .results-long))
+    -- made += 1; d += c.days; n += c.numbers; t += c.text
+    (λ c.
+    let w = c .before .before .before .before .before .before .before .before .before .before .before .before .before .before .before .before .before .before .before .before .before .before in
+    omega (arith, whole w, w .before .before .before .before .before .before .before .before .good))
+    (λ c. omega (arith, parts (c .before .before .before .before .before .before .before .before .before .before .before .before .before .before .before .before .before .before)))
+    (λ c. omega (arith, parts (c .before .before .before .before .before .before .before .before .before .before .before .before .before .before .before .before .before .before .before)))
+    (λ c. omega (arith, parts (c .before .before .before .before .before .before .before .before .before .before .before .before .before .before .before .before .before .before .before .before)))
+    (λ c. omega (arith, c .before .before .before .before .before .before .before .before .before .before .before .before .before .before .before .before .before .before .before .before .before .before .before .before .before .loop-test .taken))
     loop-again
     (λ c. search needs) (λ c. search needs) (λ c. search needs)
-    returns-2)
+    (λ c. rw (← c .before .before .whole-of .ensures) (ended-all _ _ _ _ _ _ _ _ _ _ _ _ _ _ _ _ _ (c .before .loop .inv) (c .loop-test .left))))
