@@ -13,7 +13,8 @@ use Rattle.stabbing_index.specs.Build.{publishable, Builds}
 use Rattle.publishing.specs.Rows.{arrangedColumn}
 use Rattle.standing.specs.declared.Standing.{Standing}
 use Rattle.standing.specs.Places.{loadedOf}
-use Rattle.standing.specs.Standing.{columnOf, Wf, listOf, Fresh, LaidOut}
+use Rattle.standing_list.specs.List.{columnOf, LaidOut}
+use Rattle.standing.specs.Standing.{Wf, listOf, Fresh}
 use Rattle.standing.proofs.Loading.{Loads, loads}
 use Rattle.model.specs.declared.Call.the-variants.{Publish, Write}
 use Rattle.model.specs.Publishing.{publishedOf}
@@ -77,7 +78,7 @@ begins-read text got st ix r l e =
 laid-take : (f : Spell → ℕ) (l : List Spell) (before after : List ℕ) (n : ℕ) → n ≡ length l → after ≡ columnOf f l before → take n after ≡ map f l
 laid-take f l before after n e a = rw (a, e) (take-at (map f l) (drop (length (map f l)) before) (length l) (length-map l f))
 
-module _ (st : Standing) (w : Wf st) {n : ℕ} {ns fs ls ns′ fs′ ls′ : List ℕ} (laid : LaidOut st n ns fs ls ns′ fs′ ls′)
+module _ (st : Standing) (w : Wf st) {n : ℕ} {ns fs ls ns′ fs′ ls′ : List ℕ} (laid : LaidOut (listOf st) n ns fs ls ns′ fs′ ls′)
     {ix ix′ : List ℕ} {r : Bool} (b : Builds (arrangedColumn ns′ fs′ ls′ n ns′) (arrangedColumn ns′ fs′ ls′ n fs′) (arrangedColumn ns′ fs′ ls′ n ls′) n ix r ix′) where
   abbrev l : List Spell
   l = listOf st

@@ -1,5 +1,5 @@
 -- What each call's result is, in terms of the account: pure facts, no code. Assumes nothing.
-use Rattle.basis.proofs.Prelude.{_∙_, _≡_, ap, refl, sym, _-_, _<_, _≤_, suc, ℕ, List, [], _++_, _∷_, reverse-reverse, false, true, drop, getD, length, length-append, length-drop, length-replicate, length-reverse, length-take, take, getD-take, length-take-le, arith}
+use Rattle.basis.proofs.Prelude.{_∙_, _≡_, ap, refl, sym, _-_, _<_, _≤_, suc, ℕ, List, [], _∷_, reverse-reverse, false, true, drop, getD, length, length-append, length-drop, length-replicate, length-reverse, length-take, take, getD-take, length-take-le, arith}
 use Rattle.buffer.specs.Buffer.{over}
 use Rattle.buffer.proofs.Over.{own-over, over-twice}
 use Rattle.refusal.specs.Table.{accepted, unknownNumber, noHistory}
@@ -10,37 +10,40 @@ use Rattle.spell.specs.Same.{sameOf}
 use Rattle.spell.proofs.Order.{text-order}
 use Rattle.spell.specs.Blank.{blank}
 use Rattle.model.specs.Edits.{insert, remove, replace, idle, enterRefusal, amendRefusal, strikeRefusal, takeBackRefusal, frontOr, restOf}
-use Rattle.standing.specs.declared.Undo.{Undo}
+use Rattle.standing_journal.specs.declared.Undo.{Undo}
 use Rattle.standing.specs.declared.Standing.{Standing}
 use Rattle.standing.specs.Standing.{listOf, entries, undo, pastOf, pasts, Goods, Wf, Fresh, Edits, afterTakeBack, TakesBack}
-use Rattle.standing.specs.Search.{indexOf}
-use Rattle.standing.specs.Places.{relisted, holding, blankEntry, freshStanding, entering, replacing, noted}
-use Rattle.standing.proofs.Search.{remove-at}
+use Rattle.standing_list.specs.Search.{indexOf}
+use Rattle.standing.specs.Places.{relisted, holding, freshStanding, entering, replacing, noted}
+use Rattle.standing_journal.specs.Journal.{blankEntry}
+use Rattle.standing_list.specs.List.{without}
+use Rattle.standing_list.proofs.Search.{remove-at}
 use Rattle.standing.proofs.Places.{same, over-same, list-over, past-over, wf-over, over-relisted}
 use Rattle.model.proofs.Edits.{length-insert, removed-gone, orderly-none, orderly-insert, orderly-remove, orderly-replace, remove-none, remove-insert}
 use Rattle.model.proofs.Checks.{enters, amends}
 use Rattle.standing.proofs.Edits.{idle-index, insert-remove}
 use Rattle.standing.proofs.Checks.{found, missed, strike-refusal}
-use Rattle.standing.proofs.Past.{pop, refused, edited}
+use Rattle.standing_journal.proofs.Journal.{pop}
+use Rattle.standing.proofs.Past.{refused, edited}
 
-pub list-length : (st : Standing) → Wf st → length (listOf st) ≡ st .count
-list-length st w = length-take-le (st .count) (st .spells) (omega (arith, w .places, w .count-in))
+pub list-length : {st : Standing} → Wf st → length (listOf st) ≡ st .count
+list-length {st} w = length-take-le (st .count) (st .spells) (omega (arith, w .places, w .count-in))
 
 -- a removal at the place of the number k is the removal of k
-pub removed-is : (k p : ℕ) (l : List Spell) → p ≡ indexOf k l → take p l ++ drop (suc p) l ≡ remove k l
-removed-is k p l e = ap (λ (i : ℕ). take i l ++ drop (suc i) l) e ∙ sym (remove-at k l)
+pub removed-is : (k : ℕ) {p : ℕ} (l : List Spell) → p ≡ indexOf k l → without p l ≡ remove k l
+removed-is k l e = ap (λ (i : ℕ). without i l) e ∙ sym (remove-at k l)
 
 -- the removal of a number that does not stand changes nothing
-pub removed-none : (st : Standing) (k p : ℕ) → st .count ≤ length (st .spells) → p ≡ indexOf k (listOf st) → st .count ≤ p → st ≡ relisted st (remove k (listOf st))
-removed-none st k p fits e h =
+pub removed-none : (st : Standing) (k : ℕ) {p : ℕ} → st .count ≤ length (st .spells) → p ≡ indexOf k (listOf st) → st .count ≤ p → st ≡ relisted st (remove k (listOf st))
+removed-none st k fits e h =
     let long : length (listOf st) ≡ st .count = length-take-le (st .count) (st .spells) fits in
-    rw (remove-none k (listOf st) (missed (listOf st) (st .count) k p long e h)) (same (sym (own-over (st .count) (st .spells) fits)) (sym long) refl refl)
+    rw (remove-none k (listOf st) (missed (listOf st) k long e h)) (same (sym (own-over (st .count) (st .spells) fits)) (sym long) refl refl)
 
 -- ---- Enter
 
-pub enter-made : (st : Standing) (s : Spell) → Wf st → Sound s → enterRefusal (listOf st) s ≡ accepted
+pub enter-made : {st : Standing} {s : Spell} → Wf st → Sound s → enterRefusal (listOf st) s ≡ accepted
     → Edits st (record { standing = holding st (insert s (listOf st)) (noted (entering s) (entries st)); refusal = accepted }) false (enterRefusal (listOf st) s) (insert s (listOf st)) (entering s)
-enter-made st s w sound done =
+enter-made {st} {s} w sound done =
     let e = enters (listOf st) s done in
     edited st (enterRefusal (listOf st) s) (insert s (listOf st)) (entering s) w
     (orderly-insert text-order Sound s (listOf st) (w .good) sound (e .free) (e .room))
@@ -49,9 +52,9 @@ enter-made st s w sound done =
 
 -- ---- Strike and amend: the spell that stands at p goes
 
-module _ (st : Standing) (w : Wf st) (k p : ℕ) (e : p ≡ indexOf k (listOf st)) (h : p < st .count) where
+module _ {st : Standing} (w : Wf st) (k : ℕ) {p : ℕ} (e : p ≡ indexOf k (listOf st)) (h : p < st .count) where
   there : stands (listOf st) k ≡ true
-  there = found (listOf st) (st .count) k p (list-length st w) e h
+  there = found (listOf st) k (list-length w) e h
 
   -- the entry as the code makes it
   entry-is : record { number = k; stood = true; spell = getD (st .spells) p blank } ≡ replacing k (listOf st)
@@ -61,80 +64,53 @@ module _ (st : Standing) (w : Wf st) (k p : ℕ) (e : p ≡ indexOf k (listOf st
   put-back = insert-remove k (listOf st) (w .good .in-order) there
 
   pub strike-made : Edits st
-      (record { standing = holding st (take p (listOf st) ++ drop (suc p) (listOf st)) (noted (record { number = k; stood = true; spell = getD (st .spells) p blank }) (entries st)); refusal = accepted })
+      (record { standing = holding st (without p (listOf st)) (noted (record { number = k; stood = true; spell = getD (st .spells) p blank }) (entries st)); refusal = accepted })
       false
       (strikeRefusal (listOf st) k)
       (remove k (listOf st))
       (replacing k (listOf st))
   strike-made =
-      rw (removed-is k p (listOf st) e, entry-is)
+      rw (removed-is k (listOf st) e, entry-is)
       (edited st (strikeRefusal (listOf st) k) (remove k (listOf st)) (replacing k (listOf st)) w
       (orderly-remove text-order Sound k (listOf st) (w .good) there)
       (unfold undo in rw (remove-none k (remove k (listOf st)) (removed-gone k (listOf st) (w .good .unique))) put-back)
       (unfold strikeRefusal in rw there))
 
-pub strike-unknown : (st : Standing) (w : Wf st) (k p : ℕ) → p ≡ indexOf k (listOf st) → st .count ≤ p
+pub strike-unknown : {st : Standing} (w : Wf st) (k : ℕ) {p : ℕ} → p ≡ indexOf k (listOf st) → st .count ≤ p
     → Edits st (record { standing = st; refusal = unknownNumber }) false (strikeRefusal (listOf st) k) (remove k (listOf st)) (replacing k (listOf st))
-strike-unknown st w k p e h =
-    refused false w (λ z. omega arith) (strike-refusal (listOf st) (st .count) k p (list-length st w) e h)
+strike-unknown {st} w k e h = refused false w (λ z. omega arith) (strike-refusal (listOf st) k (list-length w) e h)
 
 -- the removal leaves room for the insertion
-pub amend-room : (st : Standing) (p : ℕ) → Wf st → p < st .count → length (take p (listOf st) ++ drop (suc p) (listOf st)) < 1024
-amend-room st p w h =
-    omega (arith, length-append (take p (listOf st)) (drop (suc p) (listOf st)), length-take p (listOf st), length-drop (suc p) (listOf st), list-length st w, w .count-in)
+pub amend-room : {st : Standing} {p : ℕ} → Wf st → p < st .count → length (without p (listOf st)) < 1024
+amend-room {st} {p} w h =
+    omega (arith, length-append (take p (listOf st)) (drop (suc p) (listOf st)), length-take p (listOf st), length-drop (suc p) (listOf st), list-length w, w .count-in)
 
 -- what is found is the spell of an idle amend
-pub idle-is : (st : Standing) (s : Spell) (w : Wf st) (p : ℕ) → p ≡ indexOf (s .number) (listOf st) → p < st .count
+pub idle-is : {st : Standing} (s : Spell) (w : Wf st) {p : ℕ} → p ≡ indexOf (s .number) (listOf st) → p < st .count
     → idle (listOf st) s ≡ sameOf (getD (st .spells) p blank) s
-idle-is st s w p e h = rw (← getD-take (st .count) (st .spells) p blank h, e) (idle-index s (listOf st) (there st w (s .number) p e h))
+idle-is {st} s w {p} e h = rw (← getD-take (st .count) (st .spells) p blank h, e) (idle-index s (listOf st) (there w (s .number) e h))
 
-pub amend-made : (st : Standing) (s : Spell) (w : Wf st) (p : ℕ) (e : p ≡ indexOf (s .number) (listOf st)) (h : p < st .count) → Sound s
+pub amend-made : {st : Standing} {s : Spell} (w : Wf st) {p : ℕ} (e : p ≡ indexOf (s .number) (listOf st)) (h : p < st .count) → Sound s
     → amendRefusal (listOf st) s ≡ accepted → idle (listOf st) s ≡ false
-    → let m = relisted st (take p (listOf st) ++ drop (suc p) (listOf st)) in
+    → let m = relisted st (without p (listOf st)) in
     Edits st (record { standing = holding m (insert s (listOf m)) (noted (record { number = s .number; stood = true; spell = getD (st .spells) p blank }) (entries st)); refusal = accepted })
     (idle (listOf st) s)
     (amendRefusal (listOf st) s)
     (replace s (listOf st))
     (replacing (s .number) (listOf st))
-amend-made st s w p e h sound done real =
+amend-made {st} {s} w e h sound done real =
     let k = s .number in
     let less = remove k (listOf st) in
     let there = amends (listOf st) s done .there in
     let free = removed-gone k (listOf st) (w .good .unique) in
     let es = noted (replacing k (listOf st)) (entries st) in
-    rw (real, removed-is k p (listOf st) e, entry-is st w k p e h, list-over st less es, over-relisted st less (insert s less) es (omega (arith, length-insert earlierOf s less)))
+    rw (real, removed-is k (listOf st) e, entry-is w k e h, list-over st less es, over-relisted st less (insert s less) es (omega (arith, length-insert earlierOf s less)))
     (edited st (amendRefusal (listOf st) s) (insert s less) (replacing k (listOf st)) w
     (orderly-replace text-order Sound s (listOf st) (w .good) sound there)
-    (unfold undo in rw (remove-insert earlierOf s less free) (put-back st w k p e h))
+    (unfold undo in rw (remove-insert earlierOf s less free) (put-back w k e h))
     done)
 
 -- ---- Take back
-
-module _ (l : List Spell) (past : List (List Spell)) (none : past ≡ []) where
-  refusal-none : noHistory ≡ takeBackRefusal past
-  unfolding takeBackRefusal
-  refusal-none = rw none
-
-  list-none : l ≡ frontOr l past
-  unfolding frontOr
-  list-none = rw none
-
-  past-none : past ≡ restOf past
-  unfolding restOf
-  past-none = rw none
-
-module _ (l f : List Spell) (past rest : List (List Spell)) (some : past ≡ f ∷ rest) where
-  pub refusal-some : accepted ≡ takeBackRefusal past
-  unfolding takeBackRefusal
-  refusal-some = rw some
-
-  pub list-some : f ≡ frontOr l past
-  unfolding frontOr
-  list-some = rw some
-
-  pub past-some : rest ≡ restOf past
-  unfolding restOf
-  past-some = rw some
 
 no-past : (l : List Spell) → pastOf l [] ≡ []
 unfolding pastOf
@@ -144,23 +120,25 @@ no-past l = refl
 after-is : (st : Standing) (l : List Spell) (es : List Undo) → l ≡ frontOr (listOf st) (pasts st) → es ≡ drop 1 (entries st) → holding st l es ≡ afterTakeBack st
 after-is st l es p q = ap (λ (x : List Spell). holding st x es) p ∙ ap (holding st (frontOr (listOf st) (pasts st))) q
 
-pub takes-none : (st : Standing) → Wf st → st .depth ≡ 0 → TakesBack st (record { standing = st; refusal = noHistory })
-takes-none st w z =
+pub takes-none : {st : Standing} → Wf st → st .depth ≡ 0 → TakesBack st (record { standing = st; refusal = noHistory })
+unfolding takeBackRefusal frontOr restOf
+takes-none {st} w z =
     let none : pasts st ≡ [] = rw z (no-past (listOf st)) in
+    let same : listOf st ≡ frontOr (listOf st) (pasts st) = rw none in
     record {
-      refusal = refusal-none (listOf st) (pasts st) none;
+      refusal = rw none;
       wf = w;
-      list = list-none (listOf st) (pasts st) none;
-      past = past-none (listOf st) (pasts st) none;
+      list = same;
+      past = rw none;
       kept = λ _. refl;
-      whole = sym (over-same st w) ∙ after-is st (listOf st) (entries st) (list-none (listOf st) (pasts st) none) (rw z);
+      whole = sym (over-same st w) ∙ after-is st (listOf st) (entries st) same (rw z);
     }
 
 -- the journal without its newest entry
 abbrev pub lowered : Standing → Standing
 lowered st = record { spells = st .spells; count = st .count; journal = st .journal; depth = st .depth - 1 }
 
-module _ (st : Standing) (w : Wf st) (some : st .depth ≡ 0 → ⊥) where
+module _ {st : Standing} (w : Wf st) (some : st .depth ≡ 0 → ⊥) where
   abbrev newest : Undo
   newest = getD (st .journal) (st .depth - 1) blankEntry
 
@@ -192,16 +170,18 @@ module _ (st : Standing) (w : Wf st) (some : st .depth ≡ 0 → ⊥) where
       (sym (length-reverse (take d (st .journal)) ∙ length-take-le d (st .journal) fits))
 
   takes-back : TakesBack st (record { standing = relisted (lowered st) front; refusal = accepted })
+  unfolding takeBackRefusal frontOr restOf
   takes-back =
       let is = lowered-is front in
+      let list : front ≡ frontOr (listOf st) (pasts st) = rw past-is in
       let wf = wf-over st front rest w (front-good .0) (omega (arith, length-reverse (take (st .depth - 1) (st .journal)), length-take (st .depth - 1) (st .journal), w .depth-in)) (front-good .1) in
       record {
-        refusal = refusal-some (listOf st) front (pasts st) (pastOf front rest) past-is;
+        refusal = rw past-is;
         wf = rw is wf;
-        list = list-over st front rest ∙ list-some (listOf st) front (pasts st) (pastOf front rest) past-is;
-        past = ap pasts is ∙ past-over st front rest ∙ past-some (listOf st) front (pasts st) (pastOf front rest) past-is;
+        list = list-over st front rest ∙ list;
+        past = ap pasts is ∙ past-over st front rest ∙ rw past-is;
         kept = λ none. absurd (never none);
-        whole = is ∙ after-is st front rest (list-some (listOf st) front (pasts st) (pastOf front rest) past-is) (sym (ap (drop 1) entries-are));
+        whole = is ∙ after-is st front rest list (sym (ap (drop 1) entries-are));
       }
     where
       never : pasts st ≡ [] → ⊥

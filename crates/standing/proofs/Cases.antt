@@ -8,12 +8,13 @@ use Rattle.spell.specs.Listing.{stands}
 use Rattle.spell.specs.Same.{sameOf}
 use Rattle.model.specs.Edits.{insert, insertBy, remove, replace, idle, enterRefusal, amendRefusal, strikeRefusal, frontOr}
 use Rattle.packing.specs.Words.{spellWords, spellOf, urgencyOf}
-use Rattle.standing.specs.declared.Undo.{Undo}
+use Rattle.standing_journal.specs.declared.Undo.{Undo}
 use Rattle.standing.specs.declared.Standing.{Standing}
-use Rattle.standing.specs.Search.{lead}
-use Rattle.standing.specs.Places.{blankEntry, entering, replacing}
+use Rattle.standing_list.specs.Search.{lead}
+use Rattle.standing_journal.specs.Journal.{blankEntry}
+use Rattle.standing_journal.specs.Words.{entryWords, entryOf}
+use Rattle.standing.specs.Places.{entering, replacing}
 use Rattle.standing.specs.Standing.{listOf, undo, pastOf, afterEdit, afterTakeBack}
-use Rattle.standing.specs.Packed.{entryWords, entryOf}
 
 -- ---- An entry's words
 

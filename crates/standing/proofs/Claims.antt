@@ -1,20 +1,21 @@
 -- What the calls are for, as their contracts give it. Assumes nothing.
-use Rattle.basis.proofs.Prelude.{_∙_, _≡_, refl, sym, Bool, false, false≢true, true, _⊎_, inl, inr, _≤_, ℕ, List, _∷_, length, length-reverse, length-take, take, arith, eq-eqb, ne-eqb}
+use Rattle.basis.proofs.Prelude.{_∙_, _≡_, refl, Bool, false, false≢true, true, _⊎_, inl, inr, _≤_, ℕ, List, _∷_, length, length-reverse, length-take, take, arith, eq-eqb, ne-eqb}
 use Rattle.refusal.specs.Table.{accepted}
 use Rattle.spell.specs.declared.Spell.{Spell}
-use Rattle.model.specs.Edits.{remember}
+use Rattle.model.specs.Edits.{remember, takeBackRefusal, frontOr, restOf}
 use Rattle.packing.specs.Blocks.{Every}
 use Rattle.packing.specs.Words.{Narrow, spellWords, spellOf}
 use Rattle.packing.proofs.Blocks.{every-map}
 use Rattle.packing.proofs.Words.{spell-back}
-use Rattle.standing.specs.declared.Undo.{Undo}
+use Rattle.standing_journal.specs.declared.Undo.{Undo}
 use Rattle.standing.specs.declared.Standing.{Standing}
 use Rattle.standing.specs.declared.Edited.{Edited}
 use Rattle.standing.specs.Standing.{listOf, entries, pasts, Wf, Edits, TakesBack}
-use Rattle.standing.specs.Packed.{entryWords, entryOf, packed, unpacked}
+use Rattle.standing_journal.specs.Words.{entryWords, entryOf}
+use Rattle.standing_journal.proofs.Words.{entry-back}
+use Rattle.standing.specs.Packed.{packed, unpacked}
 use Rattle.standing.proofs.Past.{length-past}
-use Rattle.standing.proofs.Packed.{entry-back, unpacked-packed}
-use Rattle.standing.proofs.Calls.{refusal-some, list-some, past-some}
+use Rattle.standing.proofs.Packed.{unpacked-packed}
 
 -- the past is at most 64 lists
 pub past-short : (st : Standing) → Wf st → length (pasts st) ≤ 64
@@ -37,14 +38,8 @@ module _ (st : Standing) (r : Edited) (n : ℕ) (l′ : List Spell) (u : Undo) (
 
   -- a take back right after it is accepted, and gives the former standing list
   pub taken-back : (b : Edited) → n ≡ accepted → TakesBack (r .standing) b → (b .refusal ≡ accepted) × (listOf (b .standing) ≡ listOf st) × (pasts (b .standing) ≡ take 63 (pasts st))
-  taken-back b h t =
-      let l = listOf (r .standing) in
-      let p = pasts (r .standing) in
-      let rest = take 63 (pasts st) in (
-        t .refusal ∙ sym (refusal-some l (listOf st) p rest (remembered h)),
-        t .list ∙ sym (list-some l (listOf st) p rest (remembered h)),
-        t .past ∙ sym (past-some l (listOf st) p rest (remembered h)),
-      )
+  unfolding takeBackRefusal frontOr restOf
+  taken-back b h t = (t .refusal ∙ rw (remembered h), t .list ∙ rw (remembered h), t .past ∙ rw (remembered h))
 
 -- PACKING IS THE IDENTITY: the words of a standing list that the calls gave read back as it, all its places, used or not. Of each
 -- place no more is asked than what the checker knows of every value: a grade is 16 bits wide, and a reading is a 32-bit float.

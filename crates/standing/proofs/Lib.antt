@@ -1,12 +1,9 @@
-pub mod Lists
 pub mod Places
-pub mod Search
 pub mod Edits
 pub mod Checks
 pub mod Past
 pub mod Held
 pub mod Calls
-pub mod Rows
 pub mod Claims
 pub mod Loading
 pub mod Packed

@@ -1,50 +1,13 @@
 -- The words of a standing list read back as it. Assumes nothing.
-use Rattle.basis.proofs.Prelude.{_∙_, _≡_, ap, refl, sym, _+_, _-_, _≤_, suc, ℕ, List, [], _++_, _∷_, append-assoc, append-nil, Bool, cond, false, not, true, eqb, drop, drop-of-length-le, getD, length, length-append, length-drop, length-set, set, take, drop-at, drop-drop, getD-append-add, getD-at, getD-drop, sets-eq, take-all, take-at, add-zero, add-one, add-two, arith}
-use mir.Val.{boolByte}
-use Rattle.packing.specs.Blocks.{put, written, parts, Every, PutAll}
+use Rattle.basis.proofs.Prelude.{_∙_, _≡_, ap, refl, sym, _+_, _-_, ℕ, List, [], _++_, _∷_, append-assoc, append-nil, drop, drop-of-length-le, getD, length, length-append, length-drop, set, take, drop-at, getD-append-add, getD-at, sets-eq, take-all, take-at, arith}
+use Rattle.packing.specs.Blocks.{written, parts, Every, PutAll}
 use Rattle.packing.specs.Words.{spellWords, spellOf}
-use Rattle.packing.proofs.Blocks.{put-sets, put-first, written-length, read-back}
+use Rattle.packing.proofs.Blocks.{put-first, written-length, read-back}
 use Rattle.packing.proofs.Words.{spell-long, spell-reads}
-use Rattle.standing.specs.declared.Undo.{Undo}
 use Rattle.standing.specs.declared.Standing.{Standing}
-use Rattle.standing.specs.Packed.{entryWords, entryOf, packed, unpacked, Packs}
-
--- ---- An entry of the journal
-
-pub entry-long : (e : Undo) → length (entryWords e) ≡ 9
-unfolding entryWords
-entry-long e = ap (λ (n : ℕ). suc (suc n)) (spell-long (e .spell))
-
-entry-reads : (e : Undo) (r : List ℕ) → entryOf (entryWords e ++ r) ≡ entryOf (entryWords e)
-unfolding entryWords entryOf
-entry-reads e r = rw (spell-reads (e .spell) r)
-
-flag-back : (b : Bool) → not (eqb (cond b 1 0) 0) ≡ b
-flag-back true = refl
-flag-back false = refl
-
-pub entry-back : (e : Undo) → spellOf (spellWords (e .spell)) ≡ e .spell → entryOf (entryWords e) ≡ e
-unfolding entryWords entryOf
-entry-back e h = rw (h, flag-back (e .stood))
-
--- as the code reads it
-pub entry-at : (l : List ℕ) (at : ℕ) → entryOf (drop at l) ≡ record { number = getD l at 0; stood = not (eqb (getD l (at + 1) 0) 0); spell = spellOf (drop (at + 2) l) }
-unfolding entryOf
-entry-at l at = simp (getD-drop, drop-drop, add-zero)
-
--- as the code writes it: two stores, and the spell's words after them
-as-number : (b : Bool) → boolByte b ≡ cond b 1 0
-as-number true = refl
-as-number false = refl
-
-pub put-entry : (e : Undo) (l : List ℕ) (at : ℕ) → at + 9 ≤ length l
-    → put (at + 2) (spellWords (e .spell)) (set (set l at (e .number)) (at + 1) (boolByte (e .stood))) ≡ put at (entryWords e) l
-put-entry e l at h =
-    rw as-number
-    (sym (put-sets (at + 2) (spellWords (e .spell)) (set (set l at (e .number)) (at + 1) (cond (e .stood) 1 0)) (simp length-set (omega (arith, spell-long (e .spell)))))
-    ∙ rw (add-one, add-two) (unfold entryWords in put-sets at (entryWords e) l (omega (arith, entry-long e))))
-
--- ---- The standing list
+use Rattle.standing_journal.specs.Words.{entryWords, entryOf}
+use Rattle.standing_journal.proofs.Words.{entry-long, entry-reads}
+use Rattle.standing.specs.Packed.{packed, unpacked, Packs}
 
 -- as the code reads it: the journal from the part after the array
 pub read-standing : (l : List ℕ)

@@ -1,10 +1,10 @@
 -- What stands in the places of an array whose first ones were written, and of a standing list so made. Assumes nothing.
-use Rattle.basis.proofs.Prelude.{_∙_, _≡_, ap, refl, sym, _+_, _-_, _≤_, ℕ, List, _++_, reverse, reverse-reverse, drop, length, length-append, length-drop, length-replicate, length-reverse, replicate, replicate-append-replicate, take, take-append-drop, drop-append-add, drop-at, drop-drop, length-take-le, take-append-seam, take-at, arith}
+use Rattle.basis.proofs.Prelude.{_∙_, _≡_, ap, refl, _-_, _≤_, ℕ, List, reverse, reverse-reverse, drop, length, length-reverse, take, length-take-le, take-append-seam, take-at, arith}
 use Rattle.buffer.specs.Buffer.{over}
 use Rattle.buffer.proofs.Over.{own-over, over-length, over-twice}
 use Rattle.spell.specs.declared.Spell.{Spell}
 use Rattle.spell.specs.Listing.{Good}
-use Rattle.standing.specs.declared.Undo.{Undo}
+use Rattle.standing_journal.specs.declared.Undo.{Undo}
 use Rattle.standing.specs.declared.Standing.{Standing}
 use Rattle.standing.specs.Places.{relisted, holding}
 use Rattle.standing.specs.Standing.{listOf, entries, pastOf, pasts, Goods, Wf}

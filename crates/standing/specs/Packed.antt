@@ -1,21 +1,12 @@
 -- A standing list in words of 16 bits, and the standing list of any words. Assumes nothing.
 use Prim.Native.Nat.{ℕ}
 use mathlib.Core.Path.{_≡_}
-use mathlib.Core.Bool.{not, cond}
 use mathlib.Core.List.{List, [], _∷_, _++_}
-use lib.Dec.{eqb}
 use lib.ListN.{getD, drop}
 use Rattle.packing.specs.Blocks.{written, parts}
 use Rattle.packing.specs.Words.{spellWords, spellOf}
-use Rattle.standing.specs.declared.Undo.{Undo}
+use Rattle.standing_journal.specs.Words.{entryWords, entryOf}
 use Rattle.standing.specs.declared.Standing.{Standing}
-
--- an entry of the journal: its number, 1 or 0 for a spell that stood or none, and the spell's words
-unfoldable pub entryWords : Undo → List ℕ
-entryWords e = e .number ∷ cond (e .stood) 1 0 ∷ spellWords (e .spell)
-
-unfoldable pub entryOf : List ℕ → Undo
-entryOf l = record { number = getD l 0 0; stood = not (eqb (getD l 1 0) 0); spell = spellOf (drop 2 l) }
 
 -- all places of the array, all places of the journal, the count and the depth
 unfoldable pub packed : Standing → List ℕ

@@ -1,15 +1,17 @@
 -- All places of a standing list's arrays, used or not: what stands in each after a call. Assumes nothing.
 use Prim.Native.Nat.{ℕ}
 use mathlib.Core.Bool.{true, false}
-use mathlib.Core.List.{List, _∷_, _++_, reverse}
-use lib.ListN.{length, getD, take, drop, replicate}
+use mathlib.Core.List.{List, reverse}
+use lib.ListN.{length, getD, replicate}
 use Rattle.buffer.specs.Buffer.{over}
 use Rattle.spell.specs.declared.Spell.{Spell}
 use Rattle.spell.specs.Blank.{blank}
 use Rattle.register.specs.declared.Reading.{Reading}
-use Rattle.standing.specs.declared.Undo.{Undo}
+use Rattle.standing_list.specs.Search.{indexOf}
+use Rattle.standing_journal.specs.declared.Undo.{Undo}
+use Rattle.standing_journal.specs.Journal.{blankEntry}
 use Rattle.standing.specs.declared.Standing.{Standing}
-use Rattle.standing.specs.Search.{indexOf}
+pub use Rattle.standing_journal.specs.Journal.{noted}
 
 -- ---- Values in the first places
 
@@ -26,10 +28,6 @@ abbrev pub holding : Standing → List Spell → List Undo → Standing
 holding st l es = rejournaled (relisted st l) es
 
 -- ---- The beginning
-
--- a place of the journal that holds no entry
-abbrev pub blankEntry : Undo
-blankEntry = record { number = 0; stood = false; spell = blank }
 
 -- a fresh start
 abbrev pub freshStanding : Standing
@@ -48,7 +46,3 @@ entering s = record { number = s .number; stood = false; spell = s }
 -- the spell of the number k goes from the list l, by an amend or a strike: the entry holds it
 abbrev pub replacing : ℕ → List Spell → Undo
 replacing k l = record { number = k; stood = true; spell = getD l (indexOf k l) blank }
-
--- the entry e goes to the front, and a 65th falls off
-abbrev pub noted : Undo → List Undo → List Undo
-noted e es = take 64 (e ∷ es)

@@ -2,15 +2,15 @@
 use Prim.Native.Nat.{ℕ, _≤_}
 use mathlib.Core.Path.{_≡_}
 use mathlib.Core.Bool.{Bool, false, not, _&&_, cond}
-use mathlib.Core.List.{List, [], _∷_, _++_, map, reverse}
+use mathlib.Core.List.{List, [], _∷_}
 use lib.Dec.{eqb}
 use lib.ListN.{length, take, drop}
-use Rattle.buffer.specs.Buffer.{over}
 use Rattle.refusal.specs.Table.{accepted}
 use Rattle.spell.specs.declared.Spell.{Spell}
 use Rattle.spell.specs.Listing.{Good}
 use Rattle.model.specs.Edits.{insert, remove, takeBackRefusal, remember, frontOr, restOf}
-use Rattle.standing.specs.declared.Undo.{Undo}
+use Rattle.standing_journal.specs.declared.Undo.{Undo}
+use Rattle.standing_journal.specs.Journal.{newestFirst}
 use Rattle.standing.specs.declared.Standing.{Standing}
 use Rattle.standing.specs.declared.Edited.{Edited}
 use Rattle.standing.specs.Places.{holding, freshStanding, noted}
@@ -25,7 +25,7 @@ listOf st = take (st .count) (st .spells)
 
 -- the entries of the journal, newest first
 abbrev pub entries : Standing → List Undo
-entries st = reverse (take (st .depth) (st .journal))
+entries st = newestFirst (st .depth) (st .journal)
 
 -- one edit taken back: the number's spell goes, and the one that stood before the edit, if one did, is put in
 unfoldable pub undo : Undo → List Spell → List Spell
@@ -99,16 +99,3 @@ pub record TakesBack (st : Standing) (r : Edited) : Type 0 where
 -- all places after a reading: the list with which the account begins, over a fresh start
 abbrev pub afterReading : Register → Standing
 afterReading g = holding freshStanding (begun g .standing) []
-
--- ---- The columns that publish reads
-
--- one field of each spell of l, in the first places; later places keep what they held
-abbrev pub columnOf : (Spell → ℕ) → List Spell → List ℕ → List ℕ
-columnOf field l before = over (map field l) before
-
--- the numbers, first days and last days of the standing list are laid out
-pub record LaidOut (st : Standing) (r : ℕ) (numbers firsts lasts numbers′ firsts′ lasts′ : List ℕ) : Type 0 where
-  pub count : r ≡ length (listOf st)
-  pub number : numbers′ ≡ columnOf (λ s. s .number) (listOf st) numbers
-  pub first : firsts′ ≡ columnOf (λ s. s .first) (listOf st) firsts
-  pub last : lasts′ ≡ columnOf (λ s. s .last) (listOf st) lasts

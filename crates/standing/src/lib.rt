@@ -1,16 +1,14 @@
 // The standing list: an array of spells in the order, of which the first `count` stand, with a journal of the last 64 edits.
 ghost use mathlib.Core.Path.{_≡_};
 ghost use mathlib.Core.Bool.{false, cond};
-ghost use mathlib.Core.List.{_++_};
-ghost use Prim.Native.Nat.{suc, _≤_, _<_};
-ghost use lib.ListN.{length, take, drop};
+ghost use Prim.Native.Nat.{_≤_, _<_};
 ghost use Rattle.model.specs.Edits.{insert, remove, replace, idle, orElse, enterRefusal, amendRefusal, strikeRefusal};
 ghost use Rattle.refusal.specs.Table.{accepted};
-ghost use Rattle.standing.specs.Search.{placeOf, indexOf};
+ghost use Rattle.standing_list.specs.List.{without, LaidOut};
 ghost use Rattle.standing.specs.Places.{relisted, rejournaled, loadedOf, entering, replacing, noted};
 ghost use Rattle.register.specs.Text.{writeAll};
 ghost use Rattle.register.specs.Answers.{Writes};
-ghost use Rattle.standing.specs.Standing.{listOf, entries, Wf, Fresh, Edits, TakesBack, LaidOut};
+ghost use Rattle.standing.specs.Standing.{listOf, entries, Wf, Fresh, Edits, TakesBack};
 use refusal::ACCEPTED;
 use refusal::DUPLICATE_NUMBER;
 use refusal::FULL;
@@ -19,16 +17,11 @@ use refusal::UNKNOWN_NUMBER;
 use register::Reading;
 use register::Written;
 use spell::Spell;
+use standing_journal::Undo;
+use standing_list::Sought;
 
 // words.rt: the standing list in words of 16 bits, and back.
 pub mod words;
-
-// How to go back one edit: the spell number, and the spell that stood under it before, if one did.
-pub struct Undo {
-    number: u16,
-    stood: bool,
-    spell: Spell,
-}
 
 // The journal has its oldest entry first and the newest at `depth - 1`. Its fields are private: other crates have a
 // standing list only from the calls.
@@ -50,11 +43,7 @@ pub fn fresh() -> Standing
     ensures { λ r. ⌜ Fresh r ⌝ }
 {
     let none = spell::blank();
-    let entry = Undo {
-        number: 0,
-        stood: false,
-        spell: none,
-    };
+    let entry = standing_journal::none();
     Standing {
         spells: [none; 1024],
         count: 0,
@@ -65,73 +54,31 @@ pub fn fresh() -> Standing
 
 // ---- The list
 
-// How many of the standing spells come before s, up to the first that does not.
-fn place(st: Standing, s: Spell) -> usize
-    requires { ⌜ st .count ≤ 1024 ⌝ }
-    ensures { λ r. ⌜ r ≡ placeOf s (listOf st) ⌝ }
-{
-    let n = st.count;
-    let mut i = 0;
-    while i < n {
-        let x = st.spells[i];
-        if !spell::earlier(x, s) {
-            return i;
-        }
-        i += 1;
-    }
-    i
-}
-
-// Where the number k stands, or the count where it does not.
-fn find(st: Standing, k: u16) -> usize
-    requires { ⌜ st .count ≤ 1024 ⌝ }
-    ensures { λ r. ⌜ r ≡ indexOf k (listOf st) ⌝ }
-{
-    let n = st.count;
-    let mut i = 0;
-    while i < n {
-        let x = st.spells[i];
-        if x.number == k {
-            return i;
-        }
-        i += 1;
-    }
-    i
-}
-
-// s put in at its place: the spells from there on move up by one.
+// s put in at its place.
 fn inserted(st: Standing, s: Spell) -> Standing
     requires { ⌜ st .count < 1024 ⌝ }
     ensures { λ r. ⌜ r ≡ relisted st (insert s (listOf st)) ⌝ }
 {
-    let p = place(st, s);
+    let n = st.count;
+    let spells = st.spells;
+    let more = standing_list::inserted(spells, n, s);
     let mut a = st;
-    let n = a.count;
-    let mut i = n;
-    while p < i {
-        let x = a.spells[i - 1];
-        a.spells[i] = x;
-        i -= 1;
-    }
-    a.spells[i] = s;
+    a.spells = more;
     a.count = n + 1;
     a
 }
 
-// The spell at p taken out: the spells after it move down by one.
+// The spell at p taken out.
 fn removed_at(st: Standing, p: usize) -> Standing
     requires { ⌜ st .count ≤ 1024 ⌝ }
     requires { ⌜ p < st .count ⌝ }
-    ensures { λ r. ⌜ r ≡ relisted st (take p (listOf st) ++ drop (suc p) (listOf st)) ⌝ }
+    ensures { λ r. ⌜ r ≡ relisted st (without p (listOf st)) ⌝ }
 {
+    let n = st.count;
+    let spells = st.spells;
+    let less = standing_list::removed_at(spells, n, p);
     let mut a = st;
-    let n = a.count;
-    let mut i = p;
-    while i + 1 < n {
-        let x = a.spells[i + 1];
-        a.spells[i] = x;
-        i += 1;
-    }
+    a.spells = less;
     a.count = n - 1;
     a
 }
@@ -141,8 +88,9 @@ fn removed(st: Standing, k: u16) -> Standing
     requires { ⌜ st .count ≤ 1024 ⌝ }
     ensures { λ r. ⌜ r ≡ relisted st (remove k (listOf st)) ⌝ }
 {
-    let p = find(st, k);
     let n = st.count;
+    let spells = st.spells;
+    let p = standing_list::find(spells, n, Sought::Number(k));
     if p < n {
         return removed_at(st, p);
     }
@@ -151,25 +99,20 @@ fn removed(st: Standing, k: u16) -> Standing
 
 // ---- The journal
 
-// The entry e put at the end. Where the journal is full, its oldest entry goes and the others move down by one.
+// The entry e put at the end; where the journal is full, its oldest entry goes.
 fn pushed(st: Standing, e: Undo) -> Standing
     requires { ⌜ st .depth ≤ 64 ⌝ }
     ensures { λ r. ⌜ r ≡ rejournaled st (noted e (entries st)) ⌝ }
 {
+    let d = st.depth;
+    let journal = st.journal;
+    let more = standing_journal::pushed(journal, d, e);
     let mut a = st;
-    let d = a.depth;
-    if d < 64 {
-        a.journal[d] = e;
-        a.depth = d + 1;
+    a.journal = more;
+    if d == 64 {
         return a;
     }
-    let mut i = 0;
-    while i < 63 {
-        let x = a.journal[i + 1];
-        a.journal[i] = x;
-        i += 1;
-    }
-    a.journal[63] = e;
+    a.depth = d + 1;
     a
 }
 
@@ -204,7 +147,9 @@ pub fn enter(st: Standing, s: Spell) -> Edited
 {
     let n = st.count;
     let number = s.number;
-    let taken = refusal_if(find(st, number) < n, DUPLICATE_NUMBER);
+    let spells = st.spells;
+    let p = standing_list::find(spells, n, Sought::Number(number));
+    let taken = refusal_if(p < n, DUPLICATE_NUMBER);
     let full = refusal_if(n >= 1024, FULL);
     let refusal = first_of(spell::refusal_of(s), first_of(taken, full));
     if refusal != ACCEPTED {
@@ -233,7 +178,8 @@ pub fn amend(st: Standing, s: Spell) -> Edited
 {
     let n = st.count;
     let number = s.number;
-    let p = find(st, number);
+    let spells = st.spells;
+    let p = standing_list::find(spells, n, Sought::Number(number));
     let refusal = first_of(spell::refusal_of(s), refusal_if(p >= n, UNKNOWN_NUMBER));
     if refusal != ACCEPTED {
         return Edited {
@@ -268,7 +214,8 @@ pub fn strike(st: Standing, number: u16) -> Edited
     ensures { λ r. ⌜ Edits st r false (strikeRefusal (listOf st) number) (remove number (listOf st)) (replacing number (listOf st)) ⌝ }
 {
     let n = st.count;
-    let p = find(st, number);
+    let spells = st.spells;
+    let p = standing_list::find(spells, n, Sought::Number(number));
     if p >= n {
         return Edited {
             standing: st,
@@ -356,27 +303,8 @@ pub fn columns(
     last: &mut [u16; 1024],
 ) -> usize
     requires { ⌜ Wf st ⌝ }
-    ensures { λ r. ⌜ LaidOut st r (now (number .entry)) (now (first .entry)) (now (last .entry)) (now (number .exit)) (now (first .exit)) (now (last .exit)) ⌝ }
+    ensures { λ r. ⌜ LaidOut (listOf st) r (now (number .entry)) (now (first .entry)) (now (last .entry)) (now (number .exit)) (now (first .exit)) (now (last .exit)) ⌝ }
 {
-    lay_out(st, number, first, last)
-}
-
-// The same over slices, each with a place for every spell.
-fn lay_out(st: Standing, number: &mut [u16], first: &mut [u16], last: &mut [u16]) -> usize
-    requires { ⌜ Wf st ⌝ }
-    requires { ⌜ 1024 ≤ length (now number) ⌝ }
-    requires { ⌜ 1024 ≤ length (now first) ⌝ }
-    requires { ⌜ 1024 ≤ length (now last) ⌝ }
-    ensures { λ r. ⌜ LaidOut st r (now (number .entry)) (now (first .entry)) (now (last .entry)) (now (number .exit)) (now (first .exit)) (now (last .exit)) ⌝ }
-{
-    let count = st.count;
-    let mut i = 0;
-    while i < count {
-        let x = st.spells[i];
-        number[i] = x.number;
-        first[i] = x.first;
-        last[i] = x.last;
-        i += 1;
-    }
-    count
+    let spells = st.spells;
+    standing_list::columns(spells, st.count, number, first, last)
 }

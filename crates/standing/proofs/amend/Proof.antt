@@ -1,8 +1,6 @@
-use Rattle.basis.proofs.Prelude.{_∙_, _≡_, ap, sym, _<_, false, getD, arith, needs}
+use Rattle.basis.proofs.Prelude.{_∙_, _≡_, ap, sym, _<_, arith, needs}
 use Rattle.refusal.specs.Table.{accepted}
 use Rattle.spell.specs.declared.Spell.{Spell}
-use Rattle.spell.specs.Blank.{blank}
-use Rattle.spell.specs.Same.{sameOf}
 use Rattle.model.specs.Edits.{idle, amendRefusal}
 use Rattle.standing.specs.declared.Standing.{Standing}
 use Rattle.standing.specs.Standing.{listOf}
@@ -20,7 +18,7 @@ abbrev found : tie.After-first-of → tie.After-find
 found c = c .before .before .before
 
 abbrev start : tie.After-first-of → tie.Start
-start c = found c .before
+start c = found c .before .before
 
 abbrev st : tie.After-first-of → Standing
 st c = start c .args .t1
@@ -33,13 +31,7 @@ checked : (c : tie.After-first-of) → amendRefusal (listOf (st c)) (s c) ≡ c 
 checked c =
     let unknown = c .before in
     let own = unknown .before in
-    amend-refusal (listOf (st c)) (s c) (st c .count) (found c .find .result) (list-length (st c) (start c .pre)) (found c .find .ensures)
-    (unknown .refusal-if .result)
-    (own .refusal-of .result)
-    (c .first-of .result)
-    (unknown .refusal-if .ensures)
-    (own .refusal-of .ensures)
-    (c .first-of .ensures)
+    amend-refusal (listOf (st c)) (s c) (list-length (start c .pre)) (found c .find .ensures) (own .refusal-of .ensures) (unknown .refusal-if .ensures) (c .first-of .ensures)
 
 passed : (c : tie.Else1) → amendRefusal (listOf (st (c .before))) (s (c .before)) ≡ accepted
 passed c = checked (c .before) ∙ c .if1 .left
@@ -48,19 +40,19 @@ passed c = checked (c .before) ∙ c .if1 .left
 there : (c : tie.Else1) → found (c .before) .find .result < st (c .before) .count
 there c =
     let d = c .before in
-    place-in (listOf (st d)) (st d .count) (s d .number) (found d .find .result) (list-length (st d) (start d .pre)) (found d .find .ensures) (amends (listOf (st d)) (s d) (passed c) .there)
+    place-in (listOf (st d)) (s d .number) (list-length (start d .pre)) (found d .find .ensures) (amends (listOf (st d)) (s d) (passed c) .there)
 
 -- the comparison with the spell that stands tells an idle amend
 compared : (c : tie.After-same) → let d = c .before .before .before in idle (listOf (st d)) (s d) ≡ c .same .result
 compared c =
     let d = c .before .before .before in
-    idle-is (st d) (s d) (start d .pre) (found d .find .result) (found d .find .ensures) (there (c .before .before)) ∙ sym (c .same .ensures)
+    idle-is (s d) (start d .pre) (found d .find .ensures) (there (c .before .before)) ∙ sym (c .same .ensures)
 
 inserted-requires : tie.Need-inserted-requires
 inserted-requires c κs =
     let e1 = c .before .before .before .before in
     let d = e1 .before in
-    omega (arith, ap (λ (r : Standing). r .count) (c .removed-at .ensures), amend-room (st d) (found d .find .result) (start d .pre) (there e1))
+    omega (arith, ap (λ (r : Standing). r .count) (c .removed-at .ensures), amend-room (start d .pre) (there e1))
 
 returns-3 : tie.Need-returns-3
 returns-3 c =
@@ -69,7 +61,7 @@ returns-3 c =
     let e1 = differs .before .before .before in
     let d = e1 .before in
     rw (c .pushed .ensures, c .before .inserted .ensures, gone .removed-at .ensures)
-    (amend-made (st d) (s d) (start d .pre) (found d .find .result) (found d .find .ensures) (there e1)
+    (amend-made (start d .pre) (found d .find .ensures) (there e1)
     (sound (s d) _ (start d .good .1 .0) (amends (listOf (st d)) (s d) (passed e1) .passes)) (passed e1) (compared (differs .before) ∙ differs .if2 .left))
 
 pub amend-spec : {M : Type 1} → statement M

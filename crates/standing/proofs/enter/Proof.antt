@@ -1,64 +1,42 @@
+-- `standing::enter` meets its contract. Assumes nothing.
 use Rattle.basis.proofs.Prelude.{_∙_, _≡_, false, arith, needs}
 use Rattle.refusal.specs.Table.{accepted}
+use Rattle.spell.specs.declared.Spell.{Spell}
 use Rattle.model.specs.Edits.{enterRefusal}
+use Rattle.model.proofs.Checks.{enters}
+use Rattle.standing.specs.declared.Standing.{Standing}
 use Rattle.standing.specs.Standing.{listOf}
 use Rattle.standing.proofs.Held.{sound}
-use Rattle.model.proofs.Checks.{enters}
 use Rattle.standing.proofs.Checks.{enter-refusal}
 use Rattle.standing.proofs.Past.{refused}
 use Rattle.standing.proofs.Calls.{list-length, enter-made}
 use Rattle.standing.proofs.enter.Statement.{statement}
 use Rattle.standing.proofs.enter.Tie as tie
 
+-- ---- The places of the code
+
+abbrev found : tie.After-first-of2 → tie.After-find
+found c = c .before .before .before .before .before
+
+abbrev start : tie.After-first-of2 → tie.Start
+start c = found c .before .before
+
+abbrev st : tie.After-first-of2 → Standing
+st c = start c .args .st
+
+abbrev s : tie.After-first-of2 → Spell
+s c = start c .args .s
+
 -- the checks give the account's refusal
-checked : (c : tie.After-first-of2)
-    → let a = c .before .before .before .before .before .before .args in enterRefusal (listOf (a .st)) (a .s) ≡ c .first-of2 .result
+checked : (c : tie.After-first-of2) → enterRefusal (listOf (st c)) (s c) ≡ c .first-of2 .result
 checked c =
     let own = c .before .before in
     let most = own .before in
     let taken = most .before in
-    let found = taken .before in
-    let start = found .before in
-    let st = start .args .st in
-    enter-refusal (listOf st) (start .args .s) (st .count) (found .find .result) (list-length st (start .pre)) (found .find .ensures)
-    (taken .refusal-if .result)
-    (most .refusal-if2 .result)
-    (own .refusal-of .result)
-    (c .before .first-of .result)
-    (c .first-of2 .result)
-    (taken .refusal-if .ensures)
-    (most .refusal-if2 .ensures)
-    (own .refusal-of .ensures)
-    (c .before .first-of .ensures)
-    (c .first-of2 .ensures)
+    enter-refusal (listOf (st c)) (s c) (list-length (start c .pre)) (found c .find .ensures) (own .refusal-of .ensures) (taken .refusal-if .ensures) (most .refusal-if2 .ensures) (c .before .first-of .ensures) (c .first-of2 .ensures)
 
-passed : (c : tie.Else1) → let a = c .before .before .before .before .before .before .before .args in enterRefusal (listOf (a .st)) (a .s) ≡ accepted
+passed : (c : tie.Else1) → enterRefusal (listOf (st (c .before))) (s (c .before)) ≡ accepted
 passed c = checked (c .before) ∙ c .if1 .left
-
-returns : tie.Need-returns
-returns c =
-    let start = c .before .before .before .before .before .before .before in
-    refused false (start .pre) (c .if1 .taken) (checked (c .before))
-
-inserted-requires : tie.Need-inserted-requires
-inserted-requires c κs =
-    let start = c .before .before .before .before .before .before .before in
-    let st = start .args .st in
-    omega (arith, list-length st (start .pre), enters (listOf st) (start .args .s) (passed c) .room)
-
-pushed-requires : tie.Need-pushed-requires
-pushed-requires c κs =
-    let start = c .before .before .before .before .before .before .before .before in
-    rw (c .inserted .ensures) (start .pre .depth-in)
-
-returns-2 : tie.Need-returns-2
-returns-2 c =
-    let e1 = c .before .before in
-    let start = e1 .before .before .before .before .before .before .before in
-    let st = start .args .st in
-    let s = start .args .s in
-    rw (c .pushed .ensures, c .before .inserted .ensures)
-    (enter-made st s (start .pre) (sound s _ (start .good .1 .0) (enters (listOf st) s (passed e1) .passes)) (passed e1))
 
 pub enter-spec : {M : Type 1} → statement M
 enter-spec =
@@ -66,7 +44,14 @@ enter-spec =
     (tie.spec
     (λ c κs. search needs) (λ c κs. search needs) (λ c κs. search needs) (λ c κs. search needs)
     (λ c κs. search needs) (λ c κs. search needs)
-    returns
-    inserted-requires
-    pushed-requires
-    returns-2)
+    -- refused
+    (λ c. refused false (start (c .before) .pre) (c .if1 .taken) (checked (c .before)))
+    -- inserted(st, s)
+    (λ c κs. let d = c .before in omega (arith, list-length (start d .pre), enters (listOf (st d)) (s d) (passed c) .room))
+    -- pushed(more, entry)
+    (λ c κs. rw (c .inserted .ensures) (start (c .before .before) .pre .depth-in))
+    (λ c.
+    let e1 = c .before .before in
+    let d = e1 .before in
+    rw (c .pushed .ensures, c .before .inserted .ensures)
+    (enter-made (start d .pre) (sound (s d) _ (start d .good .1 .0) (enters (listOf (st d)) (s d) (passed e1) .passes)) (passed e1))))

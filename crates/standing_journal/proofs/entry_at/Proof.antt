@@ -1,0 +1,21 @@
+-- `standing_journal::entry_at` meets its contract. Assumes nothing.
+use Rattle.basis.proofs.Prelude.{_∙_, sym, arith, needs}
+use denote.Ref.{now}
+use Rattle.standing_journal.proofs.Words.{entry-at, entry-none}
+use Rattle.standing_journal.proofs.entry_at.Statement.{statement}
+use Rattle.standing_journal.proofs.entry_at.Tie as tie
+
+pub entry-at-spec : {M : Type 1} → statement M
+entry-at-spec =
+    tie.close
+    (tie.spec
+    (λ c κs. search needs)
+    (λ c. let a = c .before .before .before .args in c .none .ensures ∙ sym (entry-none (now (a .words)) (a .at) (omega arith)))
+    (λ c. search needs) (λ c κs. search needs)
+    (λ c. let a = c .before .before .before .before .args in c .none2 .ensures ∙ sym (entry-none (now (a .words)) (a .at) (omega arith)))
+    (λ c. search needs) (λ c κs. search needs) (λ c. search needs) (λ c. search needs) (λ c. search needs)
+    (λ c. search needs) (λ c. search needs)
+    (λ c.
+    let read = c .before .before in
+    let a = read .before .before .before .before .args in
+    rw (read .spell-at .ensures) (sym (entry-at (now (a .words)) (a .at) (omega arith)))))

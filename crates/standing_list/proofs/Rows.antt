@@ -1,0 +1,36 @@
+-- The columns of a list of spells: how a loop lays one out. Assumes nothing.
+use Rattle.basis.proofs.Prelude.{_∙_, _≡_, refl, sym, _+_, _<_, suc, ℕ, List, [], _++_, _∷_, map, map-append, drop, getD, length, length-map, length-set, set, take, append-snoc, drop-cons, length-take-le, set-at, take-suc, add-one, arith}
+use Rattle.spell.specs.declared.Spell.{Spell}
+use Rattle.spell.specs.Blank.{blank}
+use Rattle.standing_list.specs.List.{columnOf}
+
+-- ---- A column is laid out place by place
+
+-- the first i places of the column c hold the field f of the first i spells of a; later places are as they were before
+pub record Filled (f : Spell → ℕ) (a : List Spell) (before c : List ℕ) (i : ℕ) : Type 0 where
+  pub long : length c ≡ length before
+  pub so-far : c ≡ map f (take i a) ++ drop i before
+
+module _ (f : Spell → ℕ) (a : List Spell) (before : List ℕ) where
+  pub filled-none : Filled f a before before 0
+  filled-none = record { long = refl; so-far = refl }
+
+  pub filled-more : (c : List ℕ) (i : ℕ) → i < length a → i < length before → Filled f a before c i → Filled f a before (set c i (f (getD a i blank))) (i + 1)
+  filled-more c i ha hb e =
+      let here : length (map f (take i a)) ≡ i = length-map (take i a) f ∙ length-take-le i a (omega arith) in
+      record {
+        long = length-set c i (f (getD a i blank)) ∙ e .long;
+        so-far = rw (
+          e .so-far,
+          add-one,
+          drop-cons before i 0 hb,
+          set-at (map f (take i a)) (getD before i 0) (drop (suc i) before) (f (getD a i blank)) i here,
+          take-suc a i blank ha,
+          map-append f (take i a) (getD a i blank ∷ []),
+        )
+            (sym (append-snoc (map f (take i a)) (f (getD a i blank)) (drop (suc i) before)));
+      }
+
+  -- the column of the first n is that of their list
+  pub filled-all : (c : List ℕ) (i n : ℕ) → length (take n a) ≡ n → i ≡ n → Filled f a before c i → c ≡ columnOf f (take n a) before
+  filled-all c i n here done e = rw (length-map (take n a) f ∙ here, ← done) (e .so-far)
