@@ -1,8 +1,9 @@
 //! The proved archives: blocks of words, requests from bytes to bytes, and where a request ends. All that is answered is decided there.
 
-/// The sizes of the blocks and lists that the archives are lent.
-pub const SERVICE_WORDS: usize = 7746;
-const INDEX_WORDS: usize = 83_779;
+use crate::phayaklit::INDEX_WORDS;
+pub use crate::phayaklit::SERVICE_WORDS;
+
+/// The sizes of the lists that the archives are lent.
 const DAYS: usize = 32_768;
 pub const ROOM: usize = 65_536;
 const OUT: usize = 131_072;
@@ -46,23 +47,12 @@ struct Advanced {
     next: usize,
 }
 
-#[repr(C)]
-struct Reply {
-    refusal: u16,
-    count: usize,
-    comparisons: usize,
-    length: usize,
-}
-
 mod exported {
-    use super::{Advanced, Carried, Frame, Reply};
+    use super::{Advanced, Carried, Frame};
 
     unsafe extern "C" {
         pub fn phayaklit_version() -> u32;
         pub fn phayaklit_fresh(service: *mut u16, index: *mut u16);
-        pub fn phayaklit_publish(service: *const u16, index: *mut u16) -> Reply;
-        pub fn phayaklit_write(service: *const u16, text: *mut u8, length: usize) -> Reply;
-        pub fn phayaklit_take_back(service: *mut u16) -> Reply;
         pub fn phayaklit_advance(
             frame: Frame,
             arrived: *const u8,
@@ -90,18 +80,21 @@ mod exported {
 
 /// The version of the functions and of the blocks.
 pub fn version() -> u32 {
-    unsafe { exported::phayaklit_version() }
+    let version = unsafe { exported::phayaklit_version() };
+    assert_eq!(version, crate::phayaklit::VERSION, "the archive is of another version than the sizes of its blocks");
+    version
 }
 
 /// The words of a service.
 pub type Words = [u16; SERVICE_WORDS];
 
-/// A service: its words, the index of what is published, and its words as they were at the last publish.
+/// A service: its words, the index of what is published, and its words as they were at the last publish, with the request of that.
 #[derive(Clone)]
 pub struct State {
     words: Box<Words>,
     index: Box<[u16; INDEX_WORDS]>,
     published: Box<Words>,
+    publish: Vec<u8>,
 }
 
 impl State {
@@ -110,14 +103,17 @@ impl State {
         let mut index = Box::new([0; INDEX_WORDS]);
         unsafe { exported::phayaklit_fresh(words.as_mut_ptr(), index.as_mut_ptr()) };
         let published = words.clone();
-        State { words, index, published }
+        State { words, index, published, publish: Vec::new() }
     }
 
-    /// The state of words that a service had, now and at its last publish. The index is made anew.
-    pub fn restored(words: Box<Words>, published: Box<Words>) -> State {
-        let mut index = Box::new([0; INDEX_WORDS]);
-        unsafe { exported::phayaklit_publish(published.as_ptr(), index.as_mut_ptr()) };
-        State { words, index, published }
+    /// The state of words that a service had, now and at its last publish, which is made again: the index is never kept.
+    pub fn restored(words: Box<Words>, published: Box<Words>, publish: &[u8]) -> State {
+        let mut state = State { words: published, ..State::fresh() };
+        if !publish.is_empty() {
+            Lent::new().request(&mut state, ROOM, Allowed::Everything, publish, &[]);
+        }
+        state.words = words;
+        state
     }
 
     pub fn words(&self) -> &Words {
@@ -128,32 +124,20 @@ impl State {
         &self.published
     }
 
-    /// Becomes the other state; its index is taken only where it may differ.
+    /// The request of the last publish; none where there was none since the beginning.
+    pub fn publish(&self) -> &[u8] {
+        &self.publish
+    }
+
+    /// Becomes the other state; what is published is taken only where it may differ.
     pub fn follow(&mut self, other: &State, published: bool) {
         self.words.copy_from_slice(&*other.words);
         if published {
             self.index.copy_from_slice(&*other.index);
             self.published.copy_from_slice(&*other.published);
+            self.publish.clone_from(&other.publish);
         }
     }
-}
-
-/// The register text of a service's words.
-pub fn text_of(words: &Words) -> Vec<u8> {
-    let mut text = vec![0; ROOM];
-    let reply = unsafe { exported::phayaklit_write(words.as_ptr(), text.as_mut_ptr(), text.len()) };
-    text.truncate(reply.length);
-    text
-}
-
-/// How many edits of a service can be taken back.
-pub fn past_of(words: &Words) -> usize {
-    let mut copy = *words;
-    let mut taken = 0;
-    while unsafe { exported::phayaklit_take_back(copy.as_mut_ptr()) }.refusal == 0 {
-        taken += 1;
-    }
-    taken
 }
 
 /// The lists that are lent to requests, and where their answers stand.
@@ -211,8 +195,14 @@ impl Lent {
             return Came::HeldBack { word: carried.word };
         }
         match carried.word {
-            PUBLISH => state.published.copy_from_slice(&*state.words),
-            READ => state.published = State::fresh().words,
+            PUBLISH => {
+                state.published.copy_from_slice(&*state.words);
+                state.publish = line.to_vec();
+            }
+            READ => {
+                state.published = State::fresh().words;
+                state.publish.clear();
+            }
             _ => (),
         }
         Came::Answered {
@@ -221,6 +211,35 @@ impl Lent {
             room: carried.room,
             answer: &self.out[carried.place..],
         }
+    }
+
+    /// The register text of what stands.
+    pub fn text(&mut self, state: &mut State) -> Vec<u8> {
+        match self.request(state, ROOM, Allowed::Reading, b"write\n", &[]) {
+            Came::Answered { answer, .. } => {
+                answer.split_inclusive(|&b| b == b'\n').skip(1).flatten().copied().collect()
+            }
+            Came::HeldBack { .. } => Vec::new(),
+        }
+    }
+
+    /// The register text of what stood at the last publish.
+    pub fn published_text(&mut self, state: &State) -> Vec<u8> {
+        let mut then = state.clone();
+        then.words.copy_from_slice(&*state.published);
+        self.text(&mut then)
+    }
+
+    /// How many edits can be taken back.
+    pub fn past(&mut self, state: &State) -> usize {
+        let mut before = state.clone();
+        let mut taken = 0;
+        while let Came::Answered { changed: true, .. } =
+            self.request(&mut before, ROOM, Allowed::Everything, b"take-back\n", &[])
+        {
+            taken += 1;
+        }
+        taken
     }
 }
 

@@ -1,6 +1,6 @@
 //! Who changed what and when, in words.
 
-use crate::archive::{self, Lent, State};
+use crate::archive::{Lent, State};
 use crate::journal::{Journal, Refusal, Row};
 use crate::replay::{again, parts};
 use crate::time;
@@ -23,7 +23,7 @@ pub fn print(journal: &Journal, wanted: &Wanted, out: &mut impl Write) -> Result
     let mut stood = None;
     journal.each(|row| {
         again(&mut lent, &mut state, row)?;
-        let stands = wanted.spell.and_then(|spell| line_of(spell, &archive::text_of(state.words())));
+        let stands = wanted.spell.and_then(|spell| line_of(spell, &lent.text(&mut state)));
         let concerns = wanted.spell.is_none_or(|spell| stands != stood || names_spell(row, spell));
         stood = stands;
         if concerns && wanted.since.is_none_or(|since| row.change.time >= since) {

@@ -22,7 +22,8 @@ const MAKE: &str = "
         sequence INTEGER PRIMARY KEY, time INTEGER NOT NULL, user INTEGER NOT NULL,
         request BLOB NOT NULL, answer BLOB NOT NULL, checksum BLOB NOT NULL);
     CREATE TABLE snapshot (
-        sequence INTEGER PRIMARY KEY, words BLOB NOT NULL, published BLOB NOT NULL, checksum BLOB NOT NULL);
+        sequence INTEGER PRIMARY KEY, words BLOB NOT NULL, published BLOB NOT NULL,
+        publish BLOB NOT NULL, checksum BLOB NOT NULL);
     CREATE TABLE head (
         one INTEGER PRIMARY KEY CHECK (one = 1), sequence INTEGER NOT NULL, checksum BLOB NOT NULL);";
 
@@ -53,11 +54,17 @@ pub struct Head {
 pub struct Snapshot {
     pub words: Box<Words>,
     pub published: Box<Words>,
+    /// The request of the last publish.
+    pub publish: Vec<u8>,
 }
 
 impl Snapshot {
     pub fn of(state: &State) -> Snapshot {
-        Snapshot { words: Box::new(*state.words()), published: Box::new(*state.published()) }
+        Snapshot {
+            words: Box::new(*state.words()),
+            published: Box::new(*state.published()),
+            publish: state.publish().to_vec(),
+        }
     }
 }
 
@@ -188,7 +195,7 @@ impl Journal {
 
     /// The snapshots, each by its row's number; their checksums are those of their words.
     pub fn snapshots(&self) -> Result<Vec<(i64, Snapshot, Sum)>, Refusal> {
-        let sql = "SELECT sequence, words, published, checksum FROM snapshot ORDER BY sequence";
+        let sql = "SELECT sequence, words, published, publish, checksum FROM snapshot ORDER BY sequence";
         let mut rows = self.database.prepare(sql).map_err(failed("journal.db"))?;
         let mut kept = Vec::new();
         while rows.next().map_err(failed("journal.db"))? {
@@ -197,8 +204,9 @@ impl Journal {
                 || format!("journal.db is damaged: the words kept at row {sequence} are not what was written");
             let words = words_of(rows.bytes(1)).ok_or_else(damaged)?;
             let published = words_of(rows.bytes(2)).ok_or_else(damaged)?;
-            let checksum = Sum::try_from(rows.bytes(3)).map_err(|_| damaged())?;
-            let snapshot = Snapshot { words, published };
+            let publish = rows.bytes(3).to_vec();
+            let checksum = Sum::try_from(rows.bytes(4)).map_err(|_| damaged())?;
+            let snapshot = Snapshot { words, published, publish };
             if sum_of(sequence, &snapshot) != checksum {
                 return Err(damaged());
             }
@@ -247,13 +255,14 @@ impl Journal {
     }
 
     fn keep(&self, sequence: i64, snapshot: &Snapshot) -> Result<(), Failure> {
-        let mut row = self.database.prepare("INSERT OR REPLACE INTO snapshot VALUES (?1, ?2, ?3, ?4)")?;
+        let mut row = self.database.prepare("INSERT OR REPLACE INTO snapshot VALUES (?1, ?2, ?3, ?4, ?5)")?;
         let (words, published) = (bytes_of(&snapshot.words), bytes_of(&snapshot.published));
         let checksum = sum_of(sequence, snapshot);
         row.bind_integer(1, sequence)?;
         row.bind_bytes(2, &words)?;
         row.bind_bytes(3, &published)?;
-        row.bind_bytes(4, &checksum)?;
+        row.bind_bytes(4, &snapshot.publish)?;
+        row.bind_bytes(5, &checksum)?;
         row.carry_out()
     }
 }
@@ -275,6 +284,7 @@ fn sum_of(sequence: i64, snapshot: &Snapshot) -> Sum {
     let mut bytes = sequence.to_le_bytes().to_vec();
     bytes.extend(bytes_of(&snapshot.words));
     bytes.extend(bytes_of(&snapshot.published));
+    bytes.extend(&snapshot.publish);
     sum(&bytes)
 }
 

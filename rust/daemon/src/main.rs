@@ -7,6 +7,9 @@ mod connection;
 mod history;
 mod journal;
 mod options;
+#[allow(dead_code)]
+#[path = "../../../include/phayaklit.rs"]
+mod phayaklit;
 mod replay;
 mod server;
 mod sha256;

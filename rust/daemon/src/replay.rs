@@ -28,7 +28,9 @@ pub fn again(lent: &mut Lent, state: &mut State, row: &Row) -> Result<(), Refusa
 pub fn restore(journal: &Journal) -> Result<(State, Head), Refusal> {
     let mut lent = Lent::new();
     let (from, mut state) = match journal.snapshots()?.pop() {
-        Some((sequence, Snapshot { words, published }, _)) => (sequence, State::restored(words, published)),
+        Some((sequence, Snapshot { words, published, publish }, _)) => {
+            (sequence, State::restored(words, published, &publish))
+        }
         None => (0, State::fresh()),
     };
     let head = journal.each(|row| match row.sequence > from {
@@ -60,7 +62,8 @@ pub fn verify(journal: &Journal) -> Result<i64, Refusal> {
 }
 
 fn same(sequence: i64, snapshot: &Snapshot, state: &State) -> Result<(), Refusal> {
-    if *snapshot.words != *state.words() || *snapshot.published != *state.published() {
+    let published = *snapshot.published == *state.published() && snapshot.publish == state.publish();
+    if *snapshot.words != *state.words() || !published {
         return Err(format!("the words kept at row {sequence} are not those of the rows up to it"));
     }
     Ok(())

@@ -228,7 +228,7 @@ impl Server {
             if connection.held > 0 {
                 return self.park(token, request);
             }
-            let text = self.status.shown(&self.live, &self.head, self.connections.len());
+            let text = self.status.shown(&mut self.lent, &mut self.live, &self.head, self.connections.len());
             self.give(token, text.into_bytes(), true);
             return true;
         }

@@ -1,6 +1,6 @@
 //! What the service says of itself.
 
-use crate::archive::{self, State};
+use crate::archive::{self, Lent, State};
 use crate::journal::Head;
 use crate::time;
 
@@ -12,10 +12,10 @@ pub struct Status {
 
 impl Status {
     /// The answer to `status`: names and values, parted by tabs.
-    pub fn shown(&mut self, state: &State, head: &Head, connections: usize) -> String {
+    pub fn shown(&mut self, lent: &mut Lent, state: &mut State, head: &Head, connections: usize) -> String {
         let lists = match self.counted.take() {
             Some((sequence, lists)) if sequence == head.sequence => lists,
-            _ => lists_of(state),
+            _ => lists_of(lent, state),
         };
         let last = if head.sequence == 0 { "-".to_string() } else { time::shown(head.time) };
         let text = format!(
@@ -29,16 +29,12 @@ impl Status {
     }
 }
 
-fn lists_of(state: &State) -> String {
-    let standing = archive::text_of(state.words());
-    let published = archive::text_of(state.published());
+fn lists_of(lent: &mut Lent, state: &mut State) -> String {
+    let standing = lent.text(state);
+    let published = lent.published_text(state);
     let differs = if standing == published { "no" } else { "yes" };
-    format!(
-        "standing\t{}\tpublished\t{}\tpast\t{}\tdiffers\t{differs}",
-        lines(&standing),
-        lines(&published),
-        archive::past_of(state.words())
-    )
+    let past = lent.past(state);
+    format!("standing\t{}\tpublished\t{}\tpast\t{past}\tdiffers\t{differs}", lines(&standing), lines(&published))
 }
 
 fn lines(text: &[u8]) -> usize {

@@ -20,7 +20,7 @@ const DAMAGES: &[(&str, &str)] = &[
     ("db.execute('DELETE FROM journal WHERE sequence = 11')", "row 11 is missing"),
     ("db.execute('DELETE FROM journal WHERE sequence = 30')", "do not end with row 29"),
     ("db.execute('UPDATE snapshot SET words = zeroblob(length(words))')", "the words kept at row 30"),
-    ("db.execute('PRAGMA user_version = 1002')", "another version"),
+    ("db.execute('PRAGMA user_version = 1999')", "another version"),
     ("db.execute('PRAGMA application_id = 77')", "another program's database"),
 ];
 
