@@ -41,7 +41,7 @@ static void enter_and_ask(void) {
     said("enter with grade 65537", phayaklit_enter(service[0], (phayaklit_entry){17, 1, 1, 1, PHAYAKLIT_GRADE, 65537}));
     said("enter with kind 2", phayaklit_enter(service[0], (phayaklit_entry){17, 1, 1, 1, 2, 1}));
     listed("day 5, nothing published", phayaklit_day(published[0], 5, numbers, PHAYAKLIT_SPELLS), numbers);
-    said("publish", phayaklit_publish(service[0], published[0]));
+    said("publish", phayaklit_publish(service[0], 1, published[0]));
     listed("day 5", phayaklit_day(published[0], 5, numbers, PHAYAKLIT_SPELLS), numbers);
     listed("day 5 into two places", phayaklit_day(published[0], 5, numbers, 2), numbers);
     listed("span 9 to 10", phayaklit_span(published[0], 9, 10, numbers, PHAYAKLIT_SPELLS), numbers);
@@ -66,7 +66,7 @@ static void side_by_side(void) {
     said("second: take back", phayaklit_take_back(service[1]));
     said("second: strike 13", phayaklit_strike(service[1], 13));
     said("second: amend 14", phayaklit_amend(service[1], (phayaklit_entry){14, 9, 2, 6, PHAYAKLIT_GRADE, 4}));
-    said("second: publish", phayaklit_publish(service[1], published[1]));
+    said("second: publish", phayaklit_publish(service[1], 1, published[1]));
     listed("first: day 5", phayaklit_day(published[0], 5, numbers, PHAYAKLIT_SPELLS), numbers);
     listed("second: day 5", phayaklit_day(published[1], 5, numbers, PHAYAKLIT_SPELLS), numbers);
     said("second: take back", phayaklit_take_back(service[1]));

@@ -62,7 +62,7 @@ fn enter_and_ask(service: &mut Service, index: &mut Index) {
     said("enter again", service.enter(register()[0]));
     said("enter with grade 5", service.enter(spell(17, 1, 1, 1, Urgency::Grade(5))));
     listed("day 5, nothing published", all, |numbers| index.published().day(5, numbers));
-    service.publish(index);
+    service.publish(1, index).expect("there is such a rule");
     println!("publish: accepted");
     let published = index.published();
     listed("day 5", all, |numbers| published.day(5, numbers));
@@ -99,7 +99,7 @@ fn side_by_side(first: &Index, service: &mut Service, index: &mut Index) {
     said("second: take back", service.take_back());
     said("second: strike 13", service.strike(13));
     said("second: amend 14", service.amend(spell(14, 9, 2, 6, Urgency::Grade(4))));
-    service.publish(index);
+    service.publish(1, index).expect("there is such a rule");
     println!("second: publish: accepted");
     listed("first: day 5", all, |numbers| first.published().day(5, numbers));
     listed("second: day 5", all, |numbers| index.published().day(5, numbers));

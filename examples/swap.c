@@ -61,7 +61,7 @@ static void publish(void) {
     while (atomic_load(&spare->readers) != 0) {
         sched_yield();
     }
-    phayaklit_publish(service, spare->words);
+    phayaklit_publish(service, 1, spare->words);
     writes(spare);
     atomic_store(&asked, spare);
 }

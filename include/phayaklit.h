@@ -25,7 +25,7 @@
  *             printf("line %u: %s\n", opened.line, phayaklit_refusal_word(opened.refusal));
  *             return 1;
  *         }
- *         phayaklit_publish(service, published);
+ *         phayaklit_publish(service, 1, published);
  *         phayaklit_reply reply = phayaklit_day(published, 3, numbers, PHAYAKLIT_SPELLS);
  *         printf("%zu stand on day 3, %zu looks:", reply.count, reply.looks);
  *         for (size_t at = 0; at < reply.count; at++) {
@@ -73,7 +73,7 @@ extern "C" {
 
 /* The version of these functions and of what the blocks hold; phayaklit_version returns that of the archive. Blocks that one
  * version wrote are no blocks of another one. */
-#define PHAYAKLIT_VERSION 2
+#define PHAYAKLIT_VERSION 3
 
 /* The sizes of the two blocks, in words of 16 bits. */
 #define PHAYAKLIT_SERVICE_WORDS 7746
@@ -105,7 +105,8 @@ enum phayaklit_refusal {
     PHAYAKLIT_UNSORTED_DAYS = 10,   /* days unsorted: a day not above the one before */
     PHAYAKLIT_SHORT_BUFFER = 11,    /* short list: the answer or the text exceeds the lent list */
     PHAYAKLIT_MALFORMED = 12,       /* malformed: a text above 65,536 bytes (line 0), or a line not of the form */
-    PHAYAKLIT_OUT_OF_ORDER = 13     /* misplaced: a line not after the one before in the order */
+    PHAYAKLIT_OUT_OF_ORDER = 13,    /* misplaced: a line not after the one before in the order */
+    PHAYAKLIT_NO_SUCH_RULE = 14     /* no such rule: publishing by a rule other than 1 or 2 */
 };
 
 /* The kinds of urgency. */
@@ -157,6 +158,7 @@ static inline const char *phayaklit_refusal_word(uint16_t refusal) {
     case PHAYAKLIT_SHORT_BUFFER: return "short list";
     case PHAYAKLIT_MALFORMED: return "malformed";
     case PHAYAKLIT_OUT_OF_ORDER: return "misplaced";
+    case PHAYAKLIT_NO_SUCH_RULE: return "no such rule";
     default: return "unknown refusal";
     }
 }
@@ -192,9 +194,10 @@ phayaklit_reply phayaklit_take_back(uint16_t *service);
 
 /* ---- Publish and writing. They read the service. */
 
-/* The published list becomes the standing list. Writes the index, which may hold anything beforehand: a service may be
- * published into one block while questions are put to another. Never refused. */
-phayaklit_reply phayaklit_publish(const uint16_t *service, uint16_t *index);
+/* The published list becomes the standing list, by rule 1 with the days as entered, by rule 2 with each reading until the earlier
+ * of its last day and its first day + 6. Writes the index, which may hold anything beforehand: a service may be published into one
+ * block while questions are put to another. Refusal: 14. */
+phayaklit_reply phayaklit_publish(const uint16_t *service, uint16_t rule, uint16_t *index);
 
 /* Writes the register text of the standing list into the first places of a list of bytes; the others keep what they hold.
  * `length` is the text's. Refusal: 11. */

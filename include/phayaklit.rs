@@ -13,7 +13,7 @@ use core::error::Error;
 use core::fmt::{self, Display, Formatter};
 
 /// The version of the functions and of what the blocks hold, as this module knows them; `version` is the archive's.
-pub const VERSION: u32 = 2;
+pub const VERSION: u32 = 3;
 
 /// The sizes of the two blocks, in words.
 pub const SERVICE_WORDS: usize = 7746;
@@ -59,6 +59,8 @@ impl Refusal {
     pub const MALFORMED: Refusal = Refusal(12);
     /// Misplaced: a line not after the one before in the order.
     pub const OUT_OF_ORDER: Refusal = Refusal(13);
+    /// No such rule: publishing by a rule other than 1 or 2.
+    pub const NO_SUCH_RULE: Refusal = Refusal(14);
 
     pub fn number(self) -> u16 {
         self.0
@@ -80,6 +82,7 @@ impl Refusal {
             Refusal::SHORT_BUFFER => "short list",
             Refusal::MALFORMED => "malformed",
             Refusal::OUT_OF_ORDER => "misplaced",
+            Refusal::NO_SUCH_RULE => "no such rule",
             Refusal(_) => "unknown refusal",
         }
     }
@@ -235,9 +238,9 @@ impl<'a> Service<'a> {
         accepted(unsafe { ffi::phayaklit_take_back(self.0.as_mut_ptr()) }.refusal)
     }
 
-    /// The published list becomes the standing list.
-    pub fn publish(&self, index: &mut Index) {
-        unsafe { ffi::phayaklit_publish(self.0.as_ptr(), index.0.as_mut_ptr()) };
+    /// The published list becomes the standing list, by rule 1 as entered, by rule 2 with readings that lapse after seven days.
+    pub fn publish(&self, rule: u16, index: &mut Index) -> Result<(), Refusal> {
+        accepted(unsafe { ffi::phayaklit_publish(self.0.as_ptr(), rule, index.0.as_mut_ptr()) }.refusal)
     }
 
     /// Writes the register text into the first places of the list and returns its length.
@@ -375,7 +378,7 @@ mod ffi {
         pub fn phayaklit_amend(service: *mut u16, entry: Entry) -> Reply;
         pub fn phayaklit_strike(service: *mut u16, number: u16) -> Reply;
         pub fn phayaklit_take_back(service: *mut u16) -> Reply;
-        pub fn phayaklit_publish(service: *const u16, index: *mut u16) -> Reply;
+        pub fn phayaklit_publish(service: *const u16, rule: u16, index: *mut u16) -> Reply;
         pub fn phayaklit_write(service: *const u16, text: *mut u8, length: usize) -> Reply;
         pub fn phayaklit_day(index: *const u16, day: u16, numbers: *mut u16, length: usize) -> Reply;
         pub fn phayaklit_span(index: *const u16, a: u16, b: u16, numbers: *mut u16, length: usize) -> Reply;

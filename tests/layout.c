@@ -96,7 +96,7 @@ int main(void) {
                                         "13\t9\t5\t8\tG\t1\n15\t7\t7\t12\tC\t00000000\n16\t5\t9\t9\tG\t3\n");
     same("read: refusal", opened.refusal, 0);
     same("read: line", opened.line, 0);
-    replied("publish", phayaklit_publish(service, published), 0, 0, 0, 0);
+    replied("publish", phayaklit_publish(service, 1, published), 0, 0, 0, 0);
     replied("day 7", phayaklit_day(published, 7, numbers, PHAYAKLIT_SPELLS), 0, 3, 4, 0);
     same("day 7: ticked", phayaklit_day(published, 7, numbers, PHAYAKLIT_SPELLS).ticked, 0);
     ticked("the mask of days 4 and 11", phayaklit_mask(published, 4, 0x81, numbers, PHAYAKLIT_SPELLS), 0, 3, 2);
@@ -110,10 +110,10 @@ int main(void) {
 
     same("phayaklit_version", phayaklit_version(), PHAYAKLIT_VERSION);
     printf("version %d\n", PHAYAKLIT_VERSION);
-    for (uint16_t refusal = 1; refusal <= PHAYAKLIT_OUT_OF_ORDER; refusal++) {
+    for (uint16_t refusal = 1; refusal <= PHAYAKLIT_NO_SUCH_RULE; refusal++) {
         printf("%u %s\n", refusal, phayaklit_refusal_word(refusal));
     }
     same("the word of 0", (size_t)strcmp(phayaklit_refusal_word(0), "accepted"), 0);
-    same("the word of 14", (size_t)strcmp(phayaklit_refusal_word(14), "unknown refusal"), 0);
+    same("the word of 15", (size_t)strcmp(phayaklit_refusal_word(15), "unknown refusal"), 0);
     return faults != 0;
 }

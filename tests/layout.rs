@@ -12,7 +12,7 @@ use std::error::Error;
 const REGISTER: &[u8] = b"11\t7\t1\t10\tG\t2\n12\t8\t3\t4\tC\t3F800000\n14\t9\t5\t6\tG\t4\n\
 13\t9\t5\t8\tG\t1\n15\t7\t7\t12\tC\t00000000\n16\t5\t9\t9\tG\t3\n";
 
-const REFUSALS: [Refusal; 13] = [
+const REFUSALS: [Refusal; 14] = [
     Refusal::NO_NUMBER,
     Refusal::NO_CANDIDATE,
     Refusal::OFF_CALENDAR,
@@ -26,6 +26,7 @@ const REFUSALS: [Refusal; 13] = [
     Refusal::SHORT_BUFFER,
     Refusal::MALFORMED,
     Refusal::OUT_OF_ORDER,
+    Refusal::NO_SUCH_RULE,
 ];
 
 fn main() -> Result<(), Box<dyn Error>> {
@@ -51,14 +52,14 @@ fn main() -> Result<(), Box<dyn Error>> {
     assert_eq!(misread, Err(Misread { refusal: Refusal::MALFORMED, line: 6 }));
     let (service, mut first, read) = phayaklit::read(REGISTER, &mut words, &mut one)?;
     read?;
-    service.publish(&mut first);
+    service.publish(1, &mut first).unwrap();
 
     // a second index begins by itself and is published into while the first one is asked
     let asked = first.published();
     let mut second = phayaklit::fresh_index(&mut two)?;
     let mut numbers = [0; phayaklit::SPELLS];
     assert_eq!(second.published().day(7, &mut numbers)?, Listed::default());
-    service.publish(&mut second);
+    service.publish(1, &mut second).unwrap();
     for published in [asked, second.published()] {
         assert_eq!(published.day(7, &mut numbers)?, Listed { count: 3, looks: 4, ticked: 0 });
         assert_eq!(numbers[..4], [11, 13, 15, 0]);

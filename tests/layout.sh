@@ -12,7 +12,7 @@ trap 'rm -rf "$build"' EXIT
     sed -n 's/^#define PHAYAKLIT_VERSION /version /p' ../include/phayaklit.h
     sed -n '/^## The refusal numbers/,/^## Beginning/s/^| *\([0-9]\{1,\}\) | \([^|]*\) |.*/\1 \2/p' ../docs/PROTOCOL.md
 } >"$build/expected"
-[ "$(wc -l <"$build/expected")" -eq 14 ] || { echo "layout.sh: docs/PROTOCOL.md has no table of 13 words" >&2; exit 1; }
+[ "$(wc -l <"$build/expected")" -eq 15 ] || { echo "layout.sh: docs/PROTOCOL.md has no table of 14 words" >&2; exit 1; }
 
 cc -std=c11 -Wall -Wextra -Werror -I ../include layout.c "$archive/libphayaklit.a" -o "$build/c"
 c++ -Wall -Wextra -Werror -I ../include -x c++ layout.c -x none "$archive/libphayaklit.a" -o "$build/c++"

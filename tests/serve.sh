@@ -36,7 +36,7 @@ head -c 20000 "$stored/stdin" | "$program" | cmp - "$work/out" >&2 || fail "a by
 mkfifo "$work/in" "$work/answers"
 "$program" < "$work/in" > "$work/answers" &
 exec 3> "$work/in" 4< "$work/answers"
-for request in 'enter\t1\t1\t1\t9\tG\t1' 'publish' 'day\t9' 'read\t0' 'day\t9'; do
+for request in 'enter\t1\t1\t1\t9\tG\t1' 'publish\t1' 'day\t9' 'read\t0' 'day\t9'; do
     printf "$request\n" >&3
     read -r answer <&4 || fail "no answer to $request"
     printf '%s\n' "$answer"
@@ -50,7 +50,7 @@ says "one request at a time" 'ok\nok\nlisted\t1\t0\t1\nok\nlisted\t0\t0\n'
 says "begun on a register" 'ok\n'
 { echo ok; printf 'text\t%s\n' "$(wc -c < "$here/stand/full.register")"; cat "$here/stand/full.register"; } > "$work/expected"
 printf 'write\n' | "$program" "$here/stand/full.register" | cmp - "$work/expected" >&2 || fail "a register read and written: it differs"
-printf 'day\t5\npublish\nday\t5\ntake-back\n' | "$program" "$here/stand/register-a.register" > "$work/out"
+printf 'day\t5\npublish\t1\nday\t5\ntake-back\n' | "$program" "$here/stand/register-a.register" > "$work/out"
 says "begun on a register and published" 'ok\nlisted\t0\t0\nok\nlisted\t3\t2\t11\t14\t13\nrefused\t9\n'
 printf '1\t1\t1\t9\tG\t1\n1\t1\t1\t9\tG\t1\n' > "$work/bad"
 printf 'take-back\n' | run "$program" "$work/bad" > "$work/out" 2> "$work/told"
@@ -62,7 +62,7 @@ told "begun on a long text" $? "serve: $work/long: the register is not taken: re
 says "begun on a long text" 'refused\t12\t0\n'
 
 # input that ends inside a request
-printf 'publish\nday\t5' | "$program" > "$work/out"
+printf 'publish\t1\nday\t5' | "$program" > "$work/out"
 says "a line cut short" 'ok\n'
 printf 'read\t5\nabcd' | "$program" > "$work/out"
 says "a text cut short" ''

@@ -32,7 +32,7 @@ awk 'BEGIN {
 {
     printf 'read\t%d\n' "$(wc -c < "$work/deep")"
     cat "$work/deep"
-    printf 'publish\nday\t1600\nspan\t1600\t1700\ncover\t500\ndays\t1600\t1700\nwrite\n'
+    printf 'publish\t1\nday\t1600\nspan\t1600\t1700\ncover\t500\ndays\t1600\t1700\nwrite\n'
 } > "$work/requests"
 "$here/check" account serve < "$work/requests" > "$work/answers" || fail "the plain account failed"
 "$stand" < "$work/deep" > "$work/days"

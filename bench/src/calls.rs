@@ -50,7 +50,9 @@ fn whole_registers(rows: &[Row], rounds: usize) -> Vec<(String, Vec<String>)> {
         black_box(proved.service.write(black_box(&mut written)).expect("a list long enough"));
     });
     assert!(written.starts_with(text.as_bytes()), "what was read is written");
-    let publish = median_of(rounds, || proved.service.publish(black_box(&mut proved.index)));
+    let publish = median_of(rounds, || {
+        proved.service.publish(1, black_box(&mut proved.index)).expect("a rule that there is");
+    });
     let (mut service, mut index) = (vec![0; phayaklit::SERVICE_WORDS], vec![0; phayaklit::INDEX_WORDS]);
     let read = median_of(rounds, || {
         let begun = phayaklit::read(black_box(text.as_bytes()), &mut service, &mut index);
@@ -60,7 +62,27 @@ fn whole_registers(rows: &[Row], rounds: usize) -> Vec<(String, Vec<String>)> {
         (format!("read a register of {} bytes", text.len()), microseconds(read)),
         ("write it".to_string(), microseconds(write)),
         ("publish".to_string(), microseconds(publish)),
+        (
+            "publish readings of one first day by rule 2, ratio to publish".to_string(),
+            ratio(publish_worst(rounds), publish),
+        ),
     ]
+}
+
+fn ratio(taken: f64, other: f64) -> Vec<String> {
+    vec![format!("{:.2}", taken / other)]
+}
+
+/// Publishing the rows that need the most sorting: readings with one first day, which under rule 2 also have one last day, so that they go by
+/// their numbers, which stand in no order.
+fn publish_worst(rounds: usize) -> f64 {
+    let line = |k| format!("{}\t1\t1\t{}\tC\t00000000\n", 1 + k * 389 % ROWS, 7 + k);
+    let text: String = (0..ROWS).map(line).collect();
+    let (mut service, mut index) = (vec![0; phayaklit::SERVICE_WORDS], vec![0; phayaklit::INDEX_WORDS]);
+    let (service, mut index, read) =
+        phayaklit::read(text.as_bytes(), &mut service, &mut index).expect("blocks of their size");
+    read.expect("a good register");
+    median_of(rounds, || service.publish(2, black_box(&mut index)).expect("a rule that there is"))
 }
 
 /// What the other contenders take to build what they ask.

@@ -21,7 +21,7 @@ impl Proved {
         let begun = phayaklit::read(text_of(rows).as_bytes(), blocks.0, blocks.1);
         let (service, mut index, read) = begun.expect("blocks of the right lengths");
         read.expect("a register in the order");
-        service.publish(&mut index);
+        service.publish(1, &mut index).expect("there is such a rule");
         Proved { service, index }
     }
 

@@ -42,7 +42,7 @@ call-power (Enter s) = refl
 call-power (Amend s) = refl
 call-power (Strike k) = refl
 call-power TakeBack = refl
-call-power Publish = refl
+call-power (Publish rule) = refl
 call-power Write = refl
 call-power (Ask w) = question-power w
 
@@ -59,7 +59,7 @@ accepted-ok (Enter s) a e = refl
 accepted-ok (Amend s) a e = refl
 accepted-ok (Strike k) a e = refl
 accepted-ok TakeBack a e = refl
-accepted-ok Publish a e = refl
+accepted-ok (Publish rule) a e = refl
 accepted-ok Write a e = absurd (false≢true (sym e))
 accepted-ok (Ask w) a e = absurd (false≢true (sym e))
 

@@ -24,7 +24,7 @@ callWord (Enter s) = 16
 callWord (Amend s) = 17
 callWord (Strike k) = 18
 callWord TakeBack = 19
-callWord Publish = 20
+callWord (Publish rule) = 20
 callWord Write = 32
 callWord (Ask w) = questionWord w
 

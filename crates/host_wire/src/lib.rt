@@ -50,7 +50,7 @@ fn call_word(call: Call) -> u32
         Call::Amend(_) => 17,
         Call::Strike(_) => 18,
         Call::TakeBack => 19,
-        Call::Publish => 20,
+        Call::Publish(_) => 20,
         Call::Write => 32,
         Call::Ask(question) => question_word(question),
     }

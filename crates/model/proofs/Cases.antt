@@ -12,6 +12,7 @@ use Rattle.model.specs.declared.Call.{Call}
 use Rattle.model.specs.declared.Call.the-variants.{Enter, Amend, Strike, TakeBack, Publish, Ask}
 use Rattle.model.specs.declared.Question.the-variants.{Day, Span, Cover, Days, Mask}
 use Rattle.orders.specs.Orders.{sortedBy}
+use Rattle.rules.specs.Rules.{lastOf}
 use Rattle.model.specs.Edits.{insertBy, remove, idle, enterRefusal, amendRefusal, strikeRefusal, remember}
 use Rattle.model.specs.Publishing.{publishedOf}
 use Rattle.calendar.specs.Calendar.{daysOk}
@@ -50,7 +51,7 @@ entering = call (Enter (spell 15 7 7 12 (Reading (ofBits binary32 0))))
     ∷ call (Enter (spell 16 5 9 9 (Grade 3)))
     ∷ call (Enter (spell 12 8 3 4 (Reading (ofBits binary32 0x3F80_0000))))
     ∷ call (Enter (spell 14 9 5 6 (Grade 4)))
-    ∷ call Publish
+    ∷ call (Publish 1)
     ∷ []
 
 abbrev asking : List Request
@@ -83,10 +84,10 @@ abbrev plainly : ℕ → ℕ → ℕ → Request
 plainly n f l = call (Enter (spell n 1 f l (Grade 1)))
 
 abbrev M1 : List Request
-M1 = plainly 1 1 10 ∷ plainly 2 3 4 ∷ call Publish ∷ call (Ask (Span 6 7)) ∷ []
+M1 = plainly 1 1 10 ∷ plainly 2 3 4 ∷ call (Publish 1) ∷ call (Ask (Span 6 7)) ∷ []
 
 abbrev M2 : List Request
-M2 = plainly 1 1 20 ∷ plainly 2 2 5 ∷ plainly 3 6 8 ∷ plainly 4 10 12 ∷ call Publish ∷ asked (Ask Days) (3 ∷ 11 ∷ []) ∷ []
+M2 = plainly 1 1 20 ∷ plainly 2 2 5 ∷ plainly 3 6 8 ∷ plainly 4 10 12 ∷ call (Publish 1) ∷ asked (Ask Days) (3 ∷ 11 ∷ []) ∷ []
 
 -- ---- Document 01's cases, in one statement
 
@@ -98,9 +99,39 @@ pub document-cases : map answers ((entering ++ asking) ∷ M1 ∷ M2 ∷ [])
     ∷ (replicate 3 (plain 0) ++ ((0 ∷ 1 ∷ 0 ∷ 1 ∷ 99 ∷ 99 ∷ 99 ∷ 99 ∷ 99 ∷ []) ∷ []))
     ∷ (replicate 5 (plain 0) ++ ((0 ∷ 3 ∷ 0 ∷ 1 ∷ 2 ∷ 4 ∷ 99 ∷ 99 ∷ 99 ∷ []) ∷ []))
     ∷ []
-unfolding run settle effectOf ask cover enterRefusal insertBy publishedOf sortedBy listedBefore remember earlierOf stands isNan toBits ofBits
+unfolding run settle effectOf ask cover enterRefusal insertBy publishedOf lastOf sortedBy listedBefore remember earlierOf stands isNan toBits ofBits
     onAny daysOk rising filter comparisonsOf below keep count head next parent child leftSibling lastChild fitsAt start onPath formula
 document-cases = refl
+
+-- ---- Document 02, W3: a reading of eight days and a grade of seven, published by rule 1, by rule 2, by a rule that there is not
+
+abbrev byRules : List Request
+byRules = call (Enter (spell 1 7 1 8 (Reading (ofBits binary32 0))))
+    ∷ call (Enter (spell 2 7 1 7 (Grade 1)))
+    ∷ call (Publish 1)
+    ∷ call (Ask (Day 7))
+    ∷ call (Ask (Day 8))
+    ∷ call (Publish 2)
+    ∷ call (Ask (Day 7))
+    ∷ call (Ask (Day 8))
+    ∷ call (Publish 3)
+    ∷ call (Ask (Day 7))
+    ∷ []
+
+-- under rule 2 both end on day 7 and change places; what rule 3 asks for is refused with 14 and leaves that list
+pub rules-in-turn : answers byRules
+    ≡ plain 0 ∷ plain 0 ∷ plain 0
+    ∷ (0 ∷ 2 ∷ 1 ∷ 2 ∷ 1 ∷ 99 ∷ 99 ∷ 99 ∷ 99 ∷ [])
+    ∷ (0 ∷ 1 ∷ 1 ∷ 1 ∷ 99 ∷ 99 ∷ 99 ∷ 99 ∷ 99 ∷ [])
+    ∷ plain 0
+    ∷ (0 ∷ 2 ∷ 1 ∷ 1 ∷ 2 ∷ 99 ∷ 99 ∷ 99 ∷ 99 ∷ [])
+    ∷ plain 0
+    ∷ plain 14
+    ∷ (0 ∷ 2 ∷ 1 ∷ 1 ∷ 2 ∷ 99 ∷ 99 ∷ 99 ∷ 99 ∷ [])
+    ∷ []
+unfolding run settle effectOf ask enterRefusal insertBy publishedOf lastOf sortedBy listedBefore remember earlierOf stands isNan toBits ofBits
+    filter comparisonsOf below keep count head next parent child leftSibling lastChild fitsAt start onPath formula
+rules-in-turn = refl
 
 -- ---- Refusals, each at the state that the calls before it left
 
@@ -120,7 +151,7 @@ refusing = call TakeBack
     ∷ call (Amend (spell 11 7 1 4001 (Grade 2)))
     ∷ call (Strike 12)
     ∷ call (Ask (Cover 11))
-    ∷ call Publish
+    ∷ call (Publish 1)
     ∷ lent [] (Ask (Day 1))
     ∷ lent (99 ∷ []) (Ask (Day 1))
     ∷ call (Ask (Day 0))
@@ -136,7 +167,7 @@ refusing = call TakeBack
 
 pub refusals : map (λ (a : Answer). a .refusal) (run fresh refusing)
     ≡ 9 ∷ 0 ∷ 6 ∷ 1 ∷ 7 ∷ 3 ∷ 7 ∷ 7 ∷ 0 ∷ 11 ∷ 0 ∷ 3 ∷ 4 ∷ 3 ∷ 10 ∷ 3 ∷ 0 ∷ 0 ∷ 0 ∷ 9 ∷ []
-unfolding run settle effectOf takeBack ask cover enterRefusal amendRefusal strikeRefusal insertBy publishedOf sortedBy listedBefore remove remember earlierOf stands idle sameOf isNan toBits
+unfolding run settle effectOf takeBack ask cover enterRefusal amendRefusal strikeRefusal insertBy publishedOf lastOf sortedBy listedBefore remove remember earlierOf stands idle sameOf isNan toBits
     onAny daysOk rising filter comparisonsOf
 refusals = refl
 
@@ -170,7 +201,7 @@ pub masks : map review (run fresh (entering ++ reviewing))
     ∷ (0 ∷ 0 ∷ 0 ∷ 0 ∷ [])
     ∷ (0 ∷ 11 ∷ 0 ∷ 0 ∷ [])
     ∷ [])
-unfolding run settle effectOf ask enterRefusal insertBy publishedOf sortedBy listedBefore remember earlierOf stands isNan toBits ofBits onAny daysOk rising filter ticksFrom isSet
+unfolding run settle effectOf ask enterRefusal insertBy publishedOf lastOf sortedBy listedBefore remember earlierOf stands isNan toBits ofBits onAny daysOk rising filter ticksFrom isSet
 masks = refl
 
 -- ---- Edits, and what a day lists before and after they are published
@@ -184,20 +215,20 @@ abbrev editing : List Request
 editing = plainly 1 1 10
     ∷ plainly 2 3 4
     ∷ plainly 3 5 8
-    ∷ call Publish
+    ∷ call (Publish 1)
     ∷ call (Strike 2)
     ∷ call (Ask (Day 3))
-    ∷ call Publish
+    ∷ call (Publish 1)
     ∷ call (Ask (Day 3))
     ∷ call (Ask (Day 6))
     ∷ call (Amend (spell 3 1 2 3 (Grade 1)))
     ∷ call (Ask (Day 6))
-    ∷ call Publish
+    ∷ call (Publish 1)
     ∷ call (Ask (Day 6))
     ∷ call (Ask (Day 3))
     ∷ call TakeBack
     ∷ call (Ask (Day 3))
-    ∷ call Publish
+    ∷ call (Publish 1)
     ∷ call (Ask (Day 3))
     ∷ []
 
@@ -212,7 +243,7 @@ pub edits : map found (run fresh editing)
     ∷ (1 ∷ 3 ∷ []) ∷ []
     ∷ (1 ∷ [])
     ∷ []
-unfolding run settle effectOf takeBack ask enterRefusal amendRefusal strikeRefusal insertBy publishedOf sortedBy listedBefore remove remember earlierOf stands idle sameOf filter
+unfolding run settle effectOf takeBack ask enterRefusal amendRefusal strikeRefusal insertBy publishedOf lastOf sortedBy listedBefore remove remember earlierOf stands idle sameOf filter
 edits = refl
 
 -- ---- The 65th list falls off
@@ -231,7 +262,7 @@ abbrev longPast : List Request
 longPast = (call (Enter one) ∷ alternating 32) ++ (replicate 65 (call TakeBack) ++ (call (Strike 11) ∷ call (Strike 11) ∷ []))
 
 pub past-64 : map (λ (a : Answer). a .refusal) (run fresh longPast) ≡ replicate 129 0 ++ (9 ∷ 0 ∷ 7 ∷ [])
-unfolding run settle effectOf takeBack enterRefusal amendRefusal strikeRefusal insertBy publishedOf sortedBy listedBefore remove remember earlierOf stands idle sameOf alternating isNan toBits ofBits
+unfolding run settle effectOf takeBack enterRefusal amendRefusal strikeRefusal insertBy publishedOf lastOf sortedBy listedBefore remove remember earlierOf stands idle sameOf alternating isNan toBits ofBits
 past-64 = refl
 
 -- ---- Saving a form twice
@@ -252,7 +283,7 @@ saving = call (Enter one)
     ∷ [])
 
 pub saves : map (λ (a : Answer). a .refusal) (run fresh saving) ≡ replicate 67 0 ++ (5 ∷ 5 ∷ 0 ∷ 0 ∷ 0 ∷ 0 ∷ 9 ∷ [])
-unfolding run settle effectOf takeBack enterRefusal amendRefusal insertBy publishedOf sortedBy listedBefore remove remember earlierOf stands idle sameOf sameReading isNan toBits ofBits
+unfolding run settle effectOf takeBack enterRefusal amendRefusal insertBy publishedOf lastOf sortedBy listedBefore remove remember earlierOf stands idle sameOf sameReading isNan toBits ofBits
 saves = refl
 
 -- What is idle: the spell that stands, and none that differs in one field.

@@ -113,11 +113,11 @@ module _ (m : State) (q : Request) where
   SamePublished x = x .state .published ≡ m .published
 
   -- NOTHING BUT PUBLISH changes the published list
-  pub published-kept : (q .call ≡ Publish → ⊥) → step m q .state .published ≡ m .published
+  pub published-kept : ((rule : ℕ) → q .call ≡ Publish rule → ⊥) → step m q .state .published ≡ m .published
   published-kept other =
       settles SamePublished m q refl (effectOf (q .call) (q .days) m)
       (call-does (Comes SamePublished m q) (q .days) m (record { refusing = λ n _. refl; asked = λ h l. refl; several = refl; masked = λ b k. refl }) refl (q .call)
-      (λ _ l p. refl) (λ e. absurd (other e)))
+      (λ _ l p. refl) (λ rule e. absurd (other rule e)))
 
   -- ---- The looks
 

@@ -1,6 +1,7 @@
 -- What the edits do, each claim one of every state. Assumes nothing.
 use Rattle.basis.proofs.Prelude.{_∙_, _≡_, ap, refl, sym, _≤_, ℕ, List, List·Memᴰ, _++_, _∷_, false, true, _↔_, _⊎_, inl, inr, drop, length, take, le-leb, by-cases}
 use Rattle.refusal.specs.Table.{accepted, duplicateNumber, unknownNumber, full}
+use Rattle.rules.specs.Rules.{isRule}
 use Rattle.spell.specs.declared.Spell.{Spell}
 use Rattle.spell.specs.Entry.{refusalOf}
 use Rattle.spell.specs.Order.{earlierOf}
@@ -11,7 +12,7 @@ use Rattle.model.specs.declared.Question.the-variants.{Day}
 use Rattle.model.specs.Edits.{insert, remove, replace, idle, enterRefusal, amendRefusal, strikeRefusal, remember}
 use Rattle.model.specs.Questions.{onDay, listed}
 use Rattle.model.specs.Publishing.{publishedOf}
-use Rattle.model.specs.Effects.{State, withStanding, Request, After, Effect, refuse, settle}
+use Rattle.model.specs.Effects.{State, withStanding, withPublished, Request, After, Effect, refuse, settle}
 use Rattle.buffer.specs.Buffer.{over}
 use Rattle.model.specs.Model.{edit, effectOf, stepOf}
 use Rattle.model.specs.Reached.{Passes}
@@ -134,16 +135,16 @@ module _ (m : State) (q : Request) where
 
 -- ---- What is amended after a publish is written, and not yet asked
 
-module _ (m : State) (p e : Request) (s : Spell) (real : idle (m .standing) s ≡ false) where
+module _ (m : State) (p e : Request) (rule : ℕ) (known : isRule rule ≡ true) (s : Spell) (real : idle (m .standing) s ≡ false) where
   -- the state after a publish and an amend by another spell than the standing one
   abbrev amended : After
-  amended = stepOf (Amend s) (stepOf Publish m p .state) e
+  amended = stepOf (Amend s) (stepOf (Publish rule) m p .state) e
 
-  amended-lists : amended .answer .refusal ≡ accepted → (amended .state .standing ≡ replace s (m .standing)) × (amended .state .published ≡ publishedOf (m .standing))
+  amended-lists : amended .answer .refusal ≡ accepted → (amended .state .standing ≡ replace s (m .standing)) × (amended .state .published ≡ publishedOf rule (m .standing))
   unfolding effectOf settle
   amended-lists =
-      let x : State = stepOf Publish m p .state in
-      rw real (become-does (λ f. settle f x e .answer .refusal ≡ accepted → (settle f x e .state .standing ≡ replace s (m .standing)) × (settle f x e .state .published ≡ publishedOf (m .standing)))
+      let x : State = withPublished (publishedOf rule (m .standing)) m in
+      rw (known, real) (become-does (λ f. settle f x e .answer .refusal ≡ accepted → (settle f x e .state .standing ≡ replace s (m .standing)) × (settle f x e .state .published ≡ publishedOf rule (m .standing)))
       x (amendRefusal (m .standing) s) (replace s (m .standing)) (remember (m .standing) (m .past)) (λ _ _. (refl, refl)) (λ no r. absurd (no r)))
 
   -- WRITING gives the amended list, and a DAY still asks the list as it was published
@@ -151,7 +152,7 @@ module _ (m : State) (p e : Request) (s : Spell) (real : idle (m .standing) s �
       → (stepOf Write (amended .state) q .answer .refusal ≡ accepted
       → stepOf Write (amended .state) q .answer .text ≡ over (writeAll (replace s (m .standing))) (q .text))
       × (stepOf (Ask (Day d)) (amended .state) q .answer .refusal ≡ accepted
-      → stepOf (Ask (Day d)) (amended .state) q .answer .numbers ≡ over (listed (onDay d) (publishedOf (m .standing))) (q .numbers))
+      → stepOf (Ask (Day d)) (amended .state) q .answer .numbers ≡ over (listed (onDay d) (publishedOf rule (m .standing))) (q .numbers))
   amended-unpublished r q d =
       let x = amended .state in
       let is = amended-lists r in (

@@ -1,7 +1,9 @@
 -- All calls of the account gone through once, for any property of what a call does, and what comes of an effect gone through
 -- once, for any property of an outcome. Assumes nothing.
 use Rattle.basis.proofs.Prelude.{_∙_, _≡_, ap, refl, sym, ℕ, List, List·Memᴰ, List·Memᴰ·head, List·Memᴰ·tail, [], _∷_, Bool, _&&_, cond, false, false≢true, true, eqb, leb, length, arith, eqb-false, eqb-true, leb-false, leb-true, by-cases, by-test}
-use Rattle.refusal.specs.Table.{accepted, offCalendar, reversed, unknownNumber, unsortedDays, shortBuffer}
+use Rattle.refusal.specs.Table.{accepted, offCalendar, reversed, unknownNumber, unsortedDays, shortBuffer, noSuchRule}
+use Rattle.rules.specs.Rules.{isRule}
+use Rattle.model.specs.Publishing.{publishedOf}
 use Rattle.spell.specs.declared.Spell.{Spell}
 use Rattle.calendar.specs.Calendar.{isDay, daysOk}
 use Rattle.register.specs.Text.{writeAll}
@@ -12,7 +14,7 @@ use Rattle.model.specs.declared.Question.{Question}
 use Rattle.model.specs.declared.Question.the-variants.{Day, Span, Cover, Days, Mask}
 use Rattle.model.specs.Edits.{insert, remove, replace, idle, enterRefusal, amendRefusal, strikeRefusal, takeBackRefusal, remember, frontOr, restOf}
 use Rattle.model.specs.Questions.{onAny, rising, listed}
-use Rattle.model.specs.Effects.{State, withStanding, Request, After, Effect, refused, done, gives, writes, refuse, gave, wrote, settle}
+use Rattle.model.specs.Effects.{State, withStanding, Request, After, Effect, refused, done, gives, writes, refuse, gave, wrote, settle, withPublished}
 use Rattle.model.specs.Model.{become, edit, amend, takeBack, publish, reaching, several, cover, ask, effectOf, step}
 use Rattle.model.specs.Journal.{reads}
 use Rattle.model.proofs.Rules.{fits-given, short-refused, text-fits, text-short}
@@ -104,7 +106,7 @@ module _ (F : Effect → Type 0) where
     -- any call: an edit or a take back may leave any standing list and any past
     pub call-does : (c : Call)
         → (reads c ≡ false → (l : List Spell) (p : List (List Spell)) → F (done (withStanding l p m)))
-        → (c ≡ Publish → F (publish m)) → F (effectOf c ds m)
+        → ((rule : ℕ) → c ≡ Publish rule → F (done (withPublished (publishedOf rule (m .standing)) m))) → F (effectOf c ds m)
     unfolding effectOf takeBack
     call-does (Enter s) changed published =
         become-does m (enterRefusal (m .standing) s) (insert s (m .standing)) (remember (m .standing) (m .past)) (λ _. changed refl _ _) (a .refusing _)
@@ -115,7 +117,7 @@ module _ (F : Effect → Type 0) where
         become-does m (strikeRefusal (m .standing) k) (remove k (m .standing)) (remember (m .standing) (m .past)) (λ _. changed refl _ _) (a .refusing _)
     call-does TakeBack changed published =
         become-does m (takeBackRefusal (m .past)) (frontOr (m .standing) (m .past)) (restOf (m .past)) (λ _. changed refl _ _) (a .refusing _)
-    call-does Publish changed published = published refl
+    call-does (Publish rule) changed published = by-cases F (isRule rule) (λ _. published rule refl) (λ _. a .refusing noSuchRule (λ e. omega arith))
     call-does Write changed published = written
     call-does (Ask w) changed published = asks-does a w
 
@@ -126,7 +128,7 @@ module _ (P : After → Type 0) (m : State) (q : Request)
   comes : (reads (q .call) ≡ false → (m′ : State) → P (refuse accepted m′ q)) → P (step m q)
   comes changed =
       settles P m q (a .refusing shortBuffer (λ e. omega arith)) (effectOf (q .call) (q .days) m)
-      (call-does (Comes P m q) (q .days) m a written (q .call) (λ e l p. changed e _) (λ e. changed (ap reads e) _))
+      (call-does (Comes P m q) (q .days) m a written (q .call) (λ e l p. changed e _) (λ rule e. changed (ap reads e) _))
 
   -- of one that only reads
   pub reads-every : reads (q .call) ≡ true → P (step m q)

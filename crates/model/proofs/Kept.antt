@@ -1,5 +1,5 @@
 -- The lists of the account stay in the order, their numbers unique, through every call. Assumes nothing.
-use Rattle.basis.proofs.Prelude.{_≡_, refl, _≤_, suc, zero, ℕ, List, List·Memᴰ, List·Memᴰ·cases-cons, List·Memᴰ·head, List·Memᴰ·not-nil, List·Memᴰ·tail, [], _∷_, inl, inr, length, length-take, take, arith}
+use Rattle.basis.proofs.Prelude.{by-cases, _≡_, refl, _≤_, suc, zero, ℕ, List, List·Memᴰ, List·Memᴰ·cases-cons, List·Memᴰ·head, List·Memᴰ·not-nil, List·Memᴰ·tail, [], _∷_, inl, inr, length, length-take, take, arith}
 use Rattle.refusal.specs.Table.{accepted}
 use Rattle.spell.specs.declared.Spell.{Spell}
 use Rattle.spell.specs.Listing.{Sound, Good, Orderly}
@@ -14,7 +14,8 @@ use Rattle.model.specs.Effects.{State, Request, After, Effect}
 use Rattle.model.specs.Model.{begun, edit, takeBack, effectOf, step}
 use Rattle.model.specs.Reached.{Begun, afresh, reading, after, Kept, Brings}
 use Rattle.model.proofs.Edits.{orderly-none, orderly-insert, orderly-remove, orderly-replace}
-use Rattle.model.proofs.Publishing.{published-orderly}
+use Rattle.model.proofs.Publishing.{Cuts, published-orderly}
+use Rattle.rules.specs.Rules.{isRule}
 use Rattle.model.proofs.Checks.{enters, amends, strike-accepted}
 use Rattle.model.proofs.Effects.{Comes, settles, become-does, amend-does, asks-does}
 use Rattle.model.proofs.Rules.{reading-begins}
@@ -45,7 +46,7 @@ module _ (P : Spell → Type 0) where
 
   -- ---- A call
 
-  module _ {m : State} (q : Request) (k : Kept P m) where
+  module _ (cuts : Cuts P) {m : State} (q : Request) (k : Kept P m) where
     abbrev Keeps : Effect → Type 0
     Keeps = Comes (λ (x : After). Kept P (x .state)) m q
 
@@ -81,7 +82,10 @@ module _ (P : Spell → Type 0) where
         edit-keeps (strikeRefusal (m .standing) n) (remove n (m .standing)) (λ e.
         orderly-remove text-order P n (m .standing) (k .standing) (strike-accepted (m .standing) n .0 e))
     call-keeps TakeBack b = back-keeps (m .past) (k .past) (k .depth)
-    call-keeps Publish b = record { standing = k .standing; past = k .past; depth = k .depth; published = published-orderly P (m .standing) (k .standing) }
+    call-keeps (Publish rule) b =
+        by-cases Keeps (isRule rule)
+        (λ _. record { standing = k .standing; past = k .past; depth = k .depth; published = published-orderly rule P cuts (m .standing) (k .standing) })
+        (λ _. k)
     call-keeps Write b = k
     call-keeps (Ask w) b = asks-does Keeps (record { refusing = λ n _. k; asked = λ h l. k; several = k; masked = λ b n. k }) w
 
@@ -90,7 +94,7 @@ module _ (P : Spell → Type 0) where
 
   -- ---- A list of calls
 
-  pub after-kept : {m : State} → Kept P m → (qs : List Request) → ((q : Request) → List·Memᴰ q qs → Brings P (q .call)) → Kept P (after m qs)
+  pub after-kept : Cuts P → {m : State} → Kept P m → (qs : List Request) → ((q : Request) → List·Memᴰ q qs → Brings P (q .call)) → Kept P (after m qs)
   unfolding after
-  after-kept k [] b = k
-  after-kept k (q ∷ qs) b = after-kept (step-kept q k (b q (List·Memᴰ·head refl))) qs (λ r i. b r (List·Memᴰ·tail i))
+  after-kept cuts k [] b = k
+  after-kept cuts k (q ∷ qs) b = after-kept cuts (step-kept cuts q k (b q (List·Memᴰ·head refl))) qs (λ r i. b r (List·Memᴰ·tail i))

@@ -1,14 +1,16 @@
 -- The published list: in the order of the answers, each number once, and the standing list itself where the two orders are one. Assumes nothing.
-use Rattle.basis.proofs.Prelude.{_∙_, _≡_, ap, refl, _≤_, ℕ, List, [], _∷_, Bool, false, not, true, length, arith, not-true, both}
+use Rattle.basis.proofs.Prelude.{_∙_, _≡_, ap, refl, _≤_, ℕ, List, List·Memᴰ, List·Memᴰ·cases-cons, List·Memᴰ·head, List·Memᴰ·not-nil, List·Memᴰ·tail, [], _∷_, map, inl, inr, Bool, false, not, true, length, length-map, arith, not-true, both}
 use Rattle.orders.specs.Orders.{insertBy, sortedBy}
 use Rattle.orders.proofs.Sorting.{sorted-length}
+use Rattle.rules.specs.Rules.{cut}
+use Rattle.rules.proofs.Rules.{as-entered}
 use Rattle.spell.specs.declared.Spell.{Spell}
 use Rattle.spell.specs.Order.{earlierOf, listedBefore, orderedBy}
 use Rattle.spell.specs.Listing.{stands, distinct, Each, Orderly, OrderlyBy}
 use Rattle.spell.proofs.Listing.{neither, other-way}
 use Rattle.spell.proofs.Order.{StrictOrder, answer-order, asym, ordered-tail, ordered-first}
 use Rattle.model.specs.Publishing.{publishedOf}
-use Rattle.model.proofs.Edits.{stands-insert, orderly-none, orderly-insert}
+use Rattle.model.proofs.Edits.{stands-insert, orderly-none, orderly-insert, in-insert}
 
 module _ (t : Spell → Spell → Bool) where
   pub stands-sorted : (l : List Spell) (k : ℕ) → stands l k ≡ false → stands (sortedBy t l) k ≡ false
@@ -37,16 +39,76 @@ module _ {t : Spell → Spell → Bool} (o : StrictOrder t) where
   sorted-kept [] h = refl
   sorted-kept (x ∷ l) h = ap (insertBy t x) (sorted-kept l (ordered-tail o x l h)) ∙ front x l (ordered-first o x l h)
 
-pub published-length : (l : List Spell) → length (publishedOf l) ≡ length l
-unfolding publishedOf
-published-length l = sorted-length listedBefore l
+-- ---- The rule's days
 
--- THE PUBLISHED LIST is in the order of the answers, each number once
-pub published-orderly : (P : Spell → Type 0) (l : List Spell) → Orderly P l → OrderlyBy listedBefore P (publishedOf l)
-unfolding publishedOf
-published-orderly P l g = sorted-orderly answer-order P l (g .each) (g .unique) (g .few)
+-- P holds of a spell that is published where it holds of the spell as entered
+abbrev pub Cuts : (Spell → Type 0) → Type 0
+Cuts P = (rule : ℕ) (s : Spell) → P s → P (cut rule s)
 
--- PUBLISHING makes the standing list the published list: both orders have the same keys
-pub published-standing : (l : List Spell) → orderedBy earlierOf l ≡ true → publishedOf l ≡ l
+module _ (rule : ℕ) where
+  pub each-cut : {P : Spell → Type 0} → Cuts P → (l : List Spell) → Each P l → Each P (map (cut rule) l)
+  unfolding Each
+  each-cut c [] e = tt
+  each-cut c (x ∷ l) e = (c rule x (e .0), each-cut c l (e .1))
+
+  -- the numbers are as entered
+  stands-cut : (l : List Spell) (k : ℕ) → stands (map (cut rule) l) k ≡ stands l k
+  unfolding stands
+  stands-cut [] k = refl
+  stands-cut (x ∷ l) k = rw (stands-cut l k)
+
+  pub distinct-cut : (l : List Spell) → distinct (map (cut rule) l) ≡ distinct l
+  unfolding distinct
+  distinct-cut [] = refl
+  distinct-cut (x ∷ l) = rw (stands-cut l (x .number), distinct-cut l)
+
+  pub published-length : (l : List Spell) → length (publishedOf rule l) ≡ length l
+  unfolding publishedOf
+  published-length l = sorted-length listedBefore (map (cut rule) l) ∙ length-map l (cut rule)
+
+  -- THE PUBLISHED LIST is in the order of the answers, each number once
+  pub published-orderly : (P : Spell → Type 0) → Cuts P → (l : List Spell) → Orderly P l → OrderlyBy listedBefore P (publishedOf rule l)
+  unfolding publishedOf
+  published-orderly P c l g =
+      sorted-orderly answer-order P (map (cut rule) l) (each-cut c l (g .each)) (distinct-cut l ∙ g .unique) (omega (arith, length-map l (cut rule), g .few))
+
+as-entered-all : (l : List Spell) → map (cut 1) l ≡ l
+as-entered-all [] = refl
+as-entered-all (x ∷ l) = ap (λ (z : Spell). z ∷ map (cut 1) l) (as-entered x) ∙ ap (λ (r : List Spell). x ∷ r) (as-entered-all l)
+
+-- RULE 1 makes the standing list the published list: both orders have the same keys
+pub published-standing : (l : List Spell) → orderedBy earlierOf l ≡ true → publishedOf 1 l ≡ l
 unfolding publishedOf earlierOf listedBefore
-published-standing l h = sorted-kept answer-order l h
+published-standing l h = ap (sortedBy listedBefore) (as-entered-all l) ∙ sorted-kept answer-order l h
+
+-- ---- Which spells are published
+
+module _ (t : Spell → Spell → Bool) where
+  sorted-in : (l : List Spell) (x : Spell) → List·Memᴰ x (sortedBy t l) → List·Memᴰ x l
+  unfolding sortedBy
+  sorted-in [] x i = i
+  sorted-in (y ∷ l) x i = elim (in-insert t y (sortedBy t l) x .0 i) [ inl e ↦ List·Memᴰ·head e | inr j ↦ List·Memᴰ·tail (sorted-in l x j) ]
+
+  in-sorted : (l : List Spell) (x : Spell) → List·Memᴰ x l → List·Memᴰ x (sortedBy t l)
+  unfolding sortedBy
+  in-sorted [] x i = i
+  in-sorted (y ∷ l) x i = in-insert t y (sortedBy t l) x .1 (elim (List·Memᴰ·cases-cons i) [ inl e ↦ inl e | inr j ↦ inr (in-sorted l x j) ])
+
+-- EACH SPELL that stands is published with the days that the rule gives it
+pub published-all : (rule : ℕ) (l : List Spell) (s : Spell) → List·Memᴰ s l → List·Memᴰ (cut rule s) (publishedOf rule l)
+unfolding publishedOf
+published-all rule l s i = in-sorted listedBefore (map (cut rule) l) (cut rule s) (in-cut l i)
+  where
+    in-cut : (l : List Spell) → List·Memᴰ s l → List·Memᴰ (cut rule s) (map (cut rule) l)
+    in-cut [] i = absurd (List·Memᴰ·not-nil i)
+    in-cut (y ∷ l) i = elim (List·Memᴰ·cases-cons i) [ inl e ↦ List·Memᴰ·head (ap (cut rule) e) | inr j ↦ List·Memᴰ·tail (in-cut l j) ]
+
+-- and what is published is no other: what holds of each spell with its rule's days holds of each that is published
+pub published-only : (rule : ℕ) (P : Spell → Type 0) (l : List Spell) → ((s : Spell) → List·Memᴰ s l → P (cut rule s))
+    → (x : Spell) → List·Memᴰ x (publishedOf rule l) → P x
+unfolding publishedOf
+published-only rule P l h x i = from-cut l h (sorted-in listedBefore (map (cut rule) l) x i)
+  where
+    from-cut : (l : List Spell) → ((s : Spell) → List·Memᴰ s l → P (cut rule s)) → List·Memᴰ x (map (cut rule) l) → P x
+    from-cut [] h i = absurd (List·Memᴰ·not-nil i)
+    from-cut (y ∷ l) h i = elim (List·Memᴰ·cases-cons i) [ inl e ↦ rw e (h y (List·Memᴰ·head refl)) | inr j ↦ from-cut l (λ s k. h s (List·Memᴰ·tail k)) j ]

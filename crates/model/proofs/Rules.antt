@@ -1,7 +1,8 @@
 -- Document 01's plain account, what begins it and what take back, publish and writing do, as claims of every state. The edits are in
 -- `Editing.antt`, the questions in `Claims.antt`, whole lists of calls in `Runs.antt`. Assumes nothing.
-use Rattle.basis.proofs.Prelude.{_≡_, refl, _<_, _≤_, ℕ, List, [], _++_, _∷_, leb, drop, length, arith, le-leb, leb-false, leb-true, lt-leb, by-test}
-use Rattle.refusal.specs.Table.{accepted, noHistory, shortBuffer}
+use Rattle.basis.proofs.Prelude.{_≡_, refl, _<_, _≤_, ℕ, List, [], _++_, _∷_, leb, drop, length, arith, le-leb, leb-false, leb-true, lt-leb, by-test, true, false}
+use Rattle.refusal.specs.Table.{accepted, noHistory, shortBuffer, noSuchRule}
+use Rattle.rules.specs.Rules.{isRule}
 use Rattle.spell.specs.declared.Spell.{Spell}
 use Rattle.register.specs.Text.{Register, readText, writeAll}
 use Rattle.register.specs.Text.Register.{good, bad}
@@ -62,10 +63,15 @@ module _ (m : State) (q : Request) where
   unfolding effectOf takeBack settle
   back-refused e = rw e
 
-  -- PUBLISH is never refused, and leaves the standing list and the past as they are
-  pub publish-keeps-past : stepOf Publish m q ≡ refuse accepted (withPublished (publishedOf (m .standing)) m) q
+  -- PUBLISH by a rule that there is leaves the standing list and the past as they are
+  pub publish-keeps-past : (rule : ℕ) → isRule rule ≡ true → stepOf (Publish rule) m q ≡ refuse accepted (withPublished (publishedOf rule (m .standing)) m) q
   unfolding effectOf settle
-  publish-keeps-past = refl
+  publish-keeps-past rule e = rw e
+
+  -- by any other it is refused with 14, its only check, and changes nothing
+  pub publish-refused : (rule : ℕ) → isRule rule ≡ false → stepOf (Publish rule) m q ≡ refuse noSuchRule m q
+  unfolding effectOf settle
+  publish-refused rule e = rw e
 
   -- ---- Writing
 

@@ -5,6 +5,7 @@ use Rattle.spell.specs.declared.Spell.{Spell}
 use Rattle.spell.specs.Order.{listedBefore, orderedBy}
 use Rattle.spell.specs.Listing.{distinct, HeldUrgency, Sound}
 use Rattle.spell.proofs.Order.{each-member, each-map}
+use Rattle.rules.proofs.Rules.{cut-passes, cut-sound}
 use Rattle.register.specs.Text.{writeAll, readText}
 use Rattle.register.specs.Text.Register.{good}
 use Rattle.register.proofs.Claims.{list-again}
@@ -38,11 +39,11 @@ module _ {m₀ : State} (begin : Begun m₀) (calls : List Request) where
   -- IN THE ORDER, EACH NUMBER ONCE: the standing list, every list of the past and the published list, at most 1,024 spells, each of
   -- which passes the checks 1 to 5; the past is at most 64 lists
   pub always-kept : Kept Passes (after m₀ calls)
-  always-kept = after-kept Passes (begun-kept Passes (λ s g. g .entered) begin) calls (λ q _ s _ e. e)
+  always-kept = after-kept Passes cut-passes (begun-kept Passes (λ s g. g .entered) begin) calls (λ q _ s _ e. e)
 
   -- SOUND, where each spell that a call brings has numbers of 16 bits and a 32-bit float
   pub always-sound : ((q : Request) → List·Memᴰ q calls → Brings Sound (q .call)) → Kept Sound (after m₀ calls)
-  always-sound = after-kept Sound (begun-kept Sound (λ s g. g) begin) calls
+  always-sound = after-kept Sound cut-sound (begun-kept Sound (λ s g. g) begin) calls
 
   -- so the text of the standing list reads back as the standing list
   pub written-again : ((q : Request) → List·Memᴰ q calls → Brings Sound (q .call)) → readText (writeAll (after m₀ calls .standing)) ≡ good (after m₀ calls .standing)

@@ -15,7 +15,7 @@ reads (Enter s) = false
 reads (Amend s) = false
 reads (Strike k) = false
 reads TakeBack = false
-reads Publish = false
+reads (Publish rule) = false
 reads Write = true
 reads (Ask w) = true
 

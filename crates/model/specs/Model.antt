@@ -5,7 +5,8 @@ use mathlib.Core.Bool.{_&&_, cond}
 use mathlib.Core.List.{List, [], _∷_}
 use lib.Dec.{leb, eqb}
 use lib.ListN.{length}
-use Rattle.refusal.specs.Table.{accepted, offCalendar, reversed, unknownNumber, unsortedDays}
+use Rattle.refusal.specs.Table.{accepted, offCalendar, reversed, unknownNumber, unsortedDays, noSuchRule}
+use Rattle.rules.specs.Rules.{isRule}
 use Rattle.spell.specs.declared.Spell.{Spell}
 use Rattle.calendar.specs.Calendar.{isDay, daysOk}
 use Rattle.masks.specs.Masks.{ticks}
@@ -63,9 +64,10 @@ unfoldable pub takeBack : List (List Spell) → State → Effect
 unfolding takeBackRefusal frontOr restOf
 takeBack past m = become (takeBackRefusal past) (frontOr (m .standing) past) (restOf past) m
 
--- the published list becomes the standing list, in the order of the answers; the past is untouched
-abbrev pub publish : State → Effect
-publish m = done (withPublished (publishedOf (m .standing)) m)
+-- publish by a rule, or 14: the published list becomes the standing list with the rule's days, in the order of the answers; the standing
+-- list and the past are untouched
+abbrev pub publish : ℕ → State → Effect
+publish rule m = cond (isRule rule) (done (withPublished (publishedOf rule (m .standing)) m)) (refused noSuchRule)
 
 -- ---- Questions, of the published list p
 
@@ -99,7 +101,7 @@ effectOf (Enter s) ds m = edit (enterRefusal (m .standing) s) (insert s (m .stan
 effectOf (Amend s) ds m = amend s m
 effectOf (Strike k) ds m = edit (strikeRefusal (m .standing) k) (remove k (m .standing)) m
 effectOf TakeBack ds m = takeBack (m .past) m
-effectOf Publish ds m = publish m
+effectOf (Publish rule) ds m = publish rule m
 effectOf Write ds m = writes (writeAll (m .standing))
 effectOf (Ask w) ds m = ask w ds (m .published)
 

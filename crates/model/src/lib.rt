@@ -16,7 +16,7 @@ pub enum Call {
     Amend(Spell),
     Strike(u16),
     TakeBack,
-    Publish,
+    Publish(u16),
     Write,
     Ask(Question),
 }

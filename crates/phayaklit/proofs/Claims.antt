@@ -17,7 +17,7 @@ use Rattle.service.specs.Places.{serviceOf, readService, leaves}
 use Rattle.service.specs.Packed.{packed, unpacked}
 use Rattle.service.specs.Service.{Blocks, Valid, Represents, Given, Met, Changed, Begins}
 use Rattle.service.proofs.Represented.{represented}
-use Rattle.service.proofs.Beginning.{publishes-met}
+use Rattle.service.proofs.Beginning.{publishes-met, publishes-refused}
 use Rattle.service.specs.History as history
 use Rattle.service.proofs.Claims.{made-run, made-given, idle-left}
 use Rattle.phayaklit.specs.declared.Reply.{Reply}
@@ -44,7 +44,7 @@ read-words register a b = a ∙ ap packed (b .whole)
 pub called-met : {words words′ : List ℕ} {bs bs′ : Blocks} {numbers text : List ℕ} {q : Request} {r : Reply} → Called words bs q r words′ bs′ numbers text
     → Given (unpacked words) bs → Met (unpacked words) bs q (steppedOf words′ r) bs′ numbers text
 called-met (edited {bs = bs} {days} {numbers} {text} c r met) g = met (g .valid) .0 .met bs days numbers text g
-called-met (published {bs = bs} {days = days} {numbers} {text} r met) g = publishes-met (g .valid) (met (g .valid)) bs days numbers text
+called-met (published {days = days} {numbers} {text} rule r met) g = publishes-met (met (g .valid)) days numbers text g
 called-met (wrote {bs = bs} {days} {numbers} r met) g = met (g .valid) .met bs days numbers g
 called-met (asked {words} {text = text} w r met) g = met (g .published) .met (unpacked words) text g
 
@@ -75,7 +75,7 @@ hosted-read register r b h = made-run (begun (readText register)) (b .represents
 called-laid : {words words′ : List ℕ} {bs bs′ : Blocks} {numbers text : List ℕ} {q : Request} {r : Reply} → Given (unpacked words) bs → Laid words
     → Called words bs q r words′ bs′ numbers text → Laid words′
 called-laid g l (edited c r met) = met (g .valid) .1
-called-laid g l (published r met) = l
+called-laid g l (published rule r met) = l
 called-laid g l (wrote r met) = l
 called-laid g l (asked w r met) = l
 
@@ -85,11 +85,11 @@ pub hosted-laid : {words words′ : List ℕ} {bs bs′ : Blocks} {qs : List Req
 hosted-laid g l none = l
 hosted-laid g l (then c more) = hosted-laid (called-met c g .given) (called-laid g l c) more
 
--- a refused call leaves words and blocks as they were; publish is none
+-- a refused call leaves words and blocks as they were
 called-keeps : {words words′ : List ℕ} {bs bs′ : Blocks} {numbers text : List ℕ} {q : Request} {r : Reply} → Given (unpacked words) bs → Laid words
     → Called words bs q r words′ bs′ numbers text → eqb (r .refusal) accepted ≡ false → (words′ ≡ words) × (bs′ ≡ bs)
 called-keeps g l (edited c r met) t = (met (g .valid) .1 ∙ ap packed (met (g .valid) .0 .kept t) ∙ sym l, refl)
-called-keeps g l (published r met) t = absurd (false≢true (sym (rw (ap (λ (o : Outcome). o .refusal) (met (g .valid) .outcome)) at t)))
+called-keeps g l (published rule r met) t = (refl, publishes-refused (met (g .valid)) t)
 called-keeps g l (wrote r met) t = (refl, refl)
 called-keeps g l (asked w r met) t = (refl, refl)
 
@@ -107,7 +107,7 @@ called-idle : {words words′ : List ℕ} {bs bs′ : Blocks} {numbers text : Li
 called-idle {words} s h l (edited c r met) is same =
     let k = met (h .valid) in
     k .1 ∙ ap packed (k .0 .whole ∙ ap (leaves (unpacked words)) is ∙ idle-left s h same) ∙ sym l
-called-idle s h l (published r met) is same = refl
+called-idle s h l (published rule r met) is same = refl
 called-idle s h l (wrote r met) is same = refl
 called-idle s h l (asked w r met) is same = refl
 

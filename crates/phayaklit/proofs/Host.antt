@@ -1,5 +1,5 @@
 -- A call on the service of a block of words is a call on the block. Assumes nothing.
-use Rattle.basis.proofs.Prelude.{_∙_, _≡_, ap, refl, sym, ℕ, List}
+use Rattle.basis.proofs.Prelude.{_∙_, _≡_, ap, refl, sym, ℕ, List, cond}
 use Rattle.model.specs.declared.Call.{Call}
 use Rattle.model.specs.Model.{fresh}
 use Rattle.standing.specs.Standing.{listOf}
@@ -7,6 +7,7 @@ use Rattle.service.specs.declared.Service.{Service}
 use Rattle.service.specs.declared.Stepped.{Stepped}
 use Rattle.service.specs.Places.{freshService}
 use Rattle.service.specs.Packed.{packed, unpacked, Packs}
+use Rattle.rules.specs.Rules.{isRule}
 use Rattle.model.specs.Publishing.{publishedOf}
 use Rattle.service.specs.Service.{Blocks, indexOf, Valid, Represents, Changed, Publishes}
 use Rattle.phayaklit.specs.declared.Reply.{Reply}
@@ -31,6 +32,10 @@ pub edited : (words words′ : List ℕ) (sv : Service) (c : Call) (r : Stepped)
 edited words words′ sv c r x e f h = rw (← e, f) h
 
 -- publish keeps the service, so the words need not be packed again
-pub published : (words : List ℕ) (bs′ : Blocks) (sv : Service) (r : Stepped) (x : Reply) → sv ≡ unpacked words → outcomeOf x ≡ r .outcome → Publishes sv r bs′
-    → Publishes (unpacked words) (steppedOf words x) bs′
-published words bs′ sv r x e f p = record { kept = refl; outcome = f ∙ p .outcome; index = p .index ∙ ap (λ (s : Service). indexOf (publishedOf (listOf (s .standing)))) e }
+pub published : (words : List ℕ) (rule : ℕ) (bs bs′ : Blocks) (sv : Service) (r : Stepped) (x : Reply) → sv ≡ unpacked words → outcomeOf x ≡ r .outcome → Publishes sv rule bs r bs′
+    → Publishes (unpacked words) rule bs (steppedOf words x) bs′
+published words rule bs bs′ sv r x e f p = record {
+  kept = refl;
+  outcome = f ∙ p .outcome;
+  index = p .index ∙ ap (λ (s : Service). cond (isRule rule) (indexOf (publishedOf rule (listOf (s .standing)))) (bs .index)) e;
+}

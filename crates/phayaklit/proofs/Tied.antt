@@ -72,10 +72,10 @@ module _ (κs : Lfts 1) (words words′ : RefT (List ℕ)) (r : Reply) {bs : Blo
 -- ---- Publish and writing
 
 module _ (κs : Lfts 2) (words : RefT (List ℕ)) (r : Reply) where
-  pub publish-called : (index index′ : RefT (List ℕ)) {days numbers text : List ℕ}
-      → (publish-reads.Pre κs (words, (index, tt)) → publish-reads.Post κs (words, (index, tt)) r (words, (index′, tt)))
-      → Called (now words) (blocks (now index)) (asking Publish days numbers text) r (now words) (blocks (now index′)) numbers text
-  publish-called index index′ met = published r met
+  pub publish-called : (rule : ℕ) (index index′ : RefT (List ℕ)) {days numbers text : List ℕ}
+      → (publish-reads.Pre κs (words, (rule, (index, tt))) → publish-reads.Post κs (words, (rule, (index, tt))) r (words, (rule, (index′, tt))))
+      → Called (now words) (blocks (now index)) (asking (Publish rule) days numbers text) r (now words) (blocks (now index′)) numbers text
+  publish-called rule index index′ met = published rule r met
 
   pub write-called : (text text′ : RefT (List ℕ)) {bs : Blocks} {days numbers : List ℕ}
       → (write-reads.Pre κs (words, (text, tt)) → write-reads.Post κs (words, (text, tt)) r (words, (text′, tt)))
@@ -130,8 +130,8 @@ module _ (κs : Lfts 1) (words : RefT (List ℕ)) where
   take-back-asks = refl
 
 module _ (κs : Lfts 2) (words : RefT (List ℕ)) where
-  pub publish-asks : (index : RefT (List ℕ)) → publish-reads.Pre κs (words, (index, tt)) ≡ Held (now words)
-  publish-asks index = refl
+  pub publish-asks : (rule : ℕ) (index : RefT (List ℕ)) → publish-reads.Pre κs (words, (rule, (index, tt))) ≡ Held (now words)
+  publish-asks rule index = refl
 
   pub write-asks : (text : RefT (List ℕ)) → write-reads.Pre κs (words, (text, tt)) ≡ Held (now words)
   write-asks text = refl

@@ -21,9 +21,9 @@ pub data Called : List ℕ → Blocks → Request → Reply → List ℕ → Blo
   edited : {words words′ : List ℕ} {bs : Blocks} {days numbers text : List ℕ} (c : Call) (r : Reply)
       → (Held words → Changed (unpacked words) c (steppedOf words′ r) × Laid words′)
       → Called words bs (asking c days numbers text) r words′ bs numbers text
-  published : {words : List ℕ} {bs bs′ : Blocks} {days numbers text : List ℕ} (r : Reply)
-      → (Held words → Publishes (unpacked words) (steppedOf words r) bs′)
-      → Called words bs (asking Publish days numbers text) r words bs′ numbers text
+  published : {words : List ℕ} {bs bs′ : Blocks} {days numbers text : List ℕ} (rule : ℕ) (r : Reply)
+      → (Held words → Publishes (unpacked words) rule bs (steppedOf words r) bs′)
+      → Called words bs (asking (Publish rule) days numbers text) r words bs′ numbers text
   wrote : {words : List ℕ} {bs : Blocks} {days numbers text text′ : List ℕ} (r : Reply)
       → (Held words → Wrote (unpacked words) text (outcomeOf r) text′)
       → Called words bs (asking Write days numbers text) r words bs numbers text′

@@ -15,7 +15,7 @@ use Rattle.phayaklit.specs.declared.Opened.{Opened}
 
 -- the version of the exported functions and of the two blocks
 abbrev pub version : ℕ
-version = 2
+version = 3
 
 -- the words of a service that the calls gave
 abbrev pub Held : List ℕ → Type 0

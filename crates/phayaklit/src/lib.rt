@@ -87,7 +87,7 @@ fn put_back(r: Stepped, words: &mut [u16; SERVICE]) -> Reply
 // ---- The version
 
 // The version of these functions and of the two blocks, as the header and the module for Rust name it.
-const VERSION: u32 = 2;
+const VERSION: u32 = 3;
 
 #[no_mangle]
 pub extern "C" fn phayaklit_version() -> u32
@@ -184,14 +184,18 @@ pub extern "C" fn phayaklit_take_back(words: &mut [u16; SERVICE]) -> Reply
 
 // ---- Publish and writing: the service is read and not written
 
-// The published list becomes the standing list. The index may hold anything beforehand.
+// The published list becomes the standing list with the rule's days. The index may hold anything beforehand. Check: 14.
 #[no_mangle]
-pub extern "C" fn phayaklit_publish(words: &[u16; SERVICE], index: &mut [u16; INDEX]) -> Reply
+pub extern "C" fn phayaklit_publish(
+    words: &[u16; SERVICE],
+    rule: u16,
+    index: &mut [u16; INDEX],
+) -> Reply
     requires { ⌜ Held (now words) ⌝ }
-    ensures { λ r. ⌜ Publishes (unpacked (now (words .entry))) (steppedOf (now (words .entry)) r) (blocks (now (index .exit))) ⌝ }
+    ensures { λ r. ⌜ Publishes (unpacked (now (words .entry))) rule (blocks (now (index .entry))) (steppedOf (now (words .entry)) r) (blocks (now (index .exit))) ⌝ }
 {
     let service = service::unpack(words);
-    let r = service::publish(service, index);
+    let r = service::publish(service, rule, index);
     answered(r.outcome)
 }
 

@@ -9,6 +9,7 @@ use Rattle.model.specs.declared.Call.{Call}
 use Rattle.model.specs.declared.Call.the-variants.{Enter, Amend, Strike, TakeBack, Publish, Write, Ask}
 use Rattle.model.specs.declared.Question.the-variants.{Day, Span, Cover, Days, Mask}
 use Rattle.orders.specs.Orders.{sortedBy}
+use Rattle.rules.specs.Rules.{lastOf}
 use Rattle.model.specs.Edits.{insertBy, enterRefusal, remember}
 use Rattle.model.specs.Publishing.{publishedOf}
 use Rattle.calendar.specs.Calendar.{daysOk}
@@ -20,12 +21,12 @@ use Rattle.buffer.specs.Buffer.{over}
 use Rattle.packing.specs.Blocks.{written}
 use Rattle.replay.specs.Coded.{codeAt, callOf, nextOf, decodeFrom, decode, resultsOf, numbersOf, textsOf}
 
--- enter 11, with a word of more than 16 bits; enter 12, with a reading; publish; day 3, lent three places; days 1 and 4, lent
+-- enter 11, with a word of more than 16 bits; enter 12, with a reading; publish by rule 1; day 3, lent three places; days 1 and 4, lent
 -- two places; the mask of days 3 and 4, lent one place, which is short; a number that no call has; and a code of three words
 abbrev codes : List ℕ
 codes = (1 ∷ 65547 ∷ 7 ∷ 1 ∷ 10 ∷ 0 ∷ 2 ∷ 0 ∷ 0 ∷ 0 ∷ [])
     ++ (1 ∷ 12 ∷ 8 ∷ 3 ∷ 4 ∷ 1 ∷ 0x3F80_0000 ∷ 0 ∷ 0 ∷ 0 ∷ [])
-    ++ (5 ∷ 0 ∷ 0 ∷ 0 ∷ 0 ∷ 0 ∷ 0 ∷ 0 ∷ 0 ∷ 0 ∷ [])
+    ++ (5 ∷ 1 ∷ 0 ∷ 0 ∷ 0 ∷ 0 ∷ 0 ∷ 0 ∷ 0 ∷ 0 ∷ [])
     ++ (7 ∷ 0 ∷ 0 ∷ 3 ∷ 0 ∷ 0 ∷ 0 ∷ 0 ∷ 3 ∷ 0 ∷ [])
     ++ (10 ∷ 0 ∷ 0 ∷ 0 ∷ 0 ∷ 0 ∷ 0 ∷ 2 ∷ 2 ∷ 0 ∷ [])
     ++ (11 ∷ 0 ∷ 0 ∷ 3 ∷ 0 ∷ 0 ∷ 3 ∷ 0 ∷ 1 ∷ 0 ∷ [])
@@ -48,7 +49,7 @@ coded room = decode codes lentDays (results room) lentNumbers []
 pub decoded : coded 35
     ≡ record { call = Enter (record { number = 11; candidate = 7; first = 1; last = 10; urgency = Grade 2 }); days = []; numbers = []; text = [] }
     ∷ record { call = Enter (record { number = 12; candidate = 8; first = 3; last = 4; urgency = Reading (ofBits binary32 0x3F80_0000) }); days = []; numbers = []; text = [] }
-    ∷ record { call = Publish; days = []; numbers = []; text = [] }
+    ∷ record { call = Publish 1; days = []; numbers = []; text = [] }
     ∷ record { call = Ask (Day 3); days = []; numbers = 91 ∷ 92 ∷ 93 ∷ []; text = [] }
     ∷ record { call = Ask Days; days = 1 ∷ 4 ∷ []; numbers = 94 ∷ 95 ∷ []; text = [] }
     ∷ record { call = Ask (Mask 3 3); days = []; numbers = 96 ∷ []; text = [] }
@@ -65,7 +66,7 @@ no-room = refl
 pub answered : (over (resultsOf (run fresh (coded 35))) (results 35)
     ≡ replicate 15 0 ++ (0 ∷ 2 ∷ 0 ∷ 0 ∷ 0 ∷ []) ++ (0 ∷ 2 ∷ 0 ∷ 0 ∷ 0 ∷ []) ++ (11 ∷ 0 ∷ 0 ∷ 0 ∷ 0 ∷ []) ++ replicate 5 77)
     × (over (numbersOf (run fresh (coded 35))) lentNumbers ≡ 11 ∷ 12 ∷ 93 ∷ 11 ∷ 12 ∷ 96 ∷ [])
-unfolding decodeFrom codeAt nextOf callOf written run settle effectOf ask enterRefusal insertBy publishedOf sortedBy listedBefore remember earlierOf stands isNan toBits ofBits
+unfolding decodeFrom codeAt nextOf callOf written run settle effectOf ask enterRefusal insertBy publishedOf lastOf sortedBy listedBefore remember earlierOf stands isNan toBits ofBits
     onAny daysOk rising ticksFrom isSet filter comparisonsOf below keep count head next parent child leftSibling lastChild fitsAt start onPath formula
 answered = (refl, refl)
 
@@ -83,7 +84,7 @@ pub each-call : decode (each 1 0 ++ each 2 1 ++ each 3 0 ++ each 4 0 ++ each 5 0
     (replicate 11 5) (replicate 55 0) (replicate 22 6) (replicate 33 7)
     ≡ lent (Enter (record { number = 11; candidate = 12; first = 13; last = 14; urgency = Grade 15 }))
     ∷ lent (Amend (record { number = 11; candidate = 12; first = 13; last = 14; urgency = Reading (ofBits binary32 15) }))
-    ∷ lent (Strike 11) ∷ lent TakeBack ∷ lent Publish ∷ lent Write
+    ∷ lent (Strike 11) ∷ lent TakeBack ∷ lent (Publish 11) ∷ lent Write
     ∷ lent (Ask (Day 13)) ∷ lent (Ask (Span 13 14)) ∷ lent (Ask (Cover 11)) ∷ lent (Ask Days) ∷ lent (Ask (Mask 13 15)) ∷ []
 unfolding decodeFrom codeAt nextOf callOf
 each-call = refl

@@ -76,7 +76,7 @@ callOf c =
     (cond (eqb (c .op) 2) (Go (Amend (spellOf c)))
     (cond (eqb (c .op) 3) (Go (Strike (c .number)))
     (cond (eqb (c .op) 4) (Go TakeBack)
-    (cond (eqb (c .op) 5) (Go Publish)
+    (cond (eqb (c .op) 5) (Go (Publish (c .number)))
     (cond (eqb (c .op) 6) (Go Write)
     (cond (eqb (c .op) 7) (Go (Ask (Day (c .first))))
     (cond (eqb (c .op) 8) (Go (Ask (Span (c .first) (c .last))))

@@ -46,7 +46,7 @@ fieldsOf (Enter s) = spellFields s
 fieldsOf (Amend s) = spellFields s
 fieldsOf (Strike k) = fields k 0 0
 fieldsOf TakeBack = fields 0 0 0
-fieldsOf Publish = fields 0 0 0
+fieldsOf (Publish rule) = fields rule 0 0
 fieldsOf Write = fields 0 0 0
 fieldsOf (Ask w) = askedFields w
 

@@ -111,7 +111,7 @@ fn call_of(c: Code) -> Next
         2 => Next::Go(Call::Amend(spell_of(c))),
         3 => Next::Go(Call::Strike(c.number)),
         4 => Next::Go(Call::TakeBack),
-        5 => Next::Go(Call::Publish),
+        5 => Next::Go(Call::Publish(c.number)),
         6 => Next::Go(Call::Write),
         7 => Next::Go(Call::Ask(Question::Day(c.first))),
         8 => Next::Go(Call::Ask(Question::Span(c.first, c.last))),

@@ -7,6 +7,7 @@ use Rattle.spell.specs.Listing.{stands}
 use Rattle.register.specs.Text.{lineText, textOnto}
 use Rattle.stabbing.specs.Tree.{below, keep, count, head, next, parent, child, leftSibling, lastChild, fitsAt, start, onPath, formula}
 use Rattle.orders.specs.Orders.{sortedBy}
+use Rattle.rules.specs.Rules.{lastOf}
 use Rattle.model.specs.Edits.{insertBy, enterRefusal, remember}
 use Rattle.model.specs.Publishing.{publishedOf}
 use Rattle.model.specs.Questions.{filter, comparisonsOf}
@@ -22,7 +23,7 @@ abbrev calls : List ℕ
 calls = (1 ∷ 13 ∷ 9 ∷ 5 ∷ 8 ∷ 0 ∷ 1 ∷ 0 ∷ 0 ∷ 0 ∷ [])
     ++ (1 ∷ 14 ∷ 9 ∷ 5 ∷ 6 ∷ 1 ∷ 0x3F80_0000 ∷ 0 ∷ 0 ∷ 0 ∷ [])
     ++ (1 ∷ 13 ∷ 7 ∷ 1 ∷ 9 ∷ 0 ∷ 2 ∷ 0 ∷ 0 ∷ 0 ∷ [])
-    ++ (5 ∷ 0 ∷ 0 ∷ 0 ∷ 0 ∷ 0 ∷ 0 ∷ 0 ∷ 0 ∷ 0 ∷ [])
+    ++ (5 ∷ 1 ∷ 0 ∷ 0 ∷ 0 ∷ 0 ∷ 0 ∷ 0 ∷ 0 ∷ 0 ∷ [])
     ++ (7 ∷ 0 ∷ 0 ∷ 5 ∷ 0 ∷ 0 ∷ 0 ∷ 0 ∷ 3 ∷ 0 ∷ [])
     ++ (7 ∷ 0 ∷ 0 ∷ 5 ∷ 0 ∷ 0 ∷ 0 ∷ 0 ∷ 1 ∷ 0 ∷ [])
     ++ (4 ∷ 0 ∷ 0 ∷ 0 ∷ 0 ∷ 0 ∷ 0 ∷ 0 ∷ 0 ∷ 0 ∷ [])
@@ -67,7 +68,7 @@ pub record Seen : Type 0 where
   pub written : over (textsOf answers) text ≡ line ++ (7 ∷ 7 ∷ 7 ∷ [])
 
 pub seen : Seen
-unfolding decodeFrom codeAt nextOf callOf written run settle effectOf takeBack ask enterRefusal insertBy publishedOf sortedBy listedBefore remember earlierOf stands isNan toBits ofBits
+unfolding decodeFrom codeAt nextOf callOf written run settle effectOf takeBack ask enterRefusal insertBy publishedOf lastOf sortedBy listedBefore remember earlierOf stands isNan toBits ofBits
     filter comparisonsOf below keep count head next parent child leftSibling lastChild fitsAt start onPath formula textOnto lineText decimalOf digitsOf
 seen = record { made = refl; told = refl; listed = refl; written = refl }
 

@@ -35,9 +35,9 @@ const CALLS: [u64; 100] = [
     0,
     0,
     0,
-    // publish
+    // publish by rule 1
     5,
-    0,
+    1,
     0,
     0,
     0,

@@ -93,7 +93,7 @@ shapeOf (Enter s) = Ok
 shapeOf (Amend s) = Ok
 shapeOf (Strike k) = Ok
 shapeOf TakeBack = Ok
-shapeOf Publish = Ok
+shapeOf (Publish rule) = Ok
 shapeOf Write = Text
 shapeOf (Ask w) = questionShape w
 

@@ -156,7 +156,7 @@ fn shape_of(call: Call) -> Shape
         Call::Amend(_) => Shape::Ok,
         Call::Strike(_) => Shape::Ok,
         Call::TakeBack => Shape::Ok,
-        Call::Publish => Shape::Ok,
+        Call::Publish(_) => Shape::Ok,
         Call::Write => Shape::Text,
         Call::Ask(question) => question_shape(question),
     }

@@ -28,7 +28,8 @@ table =
     ∷ ("amend 32 733 120 140 C 42280000\n", asks (Amend (spell 32 733 120 140 (Reading (ofBits binary32 0x4228_0000)))))
     ∷ ("strike 33\n", asks (Strike 33))
     ∷ ("take-back\n", asks TakeBack)
-    ∷ ("publish\n", asks Publish)
+    ∷ ("publish\t1\n", asks (Publish 1))
+    ∷ ("publish\t65535\n", asks (Publish 65535))
     ∷ ("write\n", asks Write)
     ∷ ("day 130\n", asks (Ask (Day 130)))
     ∷ ("span 99 141\n", asks (Ask (Span 99 141)))
@@ -60,7 +61,10 @@ edges =
     ∷ ("mask 1 00000000000000001\n", malformed)
     ∷ ("mask 1 000000000000000a\n", malformed)
     -- a tab after a bare word, no LF, a byte after the LF
+    ∷ ("publish\n", malformed)
     ∷ ("publish \n", malformed)
+    ∷ ("publish\t\n", malformed)
+    ∷ ("publish\t1\t2\n", malformed)
     ∷ ("publish", malformed)
     ∷ ("day 5\nx", malformed)
     ∷ []

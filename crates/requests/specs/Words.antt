@@ -16,7 +16,7 @@ use Rattle.requests.specs.declared.Layout.the-variants.{Alone, Spell as 
 use Rattle.requests.specs.declared.SpellWord.{SpellWord}
 use Rattle.requests.specs.declared.SpellWord.the-variants.{Enter as EnterWord, Amend as AmendWord}
 use Rattle.requests.specs.declared.NumberWord.{NumberWord}
-use Rattle.requests.specs.declared.NumberWord.the-variants.{Strike as StrikeWord, Day as DayWord, Cover as CoverWord}
+use Rattle.requests.specs.declared.NumberWord.the-variants.{Strike as StrikeWord, Publish as PublishWord, Day as DayWord, Cover as CoverWord}
 use Rattle.requests.specs.declared.LengthWord.{LengthWord}
 use Rattle.requests.specs.declared.LengthWord.the-variants.{Room, Read}
 use Rattle.requests.specs.declared.Head.{Head}
@@ -33,7 +33,7 @@ table =
     ∷ ("span\t", Pair)
     ∷ ("day\t", Number DayWord)
     ∷ ("write\n", Alone Write)
-    ∷ ("publish\n", Alone Publish)
+    ∷ ("publish\t", Number PublishWord)
     ∷ ("take-back\n", Alone TakeBack)
     ∷ ("strike\t", Number StrikeWord)
     ∷ ("amend\t", SpellFields AmendWord)
@@ -48,6 +48,7 @@ spellCall AmendWord s = Amend s
 -- the call of a word with a number
 abbrev pub numberCall : NumberWord → ℕ → Call
 numberCall StrikeWord n = Strike n
+numberCall PublishWord rule = Publish rule
 numberCall DayWord d = Ask (Day d)
 numberCall CoverWord n = Ask (Cover n)
 

@@ -53,6 +53,7 @@ pub enum SpellWord {
 
 pub enum NumberWord {
     Strike,
+    Publish,
     Day,
     Cover,
 }
@@ -117,7 +118,7 @@ fn head_of(line: &[u8]) -> Head
     let h = head_or(line, b"amend\t", Layout::Spell(SpellWord::Amend), h);
     let h = head_or(line, b"strike\t", Layout::Number(NumberWord::Strike), h);
     let h = head_or(line, b"take-back\n", Layout::Alone(Call::TakeBack), h);
-    let h = head_or(line, b"publish\n", Layout::Alone(Call::Publish), h);
+    let h = head_or(line, b"publish\t", Layout::Number(NumberWord::Publish), h);
     let h = head_or(line, b"write\n", Layout::Alone(Call::Write), h);
     let h = head_or(line, b"day\t", Layout::Number(NumberWord::Day), h);
     let h = head_or(line, b"span\t", Layout::Pair, h);
@@ -166,6 +167,7 @@ fn number_call(w: NumberWord, n: u16) -> Call
 {
     match w {
         NumberWord::Strike => Call::Strike(n),
+        NumberWord::Publish => Call::Publish(n),
         NumberWord::Day => Call::Ask(Question::Day(n)),
         NumberWord::Cover => Call::Ask(Question::Cover(n)),
     }

@@ -1,8 +1,11 @@
 -- What the rules do to a spell: rule 1 nothing, rule 2 cuts a reading within its own days. Assumes nothing.
-use Rattle.basis.proofs.Prelude.{_≡_, refl, _∙_, _+_, _≤_, ℕ, Bool, true, false, cond, leb, eqb, eqb-true, arith, leb-true, leb-false, by-test, by-cases}
+use Rattle.basis.proofs.Prelude.{_≡_, refl, _+_, _≤_, ℕ, leb, eqb, arith, le-leb, le-ltb, leb-false, by-cases}
 use Rattle.spell.specs.declared.Urgency.{Urgency}
 use Rattle.spell.specs.declared.Urgency.the-variants.{Grade, Reading}
 use Rattle.spell.specs.declared.Spell.{Spell}
+use Rattle.spell.specs.Entry.{refusalOf}
+use Rattle.spell.specs.Listing.{Sound}
+use Rattle.spell.proofs.Entered.{past, entered}
 use Rattle.rules.specs.Rules.{lapsed, lapsedLast, lastOf, cut}
 
 -- RULE 1 publishes each spell as entered
@@ -37,3 +40,16 @@ unfolding lastOf
 last-within rule s h = by-cases (λ d. (s .first ≤ d) × (d ≤ s .last)) (eqb rule 2)
     (λ _. urgency-within (s .first) (s .last) h (s .urgency))
     (λ _. (h, omega arith))
+
+-- ---- A spell that passes the checks 1 to 5 passes them when it is published
+
+pub cut-passes : (rule : ℕ) (s : Spell) → refusalOf s ≡ 0 → refusalOf (cut rule s) ≡ 0
+cut-passes rule s e =
+    let g = entered s e in
+    let w = last-within rule s (g .forward) in
+    let p1 = past (eqb (s .number) 0) 0 _ e in
+    let p2 = past (eqb (s .candidate) 0) 1 _ (p1 .1) in
+    rw (p1 .0, p2 .0, le-leb 1 (s .first) (g .first-up), le-leb (s .first) 4000 (g .first-day), le-leb 1 (lastOf rule s) (omega arith), le-leb (lastOf rule s) 4000 (omega arith), le-ltb (lastOf rule s) (s .first) (w .0), g .urgent)
+
+pub cut-sound : (rule : ℕ) (s : Spell) → Sound s → Sound (cut rule s)
+cut-sound rule s g = record { numbered = g .numbered; named = g .named; held = g .held; entered = cut-passes rule s (g .entered) }

@@ -1,4 +1,4 @@
--- Rows that hold the fields of spells, put in the order, are the rows of the published list. Assumes nothing.
+-- Rows that hold the fields of spells, put in the order, are the rows of the sorted list. Assumes nothing.
 use Rattle.basis.proofs.Prelude.{_∙_, _≡_, ap, refl, sym, _≤_, _<_, zero, suc, ℕ, List, [], _∷_, map, Bool, cond, false, true, eqb, ltb, getD, getD-take, zero-add, length, take, take-all, decLe, arith, eq-eqb, eqb-false, eqb-true, le-ltb, lt-ltb, ltb-false, ltb-true, ne-eqb, by-test}
 use Rattle.columns.specs.Columns.{positions}
 use Rattle.columns.proofs.Filling.{positions-at, positions-length, positions-below, reads}
@@ -14,7 +14,6 @@ use Rattle.spell.specs.Order.{listedBefore}
 use Rattle.spell.specs.Listing.{distinct, Sound}
 use Rattle.spell.specs.Listing.{Each as Every}
 use Rattle.spell.proofs.Entered.{entered}
-use Rattle.model.specs.Publishing.{publishedOf}
 use Rattle.service.proofs.Questions.{differ}
 
 -- two days in one number decide as the two do
@@ -88,8 +87,8 @@ module _ (l : List Spell) (unique : distinct l ≡ true) (short : (p : ℕ) → 
       by-major (dayKeys fs ls n) ns p q
       ∙ rw (key-at p h, key-at q k, by-number p q h k) (days-decide (row l p .first) (row l p .last) (row l q .first) (row l q .last) _ (short p h) (short q k))
 
-  rows-are : map (row l) (rowOrder ns fs ls n) ≡ publishedOf l
-  unfolding rowOrder arranged publishedOf
+  rows-are : map (row l) (rowOrder ns fs ls n) ≡ sortedBy listedBefore l
+  unfolding rowOrder arranged
   rows-are =
       ap (map (row l)) (sorted-same (byBoth (dayKeys fs ls n) ns) (λ p q. listedBefore (row l p) (row l q)) (λ p. p < n) agree (positions 0 n) (positions-below n))
       ∙ sym (sorted-map listedBefore (row l) (positions 0 n))
@@ -100,7 +99,7 @@ module _ (l : List Spell) (unique : distinct l ≡ true) (short : (p : ℕ) → 
   rows-below = each-sorted (byBoth (dayKeys fs ls n) ns) (λ p. p < n) (positions 0 n) (positions-below n)
 
   -- a column of the rows, in the order
-  pub column-is : (f : Spell → ℕ) (c : List ℕ) → Holds f l c → arrangedColumn ns fs ls n c ≡ map f (publishedOf l)
+  pub column-is : (f : Spell → ℕ) (c : List ℕ) → Holds f l c → arrangedColumn ns fs ls n c ≡ map f (sortedBy listedBefore l)
   column-is f c held =
       map-same (λ p. getD c p 0) (λ p. f (row l p)) (λ p. p < n) held (rowOrder ns fs ls n) rows-below
       ∙ sym (map-map f (row l) (rowOrder ns fs ls n))

@@ -1,5 +1,5 @@
 -- Service and blocks at the beginning, after publish, and beside a written text. Assumes nothing.
-use Rattle.basis.proofs.Prelude.{_∙_, _≡_, ap, refl, subst, sym, ℕ, List, [], map, Bool, true, leb, drop, length, length-map, take, take-all, take-at, arith, le-leb, by-test}
+use Rattle.basis.proofs.Prelude.{_∙_, _≡_, ap, refl, subst, sym, ℕ, List, [], map, Bool, true, leb, drop, length, length-map, take, take-all, take-at, arith, le-leb, by-test, _≤_, false, cond, eqb, false≢true}
 use Rattle.spell.specs.declared.Spell.{Spell}
 use Rattle.spell.specs.Listing.{Sound}
 use Rattle.spell.proofs.Order.{answer-order}
@@ -18,15 +18,19 @@ use Rattle.standing.specs.Standing.{Wf, listOf, Fresh}
 use Rattle.standing.proofs.Loading.{Loads, loads}
 use Rattle.model.specs.declared.Call.the-variants.{Publish, Write}
 use Rattle.model.specs.Publishing.{publishedOf}
-use Rattle.model.proofs.Publishing.{published-length, published-orderly}
+use Rattle.model.proofs.Publishing.{each-cut, distinct-cut, published-length, published-orderly}
+use Rattle.refusal.specs.Table.{accepted, noSuchRule}
+use Rattle.rules.specs.Rules.{isRule, cut}
+use Rattle.rules.proofs.Rules.{cut-sound}
 use Rattle.model.specs.Effects.{settle}
 use Rattle.model.specs.Model.{fresh, begun, refusalIn, lineIn, effectOf}
 use Rattle.model.proofs.Claims.{reads-keep}
 use Rattle.service.specs.declared.Service.{Service}
+use Rattle.service.specs.declared.Outcome.{Outcome}
 use Rattle.service.specs.declared.Stepped.{Stepped}
 use Rattle.service.specs.Places.{serviceOf}
-use Rattle.service.specs.Outcomes.{wroteOf}
-use Rattle.service.specs.Service.{Blocks, blocks, indexOf, Valid, Represents, Given, asking, Met, Publishes, Wrote, Begins}
+use Rattle.service.specs.Outcomes.{toldOf, wroteOf}
+use Rattle.service.specs.Service.{Blocks, blocks, indexOf, Valid, Represents, Given, asking, keeping, Met, Publishes, Wrote, Begins}
 use Rattle.service.proofs.Publishing.{rows-ok}
 use Rattle.service.proofs.Arranged.{Holds, holds, short-days, column-is}
 
@@ -78,44 +82,75 @@ begins-read text got st ix r l e =
 laid-take : (f : Spell → ℕ) (l : List Spell) (before after : List ℕ) (n : ℕ) → n ≡ length l → after ≡ columnOf f l before → take n after ≡ map f l
 laid-take f l before after n e a = rw (a, e) (take-at (map f l) (drop (length (map f l)) before) (length l) (length-map l f))
 
-module _ (st : Standing) (w : Wf st) {n : ℕ} {ns fs ls ns′ fs′ ls′ : List ℕ} (laid : LaidOut (listOf st) n ns fs ls ns′ fs′ ls′)
+module _ (st : Standing) (w : Wf st) (rule : ℕ) {n : ℕ} {ns fs ls ns′ fs′ ls′ : List ℕ} (laid : LaidOut (map (cut rule) (listOf st)) n ns fs ls ns′ fs′ ls′)
     {ix ix′ : List ℕ} {r : Bool} (b : Builds (arrangedColumn ns′ fs′ ls′ n ns′) (arrangedColumn ns′ fs′ ls′ n fs′) (arrangedColumn ns′ fs′ ls′ n ls′) n ix r ix′) where
+  -- the spells with the rule's days
   abbrev l : List Spell
-  l = listOf st
+  l = map (cut rule) (listOf st)
+
+  few : length l ≤ 1024
+  few = omega (arith, length-map (listOf st) (cut rule), w .good .few)
 
   held : (f : Spell → ℕ) (before : List ℕ) {after : List ℕ} → after ≡ columnOf f l before → Holds f l after
   held f before {after} e = holds f l after (laid-take f l before after (length l) refl e)
 
   -- a column of the rows, in the order, is one of the published list
-  column : (f : Spell → ℕ) (before : List ℕ) {after : List ℕ} → after ≡ columnOf f l before → take n (arrangedColumn ns′ fs′ ls′ n after) ≡ map f (publishedOf l)
+  column : (f : Spell → ℕ) (before : List ℕ) {after : List ℕ} → after ≡ columnOf f l before → take n (arrangedColumn ns′ fs′ ls′ n after) ≡ map f (publishedOf rule (listOf st))
+  unfolding publishedOf
   column f before {after} e =
-      let is = column-is l (w .good .unique) (short-days l (w .good .each)) ns′ fs′ ls′ (held (λ s. s .number) ns (laid .number)) (held (λ s. s .first) fs (laid .first)) (held (λ s. s .last) ls (laid .last)) f after (held f before e) in
-      rw (laid .count, is) (take-all (length l) (map f (publishedOf l)) (omega (arith, length-map (publishedOf l) f, published-length l)))
+      let is = column-is l (distinct-cut rule (listOf st) ∙ w .good .unique) (short-days l (each-cut rule cut-sound (listOf st) (w .good .each))) ns′ fs′ ls′ (held (λ s. s .number) ns (laid .number)) (held (λ s. s .first) fs (laid .first)) (held (λ s. s .last) ls (laid .last)) f after (held f before e) in
+      rw (laid .count, is) (take-all (length l) (map f (publishedOf rule (listOf st))) (omega (arith, length-map (publishedOf rule (listOf st)) f, published-length rule (listOf st), length-map (listOf st) (cut rule))))
 
   right : publishable (arrangedColumn ns′ fs′ ls′ n fs′) (arrangedColumn ns′ fs′ ls′ n ls′) n ≡ true
-  right = rw (column (λ s. s .first) fs (laid .first), column (λ s. s .last) ls (laid .last), le-leb n 1024 (omega (arith, laid .count, w .good .few))) (rows-ok (publishedOf l) (published-orderly Sound l (w .good)))
+  right = rw (column (λ s. s .first) fs (laid .first), column (λ s. s .last) ls (laid .last), le-leb n 1024 (omega (arith, laid .count, few))) (rows-ok (publishedOf rule (listOf st)) (published-orderly rule Sound cut-sound (listOf st) (w .good)))
 
-  pub indexed : ix′ ≡ indexOf (publishedOf l)
+  pub indexed : ix′ ≡ indexOf (publishedOf rule (listOf st))
   indexed = b .block ∙ rw (right, column (λ s. s .number) ns (laid .number), column (λ s. s .first) fs (laid .first), column (λ s. s .last) ls (laid .last))
 
-module _ {sv : Service} {r : Stepped} {bs′ : Blocks} (v : Valid sv) (p : Publishes sv r bs′) where
-  -- the index shows the standing list in the order of the answers
-  pub publishes-given : Given (r .service) bs′
-  publishes-given = record { valid = rw (p .kept) v; published = record { list = _; shows = record { good = published-orderly Sound _ (v .standing .good); index = p .index } } }
+-- no such rule: all is as it was
+pub publishes-none : {sv : Service} {rule : ℕ} {bs : Blocks} {o : Outcome} → isRule rule ≡ false → o ≡ toldOf noSuchRule → Publishes sv rule bs (keeping sv o) bs
+publishes-none e t = record { kept = refl; outcome = rw e t; index = rw e }
 
-  -- PUBLISH is the account's, whatever the blocks held before
-  pub publishes-met : (bs : Blocks) (days numbers text : List ℕ) → Met sv bs (asking Publish days numbers text) r bs′ numbers text
-  unfolding effectOf settle
-  publishes-met bs days numbers text = record {
-    given = publishes-given;
-    answer = λ m h. rw (p .outcome);
-    after = λ m h. record {
-      valid = rw (p .kept) v;
-      standing = rw (p .kept) (h .standing);
-      past = rw (p .kept) (h .past);
-      shows = record { good = rw (← h .standing) (published-orderly Sound _ (v .standing .good)); index = p .index ∙ ap (λ (l : List Spell). indexOf (publishedOf l)) (h .standing) };
-    };
+pub publishes-all : {sv : Service} {rule : ℕ} {bs bs′ : Blocks} {o : Outcome} → isRule rule ≡ true → o ≡ toldOf accepted
+    → bs′ .index ≡ indexOf (publishedOf rule (listOf (sv .standing))) → Publishes sv rule bs (keeping sv o) bs′
+publishes-all e t x = record { kept = refl; outcome = rw e t; index = rw e x }
+
+module _ {sv : Service} {rule : ℕ} {bs : Blocks} {r : Stepped} {bs′ : Blocks} (p : Publishes sv rule bs r bs′) where
+  -- by a rule that there is, the index shows the published list, whatever it held before
+  pub publishes-given : isRule rule ≡ true → Valid sv → Given (r .service) bs′
+  publishes-given e v = record {
+    valid = rw (p .kept) v;
+    published = record { list = _; shows = record { good = published-orderly rule Sound cut-sound (listOf (sv .standing)) (v .standing .good); index = p .index ∙ rw e } };
   }
+
+  -- where it is refused, the blocks are as they were
+  pub publishes-refused : eqb (r .outcome .refusal) accepted ≡ false → bs′ ≡ bs
+  publishes-refused t = by-test (isRule rule)
+      (λ e. absurd (false≢true (sym (rw (ap (λ (o : Outcome). o .refusal) (p .outcome), e) at t))))
+      (λ e. ap blocks (p .index ∙ rw e))
+
+  -- PUBLISH is the account's
+  pub publishes-met : (days numbers text : List ℕ) → Given sv bs → Met sv bs (asking (Publish rule) days numbers text) r bs′ numbers text
+  unfolding effectOf settle
+  publishes-met days numbers text g = by-test (isRule rule)
+      (λ e. record {
+        given = publishes-given e (g .valid);
+        answer = λ m h. rw (p .outcome, e);
+        after = λ m h. rw e (record {
+          valid = rw (p .kept) (g .valid);
+          standing = rw (p .kept) (h .standing);
+          past = rw (p .kept) (h .past);
+          shows = record {
+            good = rw (← h .standing) (published-orderly rule Sound cut-sound (listOf (sv .standing)) (g .valid .standing .good));
+            index = p .index ∙ rw e (ap (λ (l : List Spell). indexOf (publishedOf rule l)) (h .standing));
+          };
+        });
+      })
+      (λ e. let same : bs′ .index ≡ bs .index = p .index ∙ rw e in record {
+        given = record { valid = rw (p .kept) (g .valid); published = rw same (g .published) };
+        answer = λ m h. rw (p .outcome, e);
+        after = λ m h. rw e (record { valid = rw (p .kept) (h .valid); standing = rw (p .kept) (h .standing); past = rw (p .kept) (h .past); shows = rw same (h .shows) });
+      })
 
 -- ---- Writing
 pub wrote : (sv : Service) (t t′ : List ℕ) (wr : Written) → Writes (writeAll (listOf (sv .standing))) t wr t′ → Wrote sv t (wroteOf wr) t′

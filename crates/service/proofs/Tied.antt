@@ -67,11 +67,10 @@ module _ (κs : Lfts 0) (sv : Service) (r : Stepped) {bs : Blocks} {days numbers
 
 -- ---- Publish and writing
 
--- publish steps from any index, whatever the block held that it wrote
-module _ (κs : Lfts 1) (sv : Service) (r : Stepped) (index index′ : RefT (List ℕ)) {bs : Blocks} {days numbers text : List ℕ} where
-  pub publish-steps : (publish-reads.Pre κs (sv, (index, tt)) → publish-reads.Post κs (sv, (index, tt)) r (sv, (index′, tt)))
-      → Steps sv bs (asking Publish days numbers text) r (blocks (now index′)) numbers text
-  publish-steps met g = publishes-met (g .valid) (met (g .valid)) bs days numbers text
+module _ (κs : Lfts 1) (sv : Service) (r : Stepped) (index index′ : RefT (List ℕ)) {days numbers text : List ℕ} where
+  pub publish-steps : (rule : ℕ) → (publish-reads.Pre κs (sv, (rule, (index, tt))) → publish-reads.Post κs (sv, (rule, (index, tt))) r (sv, (rule, (index′, tt))))
+      → Steps sv (blocks (now index)) (asking (Publish rule) days numbers text) r (blocks (now index′)) numbers text
+  publish-steps rule met g = publishes-met (met (g .valid)) days numbers text g
 
 module _ (κs : Lfts 1) (sv : Service) (o : Outcome) (text text′ : RefT (List ℕ)) {bs : Blocks} {days numbers : List ℕ} where
   pub write-steps : (write-reads.Pre κs (sv, (text, tt)) → write-reads.Post κs (sv, (text, tt)) o (sv, (text′, tt)))
@@ -142,8 +141,8 @@ module _ (κs : Lfts 1) (index : RefT (List ℕ)) where
   pub fresh-asks : fresh-reads.Pre κs (index, tt) ≡ Unit {0}
   fresh-asks = refl
 
-  pub publish-asks : (sv : Service) → publish-reads.Pre κs (sv, (index, tt)) ≡ Valid sv
-  publish-asks sv = refl
+  pub publish-asks : (sv : Service) (rule : ℕ) → publish-reads.Pre κs (sv, (rule, (index, tt))) ≡ Valid sv
+  publish-asks sv rule = refl
 
 pub read-asks : (κs : Lfts 2) (text index : RefT (List ℕ)) → read-reads.Pre κs (text, (index, tt)) ≡ Unit {0}
 read-asks κs text index = refl

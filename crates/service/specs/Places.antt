@@ -27,7 +27,7 @@ leavesOf st (Enter s) = afterEdit st false (enterRefusal (listOf st) s) (insert 
 leavesOf st (Amend s) = afterEdit st (idle (listOf st) s) (amendRefusal (listOf st) s) (replace s (listOf st)) (replacing (s .number) (listOf st))
 leavesOf st (Strike k) = afterEdit st false (strikeRefusal (listOf st) k) (remove k (listOf st)) (replacing k (listOf st))
 leavesOf st TakeBack = afterTakeBack st
-leavesOf st Publish = st
+leavesOf st (Publish rule) = st
 leavesOf st Write = st
 leavesOf st (Ask w) = st
 

@@ -1,9 +1,10 @@
 -- How a service and its index stand for the account's state, and the one postcondition of a call. Assumes nothing.
 use Prim.Native.Nat.{ℕ}
 use mathlib.Core.Path.{_≡_}
-use mathlib.Core.Bool.{false}
+use mathlib.Core.Bool.{false, cond}
 use lib.Dec.{eqb}
-use Rattle.refusal.specs.Table.{accepted}
+use Rattle.refusal.specs.Table.{accepted, noSuchRule}
+use Rattle.rules.specs.Rules.{isRule}
 use mathlib.Core.List.{List, map}
 use Rattle.spell.specs.declared.Spell.{Spell}
 use Rattle.spell.specs.Order.{listedBefore}
@@ -96,12 +97,12 @@ pub record Asked (bs : Blocks) (w : Question) (days numbers : List ℕ) (o : Out
 pub record Wrote (sv : Service) (text : List ℕ) (o : Outcome) (text′ : List ℕ) : Type 0 where
   pub met : (bs : Blocks) (days numbers : List ℕ) → Given sv bs → Met sv bs (asking Call.Write days numbers text) (keeping sv o) bs numbers text′
 
--- publish: the index becomes that of the standing list in the order of the answers, every word of it, whatever it held before; the service is as it was, and no
--- more is told than that it is accepted
-pub record Publishes (sv : Service) (r : Stepped) (bs′ : Blocks) : Type 0 where
+-- publish by a rule: the index becomes that of the published list, every word of it, whatever it held before, or stays where there is no
+-- such rule; the service is as it was, and no more is told than the refusal
+pub record Publishes (sv : Service) (rule : ℕ) (bs : Blocks) (r : Stepped) (bs′ : Blocks) : Type 0 where
   pub kept : r .service ≡ sv
-  pub outcome : r .outcome ≡ toldOf accepted
-  pub index : bs′ .index ≡ indexOf (publishedOf (listOf (sv .standing)))
+  pub outcome : r .outcome ≡ toldOf (cond (isRule rule) accepted noSuchRule)
+  pub index : bs′ .index ≡ cond (isRule rule) (indexOf (publishedOf rule (listOf (sv .standing)))) (bs .index)
 
 -- ---- The beginning
 

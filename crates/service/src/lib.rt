@@ -16,6 +16,7 @@ use masks::Ticks;
 use model::Call;
 use model::Question;
 use refusal::ACCEPTED;
+use refusal::NO_SUCH_RULE;
 use refusal::OFF_CALENDAR;
 use register::Written;
 use spell::Spell;
@@ -191,32 +192,28 @@ pub fn take_back(service: Service) -> Stepped
 
 // ---- Publish and writing
 
-fn done(service: Service) -> Stepped
-    ensures { λ r. ⌜ (r .service ≡ service) × (r .outcome ≡ toldOf accepted) ⌝ }
-{
-    let outcome = told(ACCEPTED);
-    Stepped { service, outcome }
-}
-
-// The index of the standing list, in the order of the answers.
-fn lay(standing: Standing, index: &mut [u16; INDEX])
+// The index of the standing list with a rule's days, in the order of the answers.
+fn lay(standing: Standing, rule: u16, index: &mut [u16; INDEX])
     requires { ⌜ Wf standing ⌝ }
-    ensures { λ _. ⌜ now (index .exit) ≡ indexOf (publishedOf (listOf standing)) ⌝ }
+    ensures { λ _. ⌜ now (index .exit) ≡ indexOf (publishedOf rule (listOf standing)) ⌝ }
 {
     let mut number = [0u16; 1024];
     let mut first = [0u16; 1024];
     let mut last = [0u16; 1024];
-    let n = standing::columns(standing, &mut number, &mut first, &mut last);
+    let n = standing::columns(standing, rule, &mut number, &mut first, &mut last);
     publishing::lay(&number, &first, &last, n, index);
 }
 
-// The published list becomes the standing list. The index may hold anything beforehand.
-pub fn publish(service: Service, index: &mut [u16; INDEX]) -> Stepped
+// The published list becomes the standing list with the rule's days. The index may hold anything beforehand. Check: 14.
+pub fn publish(service: Service, rule: u16, index: &mut [u16; INDEX]) -> Stepped
     requires { ⌜ Valid service ⌝ }
-    ensures { λ r. ⌜ Publishes service r (blocks (now (index .exit))) ⌝ }
+    ensures { λ r. ⌜ Publishes service rule (blocks (now (index .entry))) r (blocks (now (index .exit))) ⌝ }
 {
-    lay(service.standing, index);
-    done(service)
+    if !rules::is_rule(rule) {
+        return answered(service, told(NO_SUCH_RULE));
+    }
+    lay(service.standing, rule, index);
+    answered(service, told(ACCEPTED))
 }
 
 // The text of the standing list, into the first places of the lent list.
@@ -314,7 +311,7 @@ pub fn step(
         Call::Amend(s) => amend(service, s),
         Call::Strike(number) => strike(service, number),
         Call::TakeBack => take_back(service),
-        Call::Publish => publish(service, index),
+        Call::Publish(rule) => publish(service, rule, index),
         Call::Write => answered(service, write(service, text)),
         Call::Ask(question) => answered(service, ask(index, question, dates, numbers)),
     }

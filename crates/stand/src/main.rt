@@ -102,7 +102,7 @@ fn stand(text: &[u8]) -> Days
         };
     }
     let service = started.service;
-    service::publish(service, &mut index);
+    service::publish(service, 1, &mut index);
     print_days(&index)
 }
 

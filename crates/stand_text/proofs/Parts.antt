@@ -220,7 +220,7 @@ printed-whole s = come-whole (rw (s .all refl) at (s .reached .come))
 
 -- what the account that reads a register publishes
 abbrev published : List ℕ → List Spell
-published text = step (begun (readText text)) (asking Publish [] [] []) .state .published
+published text = step (begun (readText text)) (asking (Publish 1) [] [] []) .state .published
 
 -- what is printed of the index that shows its list is printed of the register's spells
 pub printed-of : (text : List ℕ) {ix : List ℕ} {next : ℕ} {whole : Bool} → PrintedOn ix next whole → Shows ix (published text) → PrintedOf text next whole

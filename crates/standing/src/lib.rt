@@ -1,4 +1,5 @@
 // The standing list: an array of spells in the order, of which the first `count` stand, with a journal of the last 64 edits.
+ghost use mathlib.Core.List.{map};
 ghost use mathlib.Core.Path.{_≡_};
 ghost use mathlib.Core.Bool.{false, cond};
 ghost use Prim.Native.Nat.{_≤_, _<_};
@@ -6,6 +7,7 @@ ghost use Rattle.model.specs.Edits.{insert, remove, replace, idle, orElse, ente
 ghost use Rattle.refusal.specs.Table.{accepted};
 ghost use Rattle.standing_list.specs.List.{without, LaidOut};
 ghost use Rattle.standing.specs.Places.{relisted, rejournaled, loadedOf, entering, replacing, noted};
+ghost use Rattle.rules.specs.Rules.{cut};
 ghost use Rattle.register.specs.Text.{writeAll};
 ghost use Rattle.register.specs.Answers.{Writes};
 ghost use Rattle.standing.specs.Standing.{listOf, entries, Wf, Fresh, Edits, TakesBack};
@@ -295,16 +297,17 @@ pub fn write(st: Standing, out: &mut [u8]) -> Written
 
 // ---- What publish reads
 
-// The numbers, first days and last days of the standing spells, in the first places of three columns; returns their count.
+// The numbers, first days and, by a rule, last days of the standing spells, in the first places of three columns; returns their count.
 pub fn columns(
     st: Standing,
+    rule: u16,
     number: &mut [u16; 1024],
     first: &mut [u16; 1024],
     last: &mut [u16; 1024],
 ) -> usize
     requires { ⌜ Wf st ⌝ }
-    ensures { λ r. ⌜ LaidOut (listOf st) r (now (number .entry)) (now (first .entry)) (now (last .entry)) (now (number .exit)) (now (first .exit)) (now (last .exit)) ⌝ }
+    ensures { λ r. ⌜ LaidOut (map (cut rule) (listOf st)) r (now (number .entry)) (now (first .entry)) (now (last .entry)) (now (number .exit)) (now (first .exit)) (now (last .exit)) ⌝ }
 {
     let spells = st.spells;
-    standing_list::columns(spells, st.count, number, first, last)
+    standing_list::columns(spells, st.count, rule, number, first, last)
 }

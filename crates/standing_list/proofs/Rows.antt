@@ -1,5 +1,7 @@
 -- The columns of a list of spells: how a loop lays one out. Assumes nothing.
 use Rattle.basis.proofs.Prelude.{_∙_, _≡_, refl, sym, _+_, _<_, suc, ℕ, List, [], _++_, _∷_, map, map-append, drop, getD, length, length-map, length-set, set, take, append-snoc, drop-cons, length-take-le, set-at, take-suc, add-one, arith}
+use Rattle.orders.proofs.Each.{map-map}
+use Rattle.rules.specs.Rules.{cut}
 use Rattle.spell.specs.declared.Spell.{Spell}
 use Rattle.spell.specs.Blank.{blank}
 use Rattle.standing_list.specs.List.{columnOf}
@@ -15,8 +17,8 @@ module _ (f : Spell → ℕ) (a : List Spell) (before : List ℕ) where
   pub filled-none : Filled f a before before 0
   filled-none = record { long = refl; so-far = refl }
 
-  pub filled-more : (c : List ℕ) (i : ℕ) → i < length a → i < length before → Filled f a before c i → Filled f a before (set c i (f (getD a i blank))) (i + 1)
-  filled-more c i ha hb e =
+  filled-next : (c : List ℕ) (i : ℕ) → i < length a → i < length before → Filled f a before c i → Filled f a before (set c i (f (getD a i blank))) (i + 1)
+  filled-next c i ha hb e =
       let here : length (map f (take i a)) ≡ i = length-map (take i a) f ∙ length-take-le i a (omega arith) in
       record {
         long = length-set c i (f (getD a i blank)) ∙ e .long;
@@ -31,6 +33,13 @@ module _ (f : Spell → ℕ) (a : List Spell) (before : List ℕ) where
             (sym (append-snoc (map f (take i a)) (f (getD a i blank)) (drop (suc i) before)));
       }
 
+  pub filled-more : (c : List ℕ) (i : ℕ) {v : ℕ} → v ≡ f (getD a i blank) → i < length a → i < length before → Filled f a before c i → Filled f a before (set c i v) (i + 1)
+  filled-more c i is ha hb e = rw is (filled-next c i ha hb e)
+
   -- the column of the first n is that of their list
   pub filled-all : (c : List ℕ) (i n : ℕ) → length (take n a) ≡ n → i ≡ n → Filled f a before c i → c ≡ columnOf f (take n a) before
   filled-all c i n here done e = rw (length-map (take n a) f ∙ here, ← done) (e .so-far)
+
+-- a field of the spells as a rule publishes them
+pub column-cut : (f : Spell → ℕ) (rule : ℕ) (l : List Spell) (before : List ℕ) → columnOf (λ s. f (cut rule s)) l before ≡ columnOf f (map (cut rule) l) before
+column-cut f rule l before = rw (map-map f (cut rule) l)

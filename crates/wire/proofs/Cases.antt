@@ -8,6 +8,7 @@ use Rattle.stabbing.specs.Tree.{below, keep, count, head, next, parent, child, 
 use Rattle.fields.specs.Fields.{digitsOf, decimalOf, hexDigit, hexOf, numbersText, passed, readDigits, readDecimal, hexValue, readHex}
 use Rattle.register.specs.Text.{lineText, textOnto, readLetter, readValue, readUrgency, readLine, follows, lineRefusal, lineAnswer, nextLine, readLines, readText}
 use Rattle.orders.specs.Orders.{sortedBy}
+use Rattle.rules.specs.Rules.{lastOf}
 use Rattle.model.specs.Edits.{insertBy, enterRefusal, strikeRefusal, remember}
 use Rattle.model.specs.Publishing.{publishedOf}
 use Rattle.calendar.specs.Calendar.{daysOk}
@@ -33,7 +34,7 @@ abbrev session : List Said
 session =
     ("enter 31 502 100 465 G 1\n", "", "ok\n")
     ∷ ("enter 32 733 120 140 C 42280000\n", "", "ok\n")
-    ∷ ("publish\n", "", "ok\n")
+    ∷ ("publish 1\n", "", "ok\n")
     ∷ ("day 130\n", "", "listed 2 0 31 32\n")
     ∷ ("days 99 141\n", "", "listed 1 - 31\n")
     ∷ ("strike 33\n", "", "refused 7\n")
@@ -48,7 +49,7 @@ abbrev edges : List Said
 edges =
     ("enter 11 7 1 10 G 2\n", "", "ok\n")
     ∷ ("enter 11 7 1 10 G 2\n", "", "refused 6\n")
-    ∷ ("publish\n", "", "ok\n")
+    ∷ ("publish 1\n", "", "ok\n")
     ∷ ("span 5 9\n", "", "listed 1 0 11\n")
     ∷ ("day 4001\n", "", "refused 3\n")
     ∷ ("mask 4 0000000000000081\n", "", "ticked 2 1 - 11\n")
@@ -68,6 +69,6 @@ pub example : map (λ c. converse opening (map sent c)) (session ∷ edges ∷ [
 unfolding spelled converse turnOf registerOf callText readingText shapeText refusedText refusedLine listedText dashedText severalText tickedText writtenText
     table begins headOf askedBy askedOf readDays digitsOf decimalOf hexDigit hexOf numbersText passed readDigits readDecimal hexValue readHex
     lineText textOnto readLetter readValue readUrgency readLine follows lineRefusal lineAnswer nextLine readLines readText
-    settle effectOf takeBack ask cover enterRefusal strikeRefusal insertBy publishedOf sortedBy listedBefore remember earlierOf stands isNan toBits ofBits
+    settle effectOf takeBack ask cover enterRefusal strikeRefusal insertBy publishedOf lastOf sortedBy listedBefore remember earlierOf stands isNan toBits ofBits
     onAny daysOk rising ticksFrom isSet filter comparisonsOf below keep count head next parent child leftSibling lastChild fitsAt start onPath formula
 example = refl

@@ -38,7 +38,7 @@ impl Account {
             Call::Amend(spell) => self.amend(spell),
             Call::Strike(number) => self.strike(*number),
             Call::TakeBack => self.take_back(),
-            Call::Publish => self.publish(),
+            Call::Publish(rule) => self.publish(*rule),
             Call::Write | Call::Ask(_) => self.tell(call),
         };
         answered.and_then(|answer| put(answer, lists)).unwrap_or_else(Answer::Refused)
@@ -80,8 +80,9 @@ impl Account {
         Ok(Answer::Done)
     }
 
-    fn publish(&mut self) -> Answered {
-        self.published = Published::of(&self.standing);
+    fn publish(&mut self, rule: u16) -> Answered {
+        check((1..=2).contains(&rule), Refusal::NO_SUCH_RULE)?;
+        self.published = Published::of(&self.standing, rule);
         Ok(Answer::Done)
     }
 

@@ -32,7 +32,8 @@ pub enum Call {
     Amend(Spell),
     Strike(u16),
     TakeBack,
-    Publish,
+    /// By rule 1 or 2.
+    Publish(u16),
     Write,
     Ask(Question),
 }
@@ -56,7 +57,7 @@ impl Call {
             Call::Amend(_) => "amend",
             Call::Strike(_) => "strike",
             Call::TakeBack => "take-back",
-            Call::Publish => "publish",
+            Call::Publish(_) => "publish",
             Call::Write => "write",
             Call::Ask(Question::Day(_)) => "day",
             Call::Ask(Question::Span(..)) => "span",
@@ -85,9 +86,10 @@ impl Refusal {
     pub const SHORT_LIST: Refusal = Refusal(11);
     pub const MALFORMED: Refusal = Refusal(12);
     pub const MISPLACED: Refusal = Refusal(13);
+    pub const NO_SUCH_RULE: Refusal = Refusal(14);
 
     /// The numbers of the whole table.
-    pub const NUMBERS: RangeInclusive<u16> = 1..=13;
+    pub const NUMBERS: RangeInclusive<u16> = 1..=14;
 }
 
 /// What a call is answered, with what its lent list is given.

@@ -71,7 +71,7 @@ pub fn standing_days(text: &[u8]) -> (Vec<u8>, Option<String>) {
         return (bytes_of(&begun), Some(told));
     }
     let mut lists = Lists { numbers: vec![0; MOST_SPELLS], text: Vec::new() };
-    account.step(&Call::Publish, &mut lists);
+    account.step(&Call::Publish(1), &mut lists);
     let days = (1..=LAST_DAY).map(|d| day_line(d, account.step(&Call::Ask(Question::Day(d)), &mut lists)));
     (days.collect::<String>().into_bytes(), None)
 }

@@ -1,7 +1,7 @@
 //! The published list and the questions put to it.
 
 use crate::account::Answered;
-use crate::call::{Answer, Question, Refusal, Spell};
+use crate::call::{Answer, Question, Refusal, Spell, Urgency};
 use crate::entry::{check, check_day, find, order};
 use crate::tree::Tree;
 use std::cell::OnceCell;
@@ -15,8 +15,8 @@ pub struct Published {
 }
 
 impl Published {
-    pub fn of(standing: &[Spell]) -> Published {
-        let mut spells = standing.to_vec();
+    pub fn of(standing: &[Spell], rule: u16) -> Published {
+        let mut spells: Vec<Spell> = standing.iter().map(|spell| published_by(rule, spell)).collect();
         spells.sort_by_key(order);
         Published { spells, tree: OnceCell::new() }
     }
@@ -67,6 +67,14 @@ impl Published {
 
     fn listed(&self, listed: &[usize], looks: Option<usize>, ticked: Option<usize>) -> Answer {
         Answer::Listed { numbers: listed.iter().map(|&at| self.spells[at].number).collect(), looks, ticked }
+    }
+}
+
+/// Under rule 2 a reading counts for seven days, its first day among them.
+fn published_by(rule: u16, spell: &Spell) -> Spell {
+    match spell.urgency {
+        Urgency::Reading(_) if rule == 2 => Spell { last: spell.last.min(spell.first + 6), ..*spell },
+        _ => *spell,
     }
 }
 

@@ -25,7 +25,7 @@ pub fn asked_by(line: &[u8]) -> Option<Asked> {
         (b"amend", _) => Call::Amend(spell_of(fields)?),
         (b"strike", [spell]) => Call::Strike(number(spell)?),
         (b"take-back", []) => Call::TakeBack,
-        (b"publish", []) => Call::Publish,
+        (b"publish", [rule]) => Call::Publish(number(rule)?),
         (b"write", []) => Call::Write,
         (b"day", [d]) => Call::Ask(Question::Day(number(d)?)),
         (b"span", [a, b]) => Call::Ask(Question::Span(number(a)?, number(b)?)),
@@ -44,7 +44,8 @@ pub fn line_asking(call: &Call) -> Vec<u8> {
     let arguments = match call {
         Call::Enter(spell) | Call::Amend(spell) => tabbed(&[line_of(spell)]),
         Call::Strike(number) | Call::Ask(Question::Cover(number)) => tabbed(&[number]),
-        Call::TakeBack | Call::Publish | Call::Write => String::new(),
+        Call::Publish(rule) => tabbed(&[rule]),
+        Call::TakeBack | Call::Write => String::new(),
         Call::Ask(Question::Day(d)) => tabbed(&[d]),
         Call::Ask(Question::Span(a, b)) => tabbed(&[a, b]),
         Call::Ask(Question::Days(days)) => tabbed(days),

@@ -51,10 +51,10 @@ impl Target for Archive {
             Call::Amend(spell) => edit(service, |service| service.amend(spell_of(spell))),
             Call::Strike(number) => edit(service, |service| service.strike(*number)),
             Call::TakeBack => edit(service, Service::take_back),
-            Call::Publish => {
-                service.publish(index);
-                Answer::Done
-            }
+            Call::Publish(rule) => match service.publish(*rule, index) {
+                Ok(()) => Answer::Done,
+                Err(why) => refused(why),
+            },
             Call::Write => match service.write(&mut lists.text) {
                 Ok(length) => Answer::Text(lists.text[..length].to_vec()),
                 Err(why) => refused(why),

@@ -25,7 +25,7 @@ fn a_shared_index_answers() {
     let begun = phayaklit::read(b"5\t1\t2\t9\tG\t1\n", words(SERVICE_WORDS), words(INDEX_WORDS));
     let (service, mut index, read) = begun.expect(LENGTHS);
     assert_eq!(read, Ok(()));
-    service.publish(&mut index);
+    service.publish(1, &mut index).unwrap();
     let shared = unsafe { Published::shared(index.into_words()) }.expect(LENGTHS);
     let mut numbers = [0];
     assert_eq!(shared.day(9, &mut numbers), Ok(Listed { count: 1, ..Listed::default() }));
@@ -45,7 +45,7 @@ fn the_deepest_calls_have_stack_enough() {
         assert_eq!(read, Ok(()));
         assert_eq!(service.strike(1), Ok(()));
         assert_eq!(service.take_back(), Ok(()));
-        service.publish(&mut index);
+        service.publish(1, &mut index).unwrap();
         assert_eq!(service.write(&mut vec![0; text.len()]), Ok(text.len()));
         let all: Vec<u16> = (1..=4000).collect();
         index.published().days(&all, words(SPELLS)).map(|listed| listed.count)
@@ -72,7 +72,7 @@ fn masks_answer_as_the_days_question() {
     let begun = phayaklit::read(text.as_bytes(), words(SERVICE_WORDS), words(INDEX_WORDS));
     let (service, mut index, read) = begun.expect(LENGTHS);
     assert_eq!(read, Ok(()));
-    service.publish(&mut index);
+    service.publish(1, &mut index).unwrap();
     let compare = |base: u16, mask: u64| {
         for places in [SPELLS, 2, 0] {
             let [mut seen, mut expected] = [vec![77; places], vec![77; places]];

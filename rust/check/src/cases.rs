@@ -83,7 +83,7 @@ fn published(family: &Family) -> Account {
     let spell = |&(number, first, last): &_| Spell { number, candidate: 1, first, last, urgency: Urgency::Grade(1) };
     let spells: Vec<Spell> = family.rows.iter().map(spell).collect();
     assert!(spells.is_sorted_by_key(order), "{} is not in the order", family.name);
-    Account { published: Published::of(&spells), ..Account::default() }
+    Account { published: Published::of(&spells, 1), ..Account::default() }
 }
 
 /// How many families there are, and each: its name, whether it is a far one, how many rows, and these.

@@ -46,7 +46,7 @@ pub fn texts() -> Vec<Vec<u8>> {
 /// A service that begins on a file: what was read stands, is not published, and no edit can be taken back.
 pub fn begun_on(text: &[u8]) -> Conversation {
     let mut talk = Conversation::begin(Some(text.to_vec()));
-    talk.send_all(lines("write, day 5, take-back, publish, day 5, day 3998, span 4 3998, span 1 4000"));
+    talk.send_all(lines("write, day 5, take-back, publish 1, day 5, day 3998, span 4 3998, span 1 4000"));
     talk.send_all(lines("cover 14, cover 10000, days 4 3998 3999 4000"));
     for room in [text.len().saturating_sub(1), text.len(), LARGEST_ROOM] {
         talk.send_all([room_line(room), line("write")]);
@@ -59,8 +59,8 @@ pub fn begun_on(text: &[u8]) -> Conversation {
 pub fn rooms() -> Conversation {
     let read = || reading_of(REGISTER_A);
     let mut talk = Conversation::of([read(), line("room 5"), read()]);
-    talk.send_all(lines("write, publish, day 5, room 2, day 5"));
-    talk.send_all([read(), line("publish"), line("day 5"), line("days 5"), line("room 65536"), line("write")]);
+    talk.send_all(lines("write, publish 1, day 5, room 2, day 5"));
+    talk.send_all([read(), line("publish 1"), line("day 5"), line("days 5"), line("room 65536"), line("write")]);
     talk
 }
 
@@ -75,7 +75,7 @@ pub fn longest_lines() -> Conversation {
 pub fn long_lines() -> Conversation {
     let lengths =
         [MEGABYTE - 8, MEGABYTE, MEGABYTE + 1, 2 * MEGABYTE, LONGEST_LINE, LONGEST_LINE + 1, 2 * LONGEST_LINE];
-    let long = lengths.map(|length| [b"x".repeat(length), line("publish")].concat());
+    let long = lengths.map(|length| [b"x".repeat(length), line("publish 1")].concat());
     let long = long.into_iter().chain([LONGEST_LINE + 1, LONGEST_LINE + 2].map(days_line));
     let talk = Conversation::of(long.flat_map(|long| [long, line("take-back")]));
     assert_answers(&talk, &["malformed\n", "refused\t9\n"]);
@@ -86,8 +86,8 @@ pub fn long_lines() -> Conversation {
 pub fn long_texts() -> Conversation {
     let lengths = [LONGEST_TEXT + 1, 2 * LONGEST_TEXT, MEGABYTE, MEGABYTE + 16, 2 * MEGABYTE, 2 * MEGABYTE + 3];
     let talk = Conversation::of(lengths.into_iter().flat_map(|length| {
-        let long: Vec<u8> = b"publish\n".iter().cycle().take(length).copied().collect();
-        [reading_of(REGISTER_A), line("publish"), reading_of(&long), line("day 5"), line("write")]
+        let long: Vec<u8> = b"publish\t1\n".iter().cycle().take(length).copied().collect();
+        [reading_of(REGISTER_A), line("publish 1"), reading_of(&long), line("day 5"), line("write")]
     }));
     assert_answers(&talk, &["ok\n", "ok\n", "refused\t12\t0\n", "listed\t0\t0\n", "text\t0\n"]);
     talk
@@ -102,7 +102,7 @@ fn assert_answers(talk: &Conversation, expected: &[&str]) {
 
 /// More requests than 16 bits count, with answers that differ from one to the next.
 pub fn many() -> Conversation {
-    let mut talk = Conversation::of([reading_of(REGISTER_A), line("publish")]);
+    let mut talk = Conversation::of([reading_of(REGISTER_A), line("publish 1")]);
     talk.send_all((1..14).map(|d| line(&format!("day {d}"))));
     let turns: Vec<Exchange> = talk.exchanges[2..].iter().cycle().take(MANY).cloned().collect();
     talk.exchanges.extend(turns);
@@ -113,14 +113,14 @@ pub fn many() -> Conversation {
 /// above it.
 pub fn small_pieces() -> Conversation {
     Conversation::of([
-        reading_of(&b"publish\n".repeat(9_000)),
+        reading_of(&b"publish\t1\n".repeat(9_000)),
         line("take-back"),
         reading_of(&longest_register()),
-        line("publish"),
+        line("publish 1"),
         line("day 3998"),
         days(1..=LAST_DAY),
         days_line(LONGEST_LINE),
-        [b"x".repeat(LONGEST_LINE), line("publish")].concat(),
+        [b"x".repeat(LONGEST_LINE), line("publish 1")].concat(),
         line("write"),
     ])
 }

@@ -45,7 +45,7 @@ pub fn check(serve: &Runner, seed: u64, length: usize) -> Result<(), String> {
         talk_in(name, serve, &talk, manners, seed)?;
     }
     for ending in endings() {
-        let mut talk = Conversation::of([b"publish\n".to_vec()]);
+        let mut talk = Conversation::of([b"publish\t1\n".to_vec()]);
         talk.ending = ending;
         talk_in("the end of the input", serve, &talk, &[Manner::One], seed)?;
     }
@@ -157,7 +157,7 @@ fn ended(program: Program, talk: &Conversation) -> Result<(), String> {
 /// A file that can't be opened is told on standard error, and nothing is served.
 fn missing_file(serve: &Runner) -> Result<(), String> {
     let program = serve.start(Some(Scratch::path().as_path()), Pace::Free)?;
-    program.send(b"publish\n");
+    program.send(b"publish\t1\n");
     let left = program.finish()?;
     if !left.output.is_empty() || left.told.is_empty() {
         return Err(format!("a missing file gives output {}, error {}", bytes(&left.output), bytes(&left.told)));

@@ -26,7 +26,7 @@ const QUESTIONS: &str = "day 0, day 1, day 5, day 11, day 4000, day 4001, day 65
 
 /// Lines of no form, of every kind.
 const MALFORMED: &[u8] =
-    b"|\t| publish|publish |publish\t|PUBLISH|Day\t5|publish\r|take back|take-back\t1|write\t|day|day\t\
+    b"|\t| publish\t1|publish |publish|publish\t|publish\t01|publish\t1\t|publish\t1\t2|publish\t65536|PUBLISH|Day\t5|publish\t1\r|take back|take-back\t1|write\t|day|day\t\
     |day\t05|day\t65536|day\t-1|day\t+1|day\t1\t2|day 5|day\t5\t|span\t1|span\t1\t|span\t1\t2\t3|cover|cover\tx|days\t\
     |days\t1\t|days\t1\t\t2|days\t01|mask|mask\t|mask\t1|mask\t1\t|mask\t1\t0|mask\t1\t00000000000000001|mask\t1\t000000000000000a\
     |mask\t1\t000000000000000G|mask\t1\t0000000000000001\t|mask\t65536\t0000000000000001|mask\t01\t0000000000000001|strike|strike\t1\t|strike\t99999|enter|enter\t1\t1\t1\t1\tG\
@@ -46,7 +46,23 @@ fn checks() -> Lines {
 
 /// Before and after publishing.
 fn questions() -> Lines {
-    [lines(QUESTIONS), lines("publish"), lines(QUESTIONS)].concat()
+    [lines(QUESTIONS), lines("publish 1"), lines(QUESTIONS)].concat()
+}
+
+/// Rules 1 and 2 in turn and rules that there are not, on readings of 6, 7 and 8 days, a reading at the calendar's end and
+/// grades: the standing list keeps its days, cover goes by the published ones.
+fn rules() -> Lines {
+    let asked =
+        "day 6, day 7, day 8, day 9, day 4000, span 7 9, cover 21, cover 22, cover 23, cover 24, days 7 8 3999, write";
+    let published = |rule: &str| lines(&format!("publish {rule}, {asked}"));
+    [
+        lines("read 0, enter 21 5 1 8 C 3F800000, enter 22 5 1 7 C 3F800000, enter 23 5 1 6 C 3F800000"),
+        lines("enter 24 5 1 8 G 2, enter 25 5 3994 4000 C 42280000, enter 26 5 3995 4000 C 42280000"),
+        lines("enter 27 5 4000 4000 C 00000000"),
+        ["1", "2", "0", "3", "65535", "1", "2"].into_iter().flat_map(published).collect(),
+        lines("amend 21 5 2 9 C 3F800000, day 8, cover 21, publish 2, day 8, take-back, cover 21, publish 2, cover 21"),
+    ]
+    .concat()
 }
 
 fn malformed() -> Lines {
@@ -67,9 +83,9 @@ fn taking_back() -> Lines {
         lines("enter 1000 7 1 1 G 2, strike 5, amend 999 1 1 1 G 2"),
         (0..10).map(|k| line(&format!("amend {} 8 {} 300 C 3F800000", 1000 + k, 2 + k))).collect(),
         each("strike", 1000..1010),
-        lines("publish, write"),
+        lines("publish 1, write"),
         vec![line("take-back"); 67],
-        lines("write, day 50, publish, day 50"),
+        lines("write, day 50, publish 1, day 50"),
     ]
     .concat()
 }
@@ -99,7 +115,7 @@ fn full_list() -> Lines {
         lines("read 0"),
         entered.collect(),
         lines("enter 2000 1 1 1 G 2, enter 1 0 1 1 G 2, amend 2000 9 1 4000 G 2, strike 2001"),
-        lines("enter 1 1 1 1 G 2, enter 2 1 1 1 G 2, publish"),
+        lines("enter 1 1 1 1 G 2, enter 2 1 1 1 G 2, publish 1"),
         each("day", (1..=4000).step_by(331)),
         lines("span 1 4000, span 1200 1300, cover 2000, cover 2500"),
         vec![days(1..=4000), days((7..=4000).step_by(500))],
@@ -120,7 +136,7 @@ fn texts() -> Lines {
     read.extend([a[..a.len() - 1].to_vec(), [&a[..], b"\n"].concat(), [&b[..], &a].concat(), a.repeat(2)]);
     read.extend(lines(behind_a).into_iter().map(|line| [a.clone(), line].concat()));
     read.extend([line("09 1 3 3 G 1"), full.concat(), b"z".repeat(65_536), b"z".repeat(65_537), good]);
-    let after = lines("write, take-back, publish, day 2");
+    let after = lines("write, take-back, publish 1, day 2");
     read.iter().flat_map(|text| [vec![reading_of(text)], after.clone()].concat()).collect()
 }
 
@@ -128,8 +144,18 @@ fn texts() -> Lines {
 const CUT_SHORT: &[u8] = b"read\t40\n5\t1\t1\t9\tG\t2\n";
 
 pub fn conversation() -> Conversation {
-    let parts =
-        [checks(), questions(), malformed(), too_long(), taking_back(), saving(), full_list(), texts(), malformed()];
+    let parts = [
+        checks(),
+        questions(),
+        rules(),
+        malformed(),
+        too_long(),
+        taking_back(),
+        saving(),
+        full_list(),
+        texts(),
+        malformed(),
+    ];
     let mut talk = Conversation::of(parts.concat());
     talk.ending = CUT_SHORT.to_vec();
     talk

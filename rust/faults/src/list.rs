@@ -54,8 +54,33 @@ pub const FAULTS: &[Fault] = faults! {
     BOTH account "an idle amend is refused":
         "return Ok(Answer::Done)" => "return Err(Refusal::TAKEN)";
     BOTH account "publishing empties the past":
-        "self.published = Published::of(&self.standing)"
-        => "self.past.clear(); self.published = Published::of(&self.standing)";
+        "self.published = Published::of(&self.standing, rule)"
+        => "self.past.clear(); self.published = Published::of(&self.standing, rule)";
+    BOTH account "publishing by rule 2 cuts the standing list as well":
+        "self.published = Published::of(&self.standing, rule)" => r"
+            self.published = Published::of(&self.standing, rule);
+            self.standing = self.published.spells.clone()";
+    BOTH account "rule 0 is taken for rule 1":
+        "(1..=2).contains(&rule)" => "(0..=2).contains(&rule)";
+    BOTH account "a publish that is refused publishes":
+        "(1..=2).contains(&rule)" => r"
+            let there = (1..=2).contains(&rule);
+            if !there {
+                self.published = Published::of(&self.standing, 1);
+            }
+            there";
+    BOTH published "a reading counts for eight days":
+        "spell.last.min(spell.first + 6)" => "spell.last.min(spell.first + 7)";
+    BOTH published "a reading counts for six days":
+        "spell.last.min(spell.first + 6)" => "spell.last.min(spell.first + 5)";
+    BOTH published "a reading ends on the later of the two days":
+        "spell.last.min(spell.first + 6)" => "spell.last.max(spell.first + 6)";
+    BOTH published "grades lapse as readings do":
+        "published_by(rule, spell)" => r"
+            let last = if rule == 2 { spell.last.min(spell.first + 6) } else { spell.last };
+            Spell { last, ..*spell }";
+    BOTH published "spells that are cut keep their old places":
+        "spells.sort_by_key(order)" => "spells.sort_by_key(|_| 0)";
     BOTH account "taking back leaves the past as it is":
         "self.past.remove(0)" => "self.past[0].clone()";
     BOTH account "one spell less may stand":
@@ -165,9 +190,9 @@ pub const FAULTS: &[Fault] = faults! {
         "line.len() <= LONGEST_LINE" => "line.len() < LONGEST_LINE";
     SERVE wire "a line of one byte more is read":
         "line.len() <= LONGEST_LINE" => "line.len() <= LONGEST_LINE + 1";
-    SERVE wire "publish and take-back take further fields":
+    SERVE wire "write and take-back take further fields":
         "return None"
-        => r#"match *word { b"publish" => Call::Publish, b"take-back" => Call::TakeBack, _ => return None }"#;
+        => r#"match *word { b"write" => Call::Write, b"take-back" => Call::TakeBack, _ => return None }"#;
     SERVE wire "a line that is cut short is answered":
         r#"!line.ends_with(b"\n")"# => "line.is_empty()";
     SERVE wire "a reading gives back the largest room":

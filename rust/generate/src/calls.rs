@@ -35,7 +35,7 @@ impl Generator {
         if self.left == 0 {
             self.next_phase();
             if self.phase == Phase::Questions {
-                return Call::Publish;
+                return Call::Publish(self.rule());
             }
         }
         self.left -= 1;
@@ -66,10 +66,15 @@ impl Generator {
             30..=44 => Call::Amend(self.amended(account)),
             45..=54 => Call::Strike(self.number_among(&account.standing)),
             55..=62 => Call::TakeBack,
-            63..=70 => Call::Publish,
+            63..=70 => Call::Publish(self.rule()),
             71..=73 => Call::Write,
             _ => Call::Ask(self.question(account)),
         }
+    }
+
+    /// A rule of publishing, and now and then none.
+    fn rule(&mut self) -> u16 {
+        self.rng.pick(&[1, 1, 1, 2, 2, 2, 2, 0, 3, 65_535])
     }
 
     /// An edit that is accepted, but for a full list and an empty one.

@@ -30,7 +30,7 @@ pub const HEX: &[u8] = b"3f800000|3F80000|3F8000000||0x3F8000|3F80000G|+3F80000|
 pub const LINES: &[u8] =
     b"|\t| |\r|\0|\xff\xfe|help|quit|Day\t5|DAY\t5|da\t5|dayz\t5|day|day\t|day\t\t5|day 5| day\t5|\tday\t5\
     |day\t5\t|day\t5\t6|span\t5|span\t5\t6\t7|span\t5\t|cover|cover\t|strike|strike\t1\t2|takeback|take back|take_back\
-    |Take-back|take-back\t|take-back\t1|publish\t|publish\t1|publish |PUBLISH|write\t|write\t1|Write|days\t|days\t1\t\
+    |Take-back|take-back\t|take-back\t1|publish|publish\t|publish\t1\t1|publish\t01|publish\t65536|publish |PUBLISH|write\t|write\t1|Write|days\t|days\t1\t\
     |days\t\t1|days\t1\t\t2|days 1 2|Days|mask|mask\t1|mask\t1\t|mask\t1\t81|mask\t1\t0000000000000081\t\
     |mask\t1\t00000000000000081|mask\t1\t000000000000008a|mask\t65536\t0000000000000001|Mask\t1\t0000000000000001|room|room\t|room\t65537|room\t065536|room\t-1|room\t1\t2|room\t99999|Room\t1\
     |read|read\t|read\t00|read\t01|read\t-1|read\t+0|read\t0\t|read\t0\t0|read\t12345678901|read\t00000000000|read\tx\

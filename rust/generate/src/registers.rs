@@ -2,7 +2,7 @@
 
 use crate::odd::{self, Fields};
 use crate::Generator;
-use account::call::{Spell, Start};
+use account::call::{Spell, Start, Urgency};
 use account::entry::{check_spell, order};
 use account::limits::{LAST_DAY, LONGEST_TEXT, MOST_SPELLS};
 use account::register::{line_of, text_of};
@@ -13,12 +13,16 @@ pub enum Begun {
     Fresh,
     Small,
     Full,
+    Readings,
     Damaged,
 }
 
-pub const BEGUN: [Begun; 14] = {
+pub const BEGUN: [Begun; 16] = {
     use Begun::*;
-    [Fresh, Fresh, Fresh, Small, Small, Small, Full, Full, Damaged, Damaged, Damaged, Damaged, Damaged, Damaged]
+    [
+        Fresh, Fresh, Fresh, Small, Small, Small, Full, Full, Readings, Readings, Damaged, Damaged, Damaged, Damaged,
+        Damaged, Damaged,
+    ]
 };
 
 /// A way in which a text is damaged.
@@ -45,6 +49,7 @@ impl Generator {
             Begun::Fresh => (Start::Fresh, most),
             Begun::Small => (Start::Text(self.small_text()), most),
             Begun::Full => (Start::Text(self.full_text()), 300),
+            Begun::Readings => (Start::Text(self.readings_text()), most),
             Begun::Damaged => (Start::Text(self.damaged_text()), 10),
         }
     }
@@ -73,6 +78,20 @@ impl Generator {
         let count = self.rng.range(MOST_SPELLS - 30, MOST_SPELLS);
         let count = self.rng.pick(&[MOST_SPELLS, MOST_SPELLS - 1, count]);
         text_of(&self.register(count))
+    }
+
+    /// Readings of one to nine days that begin on one day, or on one of the calendar's last seven.
+    fn readings_text(&mut self) -> Vec<u8> {
+        let count = self.rng.pick(&[3, 20, 60, MOST_SPELLS]);
+        let (first, at_the_end) = (self.any_day(), self.rng.chance(50));
+        let numbers = self.distinct_numbers(count, 65_535);
+        let spell = |number| {
+            let first = if at_the_end { self.rng.range(3_994, 4_000) as u16 } else { first };
+            let last = (first + self.rng.pick(&[0, 5, 6, 7, 8])).min(LAST_DAY);
+            let urgency = Urgency::Reading(self.rng.range(0, 1_000) as u32);
+            Spell { urgency, ..self.spell_on(number, first, last) }
+        };
+        text_of(&in_order(numbers.into_iter().map(spell).collect()))
     }
 
     /// So many spells in the order: on days near the centre for half of the lists, over the whole calendar for the
@@ -205,7 +224,7 @@ impl Generator {
     /// A text of the longest length, or above it. Its lines behind the first ones are requests.
     fn longest_and_longer(&mut self) -> Vec<u8> {
         let length = LONGEST_TEXT + self.rng.pick(&[0, 0, 1, 2, 5_000, 70_000]);
-        let requests = b"publish\nday\t5\n".iter().cycle().copied();
+        let requests = b"publish\t1\nday\t5\n".iter().cycle().copied();
         text_of(&self.some_spells()).into_iter().chain(requests).take(length).collect()
     }
 }

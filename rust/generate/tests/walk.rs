@@ -72,7 +72,7 @@ fn small_list(rng: &mut Rng) -> Vec<Spell> {
 fn small_lists() {
     let mut rng = Rng::new(1);
     for _ in 0..400 {
-        let published = Published::of(&small_list(&mut rng));
+        let published = Published::of(&small_list(&mut rng), 1);
         for _ in 0..30 {
             let (a, b) = (rng.range(1, 32) as u16, rng.range(1, 32) as u16);
             check(&published, a.max(b), a.min(b));
@@ -83,7 +83,7 @@ fn small_lists() {
 
 #[test]
 fn a_full_waiting_list() {
-    let published = Published::of(&Generator::new(1).waiting_list(MOST_SPELLS));
+    let published = Published::of(&Generator::new(1).waiting_list(MOST_SPELLS), 1);
     for d in (1..LAST_DAY).step_by(97) {
         check(&published, d, d);
         check(&published, (d + 30).min(LAST_DAY), d);

@@ -153,5 +153,5 @@ fn systemd(program: &Program) -> Result<(), String> {
     let mut bytes = [0; 64];
     let count = told.recv(&mut bytes).map_err(|error| format!("systemd is not told: {error}"))?;
     expect("systemd is told something else", bytes[..count].starts_with(b"READY=1"))?;
-    expect("it does not serve", service.connect()?.ask(b"publish\n")? == b"ok\n")
+    expect("it does not serve", service.connect()?.ask(b"publish\t1\n")? == b"ok\n")
 }

@@ -62,7 +62,7 @@ fn request(rng: &mut Rng, connection: usize) -> Vec<u8> {
         0..=2 => format!("enter\t{number}\t{}\t{first}\t{last}\tG\t{}\n", rng.range(1, 900), rng.range(1, 4)),
         3 => format!("amend\t{number}\t{}\t{first}\t{last}\tC\t3F800000\n", rng.range(1, 900)),
         4 => format!("strike\t{number}\n"),
-        5 if connection == 0 => "publish\n".to_string(),
+        5 if connection == 0 => "publish\t1\n".to_string(),
         5 | 6 => format!("day\t{first}\n"),
         7 => format!("span\t{first}\t{last}\n"),
         8 => format!("cover\t{number}\n"),

@@ -14,4 +14,4 @@ phayaklit-publish-spec =
     (λ c.
     let done = c .before in
     let read = done .before .before in
-    published _ _ _ _ _ (read .unpack .ensures) (c .answered .ensures) (done .publish .ensures)))
+    published _ _ _ _ _ _ _ (read .unpack .ensures) (c .answered .ensures) (done .publish .ensures)))

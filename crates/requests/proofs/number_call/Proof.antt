@@ -4,4 +4,4 @@ use Rattle.requests.proofs.number_call.Statement.{statement}
 use Rattle.requests.proofs.number_call.Tie as tie
 
 pub number-call-spec : {M : Type 1} → statement M
-number-call-spec = tie.close (tie.spec (λ c. search needs) (λ c. search needs) (λ c. search needs) (λ c. cc) (λ c. cc) (λ c. cc))
+number-call-spec = tie.close (tie.spec (λ c. search needs) (λ c. search needs) (λ c. search needs) (λ c. search needs) (λ c. cc) (λ c. cc) (λ c. cc) (λ c. cc))

@@ -23,10 +23,10 @@ step-spec =
     -- take back
     (λ c. as-call (c .before .enum-told .given .1) (c .take-back .ensures .met _ _ _ _ (c .before .before .before .before .before .before .pre)))
     -- publish
-    (λ c. as-call (c .before .before .enum-told2 .given .1) (publishes-met (c .before .before .before .before .before .before .before .pre .valid) (c .publish .ensures) _ _ _ _))
+    (λ c. as-call (c .before .before .before .call4 .given .1) (publishes-met (c .publish .ensures) _ _ _ (c .before .before .before .before .before .before .before .before .pre)))
     (λ c. search needs)
     -- write
-    (λ c. rw (c .answered .ensures) (as-call (c .before .before .before .before .before .enum-told3 .given .1) (c .before .before .before .write .ensures .met _ _ _ (c .before .before .before .before .before .before .before .before .before .before .pre))))
+    (λ c. rw (c .answered .ensures) (as-call (c .before .before .before .before .before .enum-told2 .given .1) (c .before .before .before .write .ensures .met _ _ _ (c .before .before .before .before .before .before .before .before .before .before .pre))))
     (λ c. search needs)
     -- ask
-    (λ c. rw (c .answered2 .ensures) (as-call (c .before .before .before .before .before .before .before .call4 .given .1) (c .before .before .before .ask .ensures .met _ _ (c .before .before .before .before .before .before .before .before .before .before .before .before .pre)))))
+    (λ c. rw (c .answered2 .ensures) (as-call (c .before .before .before .before .before .before .before .call5 .given .1) (c .before .before .before .ask .ensures .met _ _ (c .before .before .before .before .before .before .before .before .before .before .before .before .pre)))))

@@ -44,7 +44,7 @@ fn checks_of_the_other_calls() {
     assert_eq!([0, 4001].map(|d| refusal(account, Ask(Day(d)))), [3, 3]);
     // before the publish nobody is listed, and no list is short
     assert_eq!([Ask(Day(5)), Ask(Days(vec![5])), Ask(Cover(5))].map(|call| refusal(account, call)), [0, 0, 7]);
-    assert_eq!(step(account, Publish), Answer::Done);
+    assert_eq!(step(account, Publish(1)), Answer::Done);
     assert_eq!([Ask(Day(5)), Ask(Days(vec![5])), Ask(Cover(5))].map(|call| refusal(account, call)), [11, 11, 11]);
 }
 
@@ -109,7 +109,7 @@ fn an_amend_of_any_field_is_an_edit() {
 #[test]
 fn publishing_leaves_the_past() {
     let mut account = begun(REGISTER_A);
-    for call in [Strike(11), Publish, TakeBack] {
+    for call in [Strike(11), Publish(1), TakeBack] {
         assert_eq!(step(&mut account, call), Answer::Done);
     }
     assert_eq!((account.standing.len(), account.published.spells.len()), (6, 5));

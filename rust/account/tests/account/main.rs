@@ -3,6 +3,7 @@
 mod calls;
 mod examples;
 mod masks;
+mod rules;
 mod texts;
 mod wire;
 
@@ -28,7 +29,7 @@ fn begun(text: &[u8]) -> Account {
 
 fn published(text: &[u8]) -> Account {
     let mut account = begun(text);
-    assert_eq!(step(&mut account, Call::Publish), Answer::Done);
+    assert_eq!(step(&mut account, Call::Publish(1)), Answer::Done);
     account
 }
 

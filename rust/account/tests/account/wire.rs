@@ -6,7 +6,7 @@ use account::wire::Wire;
 const EDGES: [(&str, &str); 19] = [
     ("enter 11 7 1 10 G 2", "ok"),
     ("enter 11 7 1 10 G 2", "refused 6"),
-    ("publish", "ok"),
+    ("publish 1", "ok"),
     ("day 5", "listed 1 0 11"),
     ("day 4001", "refused 3"),
     ("mask 4 0000000000000081", "ticked 2 1 - 11"),
@@ -42,13 +42,13 @@ fn the_longest_line() {
     let longest = ["days\t10".to_string(), "\t1".repeat((LONGEST_LINE - 8) / 2), "\n".to_string()].concat();
     assert_eq!(longest.len(), LONGEST_LINE);
     assert_eq!(answers(longest.as_bytes()), "refused 10|");
-    assert_eq!(answers(format!("x{longest}publish\n").as_bytes()), "malformed|ok|");
+    assert_eq!(answers(format!("x{longest}publish\t1\n").as_bytes()), "malformed|ok|");
 }
 
 #[test]
 fn texts_behind_a_line() {
-    assert_eq!(answers(b"read\t0\nread\t3\na\nbpublish\n"), "ok|refused 12 1|ok|");
-    assert_eq!(answers(&[b"read\t65537\n", &b"\n".repeat(65_537)[..], b"publish\n"].concat()), "refused 12 0|ok|");
+    assert_eq!(answers(b"read\t0\nread\t3\na\nbpublish\t1\n"), "ok|refused 12 1|ok|");
+    assert_eq!(answers(&[b"read\t65537\n", &b"\n".repeat(65_537)[..], b"publish\t1\n"].concat()), "refused 12 0|ok|");
     assert_eq!(
         answers(b"read\t00\nread\t12345678901\nroom\t65537\nroom\t65536\n"),
         "malformed|malformed|malformed|ok|"
@@ -57,7 +57,7 @@ fn texts_behind_a_line() {
 
 #[test]
 fn input_that_ends_inside_a_request() {
-    assert_eq!(answers(b"publish\npublish"), "ok|");
+    assert_eq!(answers(b"publish\t1\npublish"), "ok|");
     assert_eq!(answers(b"read\t5\nabcd"), "");
     assert_eq!(answers(&b"x".repeat(70_000)), "");
     assert_eq!(answers(b""), "");
