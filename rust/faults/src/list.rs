@@ -214,7 +214,7 @@ pub const FAULTS: &[Fault] = faults! {
     SERVE wire "the length of a text counts up to a megabyte":
         "take_text(stream, length)" => "take_text(stream, length % (1 << 20))";
     SERVE wire "the end of a line above a megabyte is taken for a line":
-        "{ None }" => "if line.len() > 1 << 20 { asked_by(&line[line.len() - 8..line.len() - 1]) } else { None }";
+        "{ None }" => "if line.len() > 1 << 20 { asked_by(&line[line.len() - 10..line.len() - 1]) } else { None }";
     SERVE programs "a register that was read from a file is forgotten":
         "send(&bytes_of(&answer))?" => "wire = Wire::default(); send(&bytes_of(&answer))?";
     SERVE programs "a file is read once":
