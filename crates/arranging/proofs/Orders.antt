@@ -1,11 +1,10 @@
 -- The orders of positions, and a sort of different numbers: the place of a number tells as much as the test. Assumes nothing.
-use Rattle.basis.proofs.Prelude.{ℕ, zero, suc, _+_, _*_, _≤_, _<_, arith, decLe, _≡_, refl, sym, ap, _∙_, Bool, true, false, cond, List, [], _∷_, eq-eqb, ne-eqb, eqb-true, eqb-false, lt-ltb, le-ltb, ltb-true, ltb-false, ltb, eqb, length, getD, by-test, clash}
-use Rattle.orders.specs.Orders.{lexical, insertBy, sortedBy, inOrderBy}
+use Rattle.basis.proofs.Prelude.{ℕ, zero, suc, _+_, _*_, _≤_, _<_, arith, decLe, _≡_, refl, sym, ap, _∙_, Bool, true, false, cond, List, [], _∷_, eqb-true, eqb-false, lt-ltb, le-ltb, ltb-true, ltb-false, ltb, eqb, length, getD, by-test}
+use Rattle.orders.specs.Orders.{lexical, insertBy}
 use Rattle.orders.proofs.Each.{Each, each-at, each-weaken}
-use Rattle.orders.proofs.Sorting.{Total, hit, miss, each-inserted, irrefl, either-first, later, sorted-in-order}
+use Rattle.orders.proofs.Sorting.{Total, hit, miss, each-inserted, irrefl, either-first, later}
 use Rattle.orders.proofs.Keys.{key-last, by-keys}
-use Rattle.arranging.specs.Arranged.{byMinor, byBoth, arranged}
-use Rattle.columns.specs.Columns.{positions}
+use Rattle.arranging.specs.Arranged.{byMinor, byBoth}
 
 pub by-minor : (minor : List ℕ) → Total (byMinor minor)
 unfolding byMinor
@@ -24,11 +23,6 @@ by-major major minor p q = refl
 pub by-place : (minor : List ℕ) (p q : ℕ) → byMinor minor p q ≡ cond (eqb (getD minor p 0) (getD minor q 0)) (ltb p q) (ltb (getD minor p 0) (getD minor q 0))
 unfolding byMinor lexical
 by-place minor p q = ap (λ (b : Bool). cond (eqb (getD minor p 0) (getD minor q 0)) b (ltb (getD minor p 0) (getD minor q 0))) (sym (key-last p q))
-
--- the arranged positions are in order
-pub arranged-in-order : (major minor : List ℕ) (n : ℕ) → inOrderBy (byBoth major minor) (arranged major minor n) ≡ true
-unfolding arranged
-arranged-in-order major minor n = sorted-in-order (by-both major minor) (positions 0 n)
 
 -- two keys in one number
 pub packed : (x y p q : ℕ) → p < 1024 → q < 1024 → ltb (x * 1024 + p) (y * 1024 + q) ≡ cond (eqb x y) (ltb p q) (ltb x y)

@@ -1,5 +1,5 @@
 -- The positions, and a list that is filled place by place. Assumes nothing.
-use Rattle.basis.proofs.Prelude.{length-map, map-append, ℕ, zero, suc, _+_, _≤_, _<_, arith, add-one, _≡_, refl, sym, ap, _∙_, List, [], _∷_, _++_, map, length, getD, take, drop, set, length-set, length-append, length-drop, drop-cons, set-at, append-snoc, take-at}
+use Rattle.basis.proofs.Prelude.{length-map, map-append, ℕ, zero, suc, _+_, _≤_, _<_, arith, add-one, _≡_, refl, sym, ap, _∙_, List, [], _∷_, _++_, map, length, getD, take, drop, set, length-set, drop-cons, set-at, append-snoc, take-at}
 use Rattle.orders.proofs.Each.{Each}
 use Rattle.columns.specs.Columns.{positions, filled}
 
@@ -52,10 +52,6 @@ module _ (f : ℕ → ℕ) where
   pub filled-none : (l : List ℕ) → l ≡ filled f 0 l
   unfolding filled positions
   filled-none l = refl
-
-  pub filled-length : (n : ℕ) (l : List ℕ) → n ≤ length l → length (filled f n l) ≡ length l
-  unfolding filled
-  filled-length n l h = length-append (map f (positions 0 n)) (drop n l) ∙ omega (arith, front-length n, length-drop n l)
 
   pub filled-on : (i v : ℕ) (l k : List ℕ) → k ≡ filled f i l → v ≡ f i → i < length l → set k i v ≡ filled f (i + 1) l
   unfolding filled

@@ -1,5 +1,5 @@
 -- What is true of the ticked days of every sheet, and what an answer tells its caller. Assumes nothing.
-use Rattle.basis.proofs.Prelude.{_≡_, refl, ap, ℕ, zero, suc, _+_, _≤_, _<_, List, List·Memᴰ, [], _∷_, true, false, getD, length, take, length-append, take-append-seam, arith, by-test}
+use Rattle.basis.proofs.Prelude.{_≡_, refl, ap, ℕ, suc, _+_, _≤_, _<_, List, List·Memᴰ, [], _∷_, true, false, getD, length, take, length-append, take-append-seam, arith, by-test}
 use Prim.Native.Nat.{_^_}
 use native.Mathlib.Nat.{div-one}
 use lib.Count.{ones}

@@ -1,6 +1,6 @@
 -- All calls of the account gone through once, for any property of what a call does, and what comes of an effect gone through
 -- once, for any property of an outcome. Assumes nothing.
-use Rattle.basis.proofs.Prelude.{_∙_, _≡_, ap, refl, sym, ℕ, List, List·Memᴰ, List·Memᴰ·head, List·Memᴰ·tail, [], _∷_, Bool, _&&_, cond, false, false≢true, true, eqb, leb, length, arith, eqb-false, eqb-true, leb-false, leb-true, by-cases, by-test}
+use Rattle.basis.proofs.Prelude.{_∙_, _≡_, ap, refl, sym, ℕ, List, List·Memᴰ, List·Memᴰ·head, List·Memᴰ·tail, [], _∷_, _&&_, false, false≢true, true, eqb, leb, length, arith, eqb-false, eqb-true, leb-false, leb-true, by-cases, by-test}
 use Rattle.refusal.specs.Table.{accepted, offCalendar, reversed, unknownNumber, unsortedDays, shortBuffer, noSuchRule}
 use Rattle.rules.specs.Rules.{isRule}
 use Rattle.model.specs.Publishing.{publishedOf}
@@ -15,7 +15,7 @@ use Rattle.model.specs.declared.Question.the-variants.{Day, Span, Cover,
 use Rattle.model.specs.Edits.{insert, remove, replace, idle, enterRefusal, amendRefusal, strikeRefusal, takeBackRefusal, remember, frontOr, restOf}
 use Rattle.model.specs.Questions.{onAny, rising, listed}
 use Rattle.model.specs.Effects.{State, withStanding, Request, After, Effect, refused, done, gives, writes, refuse, gave, wrote, settle, withPublished}
-use Rattle.model.specs.Model.{become, edit, amend, takeBack, publish, reaching, several, cover, ask, effectOf, step}
+use Rattle.model.specs.Model.{become, edit, amend, takeBack, reaching, several, cover, ask, effectOf, step}
 use Rattle.model.specs.Journal.{reads}
 use Rattle.model.proofs.Rules.{fits-given, short-refused, text-fits, text-short}
 

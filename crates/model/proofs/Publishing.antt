@@ -7,7 +7,7 @@ use Rattle.rules.proofs.Rules.{as-entered}
 use Rattle.spell.specs.declared.Spell.{Spell}
 use Rattle.spell.specs.Order.{earlierOf, listedBefore, orderedBy}
 use Rattle.spell.specs.Listing.{stands, distinct, Each, Orderly, OrderlyBy}
-use Rattle.spell.proofs.Listing.{neither, other-way}
+use Rattle.spell.proofs.Listing.{neither}
 use Rattle.spell.proofs.Order.{StrictOrder, answer-order, asym, ordered-tail, ordered-first}
 use Rattle.model.specs.Publishing.{publishedOf}
 use Rattle.model.proofs.Edits.{stands-insert, orderly-none, orderly-insert, in-insert}

@@ -1,5 +1,5 @@
 -- An order by keys, of which the last tells any two elements apart, is total. Assumes nothing.
-use Rattle.basis.proofs.Prelude.{_≡_, refl, sym, ap, _∙_, ℕ, _≤_, _<_, List, [], _∷_, _++_, Bool, true, false, cond, eqb, ltb, arith, eq-eqb, eqb-false, eqb-true, lt-ltb, le-ltb, ltb-false, ltb-true, by-test}
+use Rattle.basis.proofs.Prelude.{_≡_, refl, sym, ℕ, _≤_, List, [], _∷_, _++_, Bool, true, false, cond, eqb, ltb, arith, eqb-false, eqb-true, lt-ltb, le-ltb, ltb-false, ltb-true, by-test}
 use Rattle.orders.specs.Orders.{lexical}
 use Rattle.orders.proofs.Sorting.{Total}
 

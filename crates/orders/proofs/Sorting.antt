@@ -1,7 +1,7 @@
 -- Insertion sort by a test that is a total order. Assumes nothing.
 use Rattle.basis.proofs.Prelude.{_≡_, refl, sym, ap, _∙_, ℕ, suc, _+_, _≤_, _<_, List, [], _∷_, _++_, append-nil, map, Bool, true, false, not, cond, _&&_, getD, length, drop, length-drop, drop-cons, add-one, arith, both, by-test, clash, not-true, untrue}
 use Rattle.orders.specs.Orders.{insertBy, sortedBy, inOrderBy}
-use Rattle.orders.proofs.Each.{Each, each-append, each-weaken}
+use Rattle.orders.proofs.Each.{Each, each-weaken}
 
 module _ {A : Type 0} (t : A → A → Bool) where
   -- ---- One element put in

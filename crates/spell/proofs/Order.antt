@@ -69,10 +69,6 @@ days-rise ks a b h =
     let f = key-says (a .first) (b .first) _ h in
     by-eq (a .first) (b .first) (f .0) (λ e. inr (e, key-says (a .last) (b .last) (lexical ks a b) (f .1 e) .0)) inl
 
-pub earlier-days : (a b : Spell) → earlierOf a b ≡ true → (a .first < b .first) ⊎ ((a .first ≡ b .first) × (a .last ≤ b .last))
-unfolding earlierOf
-earlier-days = days-rise ((λ s. s .number) ∷ [])
-
 pub listed-days : (a b : Spell) → listedBefore a b ≡ true → (a .first < b .first) ⊎ ((a .first ≡ b .first) × (a .last ≤ b .last))
 unfolding listedBefore
 listed-days = days-rise ((λ s. s .number) ∷ [])

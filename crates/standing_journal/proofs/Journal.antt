@@ -40,10 +40,6 @@ module _ (j : List Undo) (d : ℕ) (e : Undo) (long : length j ≡ 64) where
           none h = omega arith
       drop-oldest (x ∷ j) n h = rw (reverse-cons x j) (take-at (reverse j) (x ∷ []) n (omega (arith, length-reverse j)))
 
-  -- how many there are then
-  pub push-length : length (noted e (newestFirst d j)) ≤ 64
-  push-length = omega (arith, length-take 64 (e ∷ newestFirst d j))
-
 -- the newest entry, and those before it
 pub pop : (j : List Undo) (d : ℕ) → d ≤ length j → (d ≡ 0 → ⊥) → newestFirst d j ≡ getD j (d - 1) blankEntry ∷ newestFirst (d - 1) j
 pop j zero h some = absurd (some refl)

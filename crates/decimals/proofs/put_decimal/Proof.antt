@@ -54,18 +54,15 @@ pub put-decimal-spec : {M : Type 1} → statement M
 put-decimal-spec =
     tie.close
     (tie.spec
-    Inv-loop
-    μ-loop
+    Inv-loop μ-loop
     (λ c. omega (arith, below c))  -- i = at - 1
     (λ c. omega (arith, below c, c .pre .0))  -- buf[i] = end
     loop-holds
     (λ c. digits-room (c .before .loop .inv .0))  -- i -= 1
     (λ c. omega arith) (λ c. omega arith)  -- ZERO + (v % 10) as u8
     (λ c. inside (c .before))  -- buf[i]
-    (λ c. omega arith)
-    (λ c. (digits-step (c .before .loop .inv .0) (omega arith), omega arith))
+    (λ c. omega arith) (λ c. (digits-step (c .before .loop .inv .0) (omega arith), omega arith))
     (λ c. digits-room (c .before .loop .inv .0))  -- i -= 1
     (λ c. omega arith) (λ c. omega arith)  -- ZERO + v as u8
     (λ c. inside (c .before))  -- buf[i]
-    (λ c. whole c .sized)
-    (λ c. puts-room 0 _ (omega arith) (c .before .before .pre .0) (whole c)))
+    (λ c. whole c .sized) (λ c. puts-room 0 _ (omega arith) (c .before .before .pre .0) (whole c)))

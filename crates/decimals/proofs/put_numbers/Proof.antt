@@ -20,13 +20,11 @@ pub put-numbers-spec : {M : Type 1} → statement M
 put-numbers-spec =
     tie.close
     (tie.spec
-    Inv-loop
-    μ-loop
+    Inv-loop μ-loop
     (λ c. let a = c .before .before .before .args in puts-before _ (numbersText (a .numbers .now)) (a .buf .now) (a .at) (omega arith))
     (λ c. let a = c .before .before .before .before .args in puts-past _ (numbersText (a .numbers .now)) (a .buf .now) (a .at) (roomy (c .before)) (c .if2 .taken))
     (λ c. let a = c .before .before .before .before .args in rest-none (a .numbers .now) (a .buf .now) (a .at) (roomy (c .before)) (c .if2 .left))
-    (λ c. search needs) (λ c κs. search needs) (λ c. search needs) (λ c. search needs) (λ c. search needs)
-    (λ c κs. search needs) (λ c. search needs)
+    (λ c. search needs) (λ c κs. search needs) (λ c. search needs) (λ c. search needs) (λ c. search needs) (λ c κs. search needs) (λ c. search needs)
     -- the loop goes on
     (λ c.
     let p = c .before .before in

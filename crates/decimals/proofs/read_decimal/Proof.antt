@@ -8,8 +8,8 @@ pub read-decimal-spec : {M : Type 1} → statement M
 read-decimal-spec =
     tie.close
     (tie.spec
-    (λ c. let a = c .before .before .args in sym (decimal-past (a .text .now) (a .at) (a .limit) (omega arith)))
-    (λ c. search needs) (λ c. search needs)
+    (λ c. let a = c .before .before .args in sym (decimal-past (a .text .now) (a .at) (a .limit) (omega arith))) (λ c. search needs)
+    (λ c. search needs)
     -- a zero
     (λ c. let a = c .before .before .before .before .args in sym (decimal-at (a .text .now) (a .at) (a .limit) (omega arith) ∙ rw (eq-eqb _ _ (c .if2 .taken))))
     (λ c κs. search needs)

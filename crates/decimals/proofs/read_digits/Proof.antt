@@ -33,9 +33,7 @@ pub read-digits-spec : {M : Type 1} → statement M
 read-digits-spec =
     tie.close
     (tie.spec
-    Inv-loop
-    μ-loop
-    (λ c. (omega arith, refl)) (λ c. omega arith) (λ c κs. tt)
+    Inv-loop μ-loop (λ c. (omega arith, refl)) (λ c. omega arith) (λ c κs. tt)
     -- no digit
     (λ c.
     let l = c .before .before .before .before in

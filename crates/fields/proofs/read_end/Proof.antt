@@ -35,7 +35,6 @@ pub read-end-spec : {M : Type 1} → statement M
 read-end-spec =
     tie.close
     (tie.spec
-    (λ c. search needs) (λ c. search needs) (λ c. search needs) (λ c κs. search needs)
-    returns-2
+    (λ c. search needs) (λ c. search needs) (λ c. search needs) (λ c κs. search needs) returns-2
     (λ c. omega (arith, ended c .1))  -- i + 1
     returns-3)

@@ -9,5 +9,5 @@ unfolding hexDigit
 hex-digit-spec =
     tie.close
     (tie.spec
-    (λ c. search needs) (λ c. search needs) (λ c. rw (lt-ltb _ _ (c .if1 .taken)))
-    (λ c. search needs) (λ c. search needs) (λ c. rw (le-ltb _ _ (c .if1 .left)) (omega arith)))
+    (λ c. search needs) (λ c. search needs) (λ c. rw (lt-ltb _ _ (c .if1 .taken))) (λ c. search needs) (λ c. search needs)
+    (λ c. rw (le-ltb _ _ (c .if1 .left)) (omega arith)))

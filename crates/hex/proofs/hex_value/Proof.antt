@@ -12,8 +12,7 @@ hex-value-spec =
     (tie.spec
     (λ c κs. search needs)
     (λ c. digit-low _ (sym (c .before .is-digit .ensures) ∙ c .if1 .taken))  -- b - ZERO
-    (λ c. search needs)
-    (λ c. rw (sym (c .before .is-digit .ensures) ∙ c .if1 .taken))
+    (λ c. search needs) (λ c. rw (sym (c .before .is-digit .ensures) ∙ c .if1 .taken))
     (λ c. rw (sym (c .before .before .is-digit .ensures) ∙ c .before .if1 .left, lt-leb 65 _ (c .if2 .taken)))
     (λ c. let e = c .before .before in rw (sym (e .before .is-digit .ensures) ∙ e .if1 .left, le-leb 65 _ (c .before .if2 .left), lt-leb _ 70 (c .if3 .taken)))
     (λ c. search needs) (λ c. search needs)

@@ -44,17 +44,13 @@ pub put-bits-spec : {M : Type 1} → statement M
 put-bits-spec =
     tie.close
     (tie.spec
-    Inv-loop
-    μ-loop
-    (λ c. let a = c .before .before .args in puts-before 9 (bitsText (a .n) (a .end)) (a .buf .now) (a .at) (c .if1 .taken))
+    Inv-loop μ-loop (λ c. let a = c .before .before .args in puts-before 9 (bitsText (a .n) (a .end)) (a .buf .now) (a .at) (c .if1 .taken))
     (λ c. let a = c .before .before .before .args in puts-past 9 (bitsText (a .n) (a .end)) (a .buf .now) (a .at) (c .before .if1 .left) (c .if2 .taken))
-    (λ c. omega arith) (λ c. omega arith)
-    loop-holds
+    (λ c. omega arith) (λ c. omega arith) loop-holds
     (λ c. hexes-room (c .before .loop .inv .0) (omega arith))  -- i -= 1
     (λ c κs. omega arith)
     -- buf[i]
     (λ c. let d = c .before .before .loop .inv .0 in omega (arith, d .so-far .sized, d .so-far .inside, hexes-room d (omega arith)))
     (λ c. omega arith) (λ c. omega arith)
-    (λ c. (rw (c .hex-digit .ensures) (hexes-step (c .before .before .loop .inv .0) (omega arith)), omega arith))
-    (λ c. whole c .sized)
+    (λ c. (rw (c .hex-digit .ensures) (hexes-step (c .before .before .loop .inv .0) (omega arith)), omega arith)) (λ c. whole c .sized)
     (λ c. let s = c .before .before in puts-room 9 _ (s .before .if1 .left) (s .if2 .left) (whole c)))

@@ -24,9 +24,7 @@ pub read-hex-spec : {M : Type 1} → statement M
 read-hex-spec =
     tie.close
     (tie.spec
-    Inv-loop
-    μ-loop
-    (λ c. let all : c .before .args .digits - 0 ≡ c .before .args .digits = omega arith in (omega arith, none-read, rw all))
+    Inv-loop μ-loop (λ c. let all : c .before .args .digits - 0 ≡ c .before .args .digits = omega arith in (omega arith, none-read, rw all))
     -- the text's end
     (λ c.
     let l = c .before .before in

@@ -8,15 +8,6 @@ use Rattle.masks.proofs.on_calendar.Tie as tie
 some : (c : tie.Else1) → 0 < c .before .args .mask
 some c = let ne = c .if1 .left in omega (arith, ne)
 
-returns-2 : tie.Need-returns-2
-returns-2 c = let a = c .before .before in low-off (a .args .base) (a .args .mask) (some (c .before)) (a .fits .mask .fits) (omega arith)
-
-sub-result : tie.Need-sub-result
-sub-result c = let a = c .before .before in zeros-above (a .args .base) (a .args .mask) (some (c .before)) (a .fits .mask .fits)
-
-returns-3 : tie.Need-returns-3
-returns-3 c = let a = c .before .before in high-on (a .args .base) (a .args .mask) (some (c .before)) (a .fits .mask .fits) (omega arith)
-
 pub on-calendar-spec : {M : Type 1} → statement M
 on-calendar-spec =
     tie.close
@@ -24,7 +15,7 @@ on-calendar-spec =
     (λ c. empty-on (c .before .args .base) (c .before .args .mask) (omega arith))
     -- base as u32 + u64::trailing_zeros(mask)
     (λ c. record { fits = omega (arith, trailing-le 64 (c .before .args .mask), c .before .fits .base .fits) })
-    returns-2
-    sub-result
+    (λ c. let a = c .before .before in low-off (a .args .base) (a .args .mask) (some (c .before)) (a .fits .mask .fits) (omega arith))  -- the second return
+    (λ c. let a = c .before .before in zeros-above (a .args .base) (a .args .mask) (some (c .before)) (a .fits .mask .fits))  -- 63 - leading_zeros(mask)
     (λ c. search needs)
-    returns-3)
+    (λ c. let a = c .before .before in high-on (a .args .base) (a .args .mask) (some (c .before)) (a .fits .mask .fits) (omega arith)))  -- the third return

@@ -21,23 +21,15 @@ pub put-spec : {M : Type 1} → statement M
 put-spec =
     tie.close
     (tie.spec
-    Inv-loop
-    μ-loop
-    (λ c. begins (c .pre) (c .fits .mask .fits))
+    Inv-loop μ-loop (λ c. begins (c .pre) (c .fits .mask .fits))
     -- i += zeros
     (λ c. record { fits = omega (arith, known c) })
     -- days[n] = (base as u32 + i) as u16
-    (λ c. record { fits = omega (arith, known c) })
-    (λ c. record { fits = omega (arith, known c) })
-    (λ c. record { fits = omega (arith, known c) })
+    (λ c. record { fits = omega (arith, known c) }) (λ c. record { fits = omega (arith, known c) }) (λ c. record { fits = omega (arith, known c) })
     (λ c. omega (arith, known c, c .before .loop .inv .sized))
     -- left = left >> zeros >> 1
-    (λ c. record { fits = omega (arith, known c) })
-    (λ c. omega (arith, known c))
+    (λ c. record { fits = omega (arith, known c) }) (λ c. omega (arith, known c))
     -- i += 1; n += 1
-    (λ c. record { fits = omega (arith, known c) })
-    (λ c. record { fits = omega (arith, known c) })
-    (λ c. omega (arith, known c))
-    (λ c. goes-on (c .before .loop .inv) (some c))
-    (λ c. c .before .loop .inv .sized ∙ sym (c .before .loop .inv .room .places))
+    (λ c. record { fits = omega (arith, known c) }) (λ c. record { fits = omega (arith, known c) }) (λ c. omega (arith, known c))
+    (λ c. goes-on (c .before .loop .inv) (some c)) (λ c. c .before .loop .inv .sized ∙ sym (c .before .loop .inv .room .places))
     (λ c. ends (c .before .loop .inv) (c .loop-test .left)))

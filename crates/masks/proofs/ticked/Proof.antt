@@ -27,9 +27,6 @@ pub ticked-spec : {M : Type 1} → statement M
 ticked-spec =
     tie.close
     (tie.spec
-    (λ c κs. search needs)
-    returns
-    (λ c κs. record { on = on (c .before); places = search needs })
+    (λ c κs. search needs) returns (λ c κs. record { on = on (c .before); places = search needs })
     -- u64::count_ones(mask) as usize
-    (λ c. let a = c .before .before .before .before in record { fits = omega (arith, ones-le 64 (a .args .mask) (a .fits .mask .fits)) })
-    returns-2)
+    (λ c. let a = c .before .before .before .before in record { fits = omega (arith, ones-le 64 (a .args .mask) (a .fits .mask .fits)) }) returns-2)

@@ -17,18 +17,13 @@ pub put-spell-spec : {M : Type 1} → statement M
 put-spell-spec =
     tie.close
     (tie.spec
-    (λ c. none (c .before .before) (omega arith))
-    (λ c. search needs)
-    (λ c. none (c .before .before .before) (omega arith))
-    (λ c κs. search needs) (λ c κs. search needs) (λ c κs. search needs) (λ c κs. search needs)
+    (λ c. none (c .before .before) (omega arith)) (λ c. search needs) (λ c. none (c .before .before .before) (omega arith)) (λ c κs. search needs)
+    (λ c κs. search needs) (λ c κs. search needs) (λ c κs. search needs)
     -- the stores
-    (λ c. search needs) (λ c. search needs) (λ c. search needs) (λ c. search needs) (λ c. simp length-set (omega arith))
-    (λ c. search needs) (λ c. search needs) (λ c. simp length-set (omega arith))
-    (λ c. search needs) (λ c. search needs) (λ c. simp length-set (omega arith))
-    (λ c. search needs) (λ c. search needs) (λ c. simp length-set (omega arith))
-    (λ c. search needs) (λ c. search needs) (λ c. simp length-set (omega arith))
-    (λ c. search needs) (λ c. search needs) (λ c. simp length-set (omega arith))
-    (λ c. simp length-set)
+    (λ c. search needs) (λ c. search needs) (λ c. search needs) (λ c. search needs) (λ c. simp length-set (omega arith)) (λ c. search needs)
+    (λ c. search needs) (λ c. simp length-set (omega arith)) (λ c. search needs) (λ c. search needs) (λ c. simp length-set (omega arith))
+    (λ c. search needs) (λ c. search needs) (λ c. simp length-set (omega arith)) (λ c. search needs) (λ c. search needs)
+    (λ c. simp length-set (omega arith)) (λ c. search needs) (λ c. search needs) (λ c. simp length-set (omega arith)) (λ c. simp length-set)
     (λ c.
     let v = c .before .before in
     let start = v .before .before .before .before .before in

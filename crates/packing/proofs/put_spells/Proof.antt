@@ -21,14 +21,13 @@ pub put-spells-spec : {M : Type 1} → statement M
 put-spells-spec =
     tie.close
     (tie.spec
-    Inv-loop
-    μ-loop
+    Inv-loop μ-loop
     (λ c.
     let a = c .before .before .args in
     let short = sym (put-none 0 (written spellWords (a .t1)) (a .out .now) (omega (arith, all (c .before .before), written-length 7 spellWords spell-long (a .t1)))) in
     record { words = short; back = λ h. absurd (omega (arith, all (c .before .before), written-length 7 spellWords spell-long (a .t1))) })
-    (λ c. (omega arith, laid-none spellWords spellOf _ _))
-    (λ c. omega arith) (λ c. omega arith) (λ c. omega arith) (λ c κs. search needs) (λ c. omega arith) (λ c. omega arith)
+    (λ c. (omega arith, laid-none spellWords spellOf _ _)) (λ c. omega arith) (λ c. omega arith) (λ c. omega arith) (λ c κs. search needs)
+    (λ c. omega arith) (λ c. omega arith)
     -- the loop goes on
     (λ c.
     let p = c .before .before in

@@ -9,14 +9,13 @@ spell-at-spec =
     tie.close
     (tie.spec
     (λ c κs. search needs)
-    (λ c. let a = c .before .before .before .args in c .blank .ensures ∙ sym (spell-none (a .words .now) (a .at) (omega arith)))
-    (λ c. search needs) (λ c κs. search needs)
+    (λ c. let a = c .before .before .before .args in c .blank .ensures ∙ sym (spell-none (a .words .now) (a .at) (omega arith))) (λ c. search needs)
+    (λ c κs. search needs)
     (λ c. let a = c .before .before .before .before .args in c .blank2 .ensures ∙ sym (spell-none (a .words .now) (a .at) (omega arith)))
-    (λ c. search needs) (λ c. search needs) (λ c. search needs) (λ c. search needs) (λ c. search needs)
-    (λ c. search needs) (λ c κs. search needs) (λ c. search needs) (λ c. search needs) (λ c. search needs)
-    (λ c κs. search needs) (λ c. search needs) (λ c. search needs) (λ c. search needs) (λ c. search needs)
-    (λ c. search needs) (λ c. search needs) (λ c. search needs) (λ c. search needs) (λ c. search needs)
-    (λ c. search needs) (λ c. search needs)
+    (λ c. search needs) (λ c. search needs) (λ c. search needs) (λ c. search needs) (λ c. search needs) (λ c. search needs) (λ c κs. search needs)
+    (λ c. search needs) (λ c. search needs) (λ c. search needs) (λ c κs. search needs) (λ c. search needs) (λ c. search needs) (λ c. search needs)
+    (λ c. search needs) (λ c. search needs) (λ c. search needs) (λ c. search needs) (λ c. search needs) (λ c. search needs) (λ c. search needs)
+    (λ c. search needs)
     (λ c.
     let u = c .before .before .before .before in
     let j = u .before .before in

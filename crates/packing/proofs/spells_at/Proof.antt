@@ -18,11 +18,8 @@ unfolding parts
 spells-at-spec =
     tie.close
     (tie.spec
-    Inv-loop
-    μ-loop
-    (λ c κs. search needs)
-    (λ c. (omega arith, refl))
-    (λ c. omega arith) (λ c κs. search needs) (λ c. omega arith) (λ c. omega arith) (λ c. omega arith) (λ c. omega arith)
+    Inv-loop μ-loop (λ c κs. search needs) (λ c. (omega arith, refl)) (λ c. omega arith) (λ c κs. search needs) (λ c. omega arith) (λ c. omega arith)
+    (λ c. omega arith) (λ c. omega arith)
     (λ c.
     let l = c .before .before .loop in
     (omega arith, rw (c .spell-at .ensures) (parts-more 7 spellOf _ _ (l .spells) (l .i) (7 * l .i) blank (search needs) (omega arith) (l .inv .1))))

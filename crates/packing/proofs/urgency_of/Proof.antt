@@ -9,9 +9,7 @@ unfolding urgencyOf
 urgency-of-spec =
     tie.close
     (tie.spec
-    (λ c κs. search needs)
-    (λ c. simp (eq-eqb _ 1 (c .before .if1 .taken), c .reading-of .ensures))
+    (λ c κs. search needs) (λ c. simp (eq-eqb _ 1 (c .before .if1 .taken), c .reading-of .ensures))
     (λ c. simp (ne-eqb _ 1 (c .before .if1 .left), ne-eqb _ 0 (c .if2 .taken)))
-    (λ c. simp (ne-eqb _ 1 (c .before .before .if1 .left), eq-eqb _ 0 (c .before .if2 .left), lt-leb _ _ (c .if3 .taken)))
-    (λ c. search needs)
+    (λ c. simp (ne-eqb _ 1 (c .before .before .if1 .left), eq-eqb _ 0 (c .before .if2 .left), lt-leb _ _ (c .if3 .taken))) (λ c. search needs)
     (λ c. simp (ne-eqb _ 1 (c .before .before .if1 .left), eq-eqb _ 0 (c .before .if2 .left), le-leb _ _ (c .if3 .left))))

@@ -15,8 +15,7 @@ pub refusal-of-spec : {M : Type 1} → statement M
 refusal-of-spec =
     tie.close
     (tie.spec
-    (λ c. simp (eq-eqb _ _ (c .if1 .taken)))
-    (λ c. simp (ne-eqb _ _ (c .before .before .if1 .left), eq-eqb _ _ (c .if2 .taken)))
+    (λ c. simp (eq-eqb _ _ (c .if1 .taken))) (λ c. simp (ne-eqb _ _ (c .before .before .if1 .left), eq-eqb _ _ (c .if2 .taken)))
     (λ c κs. search needs)
     -- the first day
     (λ c. let e2 = c .before .before in simp (named e2 .0, named e2 .1, sym (c .before .is-day .ensures), not-true (c .before .is-day .result) (c .if3 .taken)))

@@ -10,11 +10,10 @@ entry-at-spec =
     tie.close
     (tie.spec
     (λ c κs. search needs)
-    (λ c. let a = c .before .before .before .args in c .none .ensures ∙ sym (entry-none (now (a .words)) (a .at) (omega arith)))
-    (λ c. search needs) (λ c κs. search needs)
+    (λ c. let a = c .before .before .before .args in c .none .ensures ∙ sym (entry-none (now (a .words)) (a .at) (omega arith))) (λ c. search needs)
+    (λ c κs. search needs)
     (λ c. let a = c .before .before .before .before .args in c .none2 .ensures ∙ sym (entry-none (now (a .words)) (a .at) (omega arith)))
-    (λ c. search needs) (λ c κs. search needs) (λ c. search needs) (λ c. search needs) (λ c. search needs)
-    (λ c. search needs) (λ c. search needs)
+    (λ c. search needs) (λ c κs. search needs) (λ c. search needs) (λ c. search needs) (λ c. search needs) (λ c. search needs) (λ c. search needs)
     (λ c.
     let read = c .before .before in
     let a = read .before .before .before .before .args in

@@ -17,17 +17,9 @@ pub journal-at-spec : {M : Type 1} → statement M
 journal-at-spec =
     tie.close
     (tie.spec
-    Inv-loop
-    μ-loop
-    (λ c κs. search needs)
-    (λ c. (omega arith, unfold parts in refl))
+    Inv-loop μ-loop (λ c κs. search needs) (λ c. (omega arith, unfold parts in refl))
     -- journal[i] = entry_at(words, 9 * i)
-    (λ c. omega arith)
-    (λ c κs. search needs)
-    (λ c. omega arith)
-    (λ c. omega arith)
-    (λ c. omega arith)
-    (λ c. omega arith)
+    (λ c. omega arith) (λ c κs. search needs) (λ c. omega arith) (λ c. omega arith) (λ c. omega arith) (λ c. omega arith)
     (λ c.
     let at = c .before .before in
     (omega arith, rw (c .entry-at .ensures) (parts-more 9 entryOf _ _ (at .loop .journal) (at .loop .i) (9 * at .loop .i) blankEntry (search needs) (omega arith) (at .loop .inv .1))))

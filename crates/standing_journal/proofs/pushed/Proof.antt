@@ -20,22 +20,15 @@ pub pushed-spec : {M : Type 1} → statement M
 pushed-spec =
     tie.close
     (tie.spec
-    Inv-loop
-    μ-loop
+    Inv-loop μ-loop
     -- a[depth] = e
-    (λ c. omega arith)
-    (λ c. omega (arith, whole (c .before)))
+    (λ c. omega arith) (λ c. omega (arith, whole (c .before)))
     (λ c. let a = c .before .args in push-room (a .journal) (a .depth) (a .e) (whole (c .before)) (omega arith))
     (λ c. (omega arith, close-none 0 (c .before .args .journal)))
     -- let x = a[i + 1]
-    (λ c. omega arith)
-    (λ c. omega arith)
-    (λ c. omega (arith, whole (c .before .before .before)))
+    (λ c. omega arith) (λ c. omega arith) (λ c. omega (arith, whole (c .before .before .before)))
     -- a[i] = x
-    (λ c. omega arith)
-    (λ c. omega (arith, whole (c .before .before .before .before)))
-    (λ c. omega arith)
-    (λ c. omega arith)
+    (λ c. omega arith) (λ c. omega (arith, whole (c .before .before .before .before))) (λ c. omega arith) (λ c. omega arith)
     (λ c.
     let at = c .before .before in
     let start = at .before .before in

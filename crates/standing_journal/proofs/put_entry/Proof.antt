@@ -6,9 +6,6 @@ use Rattle.standing_journal.proofs.Words.{put-entry, entry-back}
 use Rattle.standing_journal.proofs.put_entry.Statement.{statement}
 use Rattle.standing_journal.proofs.put_entry.Tie as tie
 
-slice-write-out-2 : tie.Need-slice-write-out-2
-slice-write-out-2 c = simp length-set (omega arith)
-
 same-length : tie.Need-same-length
 same-length c =
     let put = c .before .before in
@@ -28,7 +25,5 @@ put-entry-spec =
     tie.close
     (tie.spec
     (λ c. search needs) (λ c. search needs) (λ c. search needs) (λ c. search needs) (λ c. search needs)
-    slice-write-out-2
-    (λ c. search needs) (λ c κs. search needs)
-    same-length
-    returns)
+    (λ c. simp length-set (omega arith))  -- out[at + 1] = ..
+    (λ c. search needs) (λ c κs. search needs) same-length returns)

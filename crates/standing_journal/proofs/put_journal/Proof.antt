@@ -33,8 +33,7 @@ pub put-journal-spec : {M : Type 1} → statement M
 put-journal-spec =
     tie.close
     (tie.spec
-    Inv-loop
-    μ-loop
+    Inv-loop μ-loop
     -- no room
     (λ c.
     let a = c .before .before .args in
@@ -43,15 +42,13 @@ put-journal-spec =
     record { words = sym (put-none 0 (written entryWords (a .t1)) (now (a .out)) (omega arith)); back = λ h. absurd (omega arith) })
     (λ c. (omega arith, laid-none entryWords entryOf _ _))
     -- let e = journal[i]
-    (λ c. omega arith)
-    (λ c. omega arith)
+    (λ c. omega arith) (λ c. omega arith)
     -- put_entry(e, out, 9 * i)
     (λ c. omega arith)
     (λ c κs.
     let at = c .before .before .before in
     omega (arith, all (at .before), laid-length 9 entryWords entryOf entry-long (journal (at .before)) (out (at .before)) (omega (arith, all (at .before))) (at .loop .out) (at .loop .i) (omega (arith, all (at .before))) (at .loop .inv .1)))
-    (λ c. omega arith)
-    (λ c. omega arith)
+    (λ c. omega arith) (λ c. omega arith)
     (λ c.
     let put = c .before .before in
     let at = put .before .before .before .before in
