@@ -1,5 +1,5 @@
 -- An answer put into a list from its end to its front, field by field. Assumes nothing.
-use Rattle.basis.proofs.Prelude.{_∙_, _≡_, ap, refl, sym, _*_, _+_, _-_, _≤_, ℕ, List, [], _++_, _∷_, append-nil, drop, drop-of-length-le, length, length-append, length-drop, length-take, take, take-append-drop, drop-at, take-at, length-take-le, take-all, min-le-left, arith, le-leb}
+use Rattle.basis.proofs.Prelude.{_∙_, _≡_, refl, sym, _*_, _+_, _-_, _≤_, ℕ, List, [], _++_, _∷_, append-nil, drop, drop-of-length-le, length, length-append, length-drop, length-take, take, take-append-drop, drop-at, take-at, length-take-le, take-all, min-le-left, arith, le-leb}
 use borrow.Rule.Slice.PartMut.{putMid, midOf, post-is}
 use Rattle.fields.specs.Fields.{byteText, numberText, numbersText}
 use Rattle.fields.specs.Answers.{Puts}
@@ -50,10 +50,6 @@ module _ (out text : List ℕ) (at : ℕ) (h : length text ≤ at) (k : at ≤ l
       let whole : putMid (at - length text) (at - (at - length text)) out part ≡ take (length out - length (text ++ drop at out)) out ++ (text ++ drop at out)
       = rw (copied-part part e, post-is (at - length text) at out (omega arith), ← same) in
       record { place = rw (le-leb (length text) at h, le-leb at (length out) k) same; places = rw (le-leb (length text) at h, le-leb at (length out) k) whole }
-
-  pub put-copied-length : (part : List ℕ) → part ≡ take (length text) text ++ drop (length text) (midOf (at - length text) (at - (at - length text)) out)
-      → length part ≡ length text
-  put-copied-length part e = ap length (copied-part part e)
 
 -- ---- one field more before what is put
 module _ {a b : List ℕ} {i : ℕ} {t : List ℕ} (p : Put a b i t) where

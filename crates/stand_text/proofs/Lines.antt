@@ -1,5 +1,5 @@
 -- A day's line put into a buffer, from its last number to the day. Assumes nothing.
-use Rattle.basis.proofs.Prelude.{_∙_, _≡_, ap, refl, sym, _*_, _<_, _≤_, ℕ, List, [], _∷_, length, take, arith}
+use Rattle.basis.proofs.Prelude.{_∙_, _≡_, ap, refl, sym, _*_, _<_, ℕ, List, [], _∷_, length, take, arith}
 use Rattle.fields.specs.Fields.{numberText, numbersText}
 use Rattle.fields.specs.Answers.{Puts}
 use Rattle.model.specs.Questions.{onDay, listed, comparisonsOf}

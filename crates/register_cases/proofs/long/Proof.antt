@@ -7,5 +7,5 @@ pub long-spec : {M : Type 1} → statement M
 long-spec =
     tie.close
     (tie.spec
-    (λ c. sym (length-take-le 65536 (c .before .before .before .args .text .now) (omega arith)))
-    (λ c κs. search needs) (λ c κs. search needs) (λ c. search needs))
+    (λ c. sym (length-take-le 65536 (c .before .before .before .args .text .now) (omega arith))) (λ c κs. search needs) (λ c κs. search needs)
+    (λ c. search needs))

@@ -13,8 +13,6 @@ pub vectors-spec : {M : Type 1} → statement M
 vectors-spec =
     tie.close
     (tie.spec
-    Inv-loop
-    μ-loop
-    (λ c. (omega arith, omega arith)) (λ c. omega arith) (λ c. search needs) (λ c κs. tt) (λ c. omega arith) (λ c. search needs)
-    (λ c. search needs) (λ c κs. tt) (λ c. omega arith) (λ c. omega arith) (λ c. (omega arith, omega arith)) (λ c. omega arith)
-    (λ c. omega arith) (λ c. (omega arith, omega arith)) (λ c. search needs))
+    Inv-loop μ-loop (λ c. (omega arith, omega arith)) (λ c. omega arith) (λ c. search needs) (λ c κs. tt) (λ c. omega arith) (λ c. search needs)
+    (λ c. search needs) (λ c κs. tt) (λ c. omega arith) (λ c. omega arith) (λ c. (omega arith, omega arith)) (λ c. omega arith) (λ c. omega arith)
+    (λ c. (omega arith, omega arith)) (λ c. search needs))

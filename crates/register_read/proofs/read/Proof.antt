@@ -44,11 +44,7 @@ pub read-spec : {M : Type 1} → statement M
 read-spec =
     tie.close
     (tie.spec
-    Inv-loop
-    μ-loop
-    (λ c κs. tt)
-    (λ c. answers (c .refuse .ensures) (text-long _ (c .before .if1 .taken)))
-    (λ c κs. tt)
+    Inv-loop μ-loop (λ c κs. tt) (λ c. answers (c .refuse .ensures) (text-long _ (c .before .if1 .taken))) (λ c κs. tt)
     -- the loop begins
     (λ c. begin _ _ _ (c .before .if1 .left) (c .blank .ensures) (length-replicate 65536 false) (λ k l. getD-replicate 65536 k false false l))
     (λ c. omega (arith, c .before .loop .inv .few)) (λ c. omega (arith, c .before .loop .inv .few))  -- (count + 1) as u16

@@ -23,8 +23,7 @@ pub read-letter-spec : {M : Type 1} → statement M
 read-letter-spec =
     tie.close
     (tie.spec
-    (λ c. let a = c .before .before .args in sym (letter-past (a .text .now) (a .at) (omega arith)))
-    (λ c. search needs) (λ c κs. search needs)
+    (λ c. let a = c .before .before .args in sym (letter-past (a .text .now) (a .at) (omega arith))) (λ c. search needs) (λ c κs. search needs)
     (λ c.
     let a = c .before .before .before .before .before .args in
     sym (letter-other (a .text .now) (a .at) (omega arith) (sym (c .before .is-letter .ensures) ∙ not-true _ (c .if2 .taken))))

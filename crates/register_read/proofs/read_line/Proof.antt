@@ -47,8 +47,8 @@ read-line-spec =
     tie.close
     (tie.spec
     (λ c κs. search needs) (λ c. search needs) (λ c. search needs)
-    (λ c. reads-as unreadable (rw (said (c .before .before .read-number .ensures) (c .enum-told .given .1))) refl refl)
-    (λ c κs. search needs) (λ c. search needs) (λ c. search needs)
+    (λ c. reads-as unreadable (rw (said (c .before .before .read-number .ensures) (c .enum-told .given .1))) refl refl) (λ c κs. search needs)
+    (λ c. search needs) (λ c. search needs)
     (λ c. reads-as unreadable (rw (read1 (c .before .before .before), said (c .before .before .read-number2 .ensures) (c .enum-told2 .given .1))) refl refl)
     (λ c κs. search needs) (λ c. search needs) (λ c. search needs)
     (λ c.

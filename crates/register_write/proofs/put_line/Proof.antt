@@ -11,8 +11,8 @@ unfolding lineText
 put-line-spec =
     tie.close
     (tie.spec
-    (λ c κs. let room = c .before .pre in record { sized = room .sized; inside = room .inside; wide = omega (arith, room .wide) })
-    (λ c κs. tt) (λ c κs. tt) (λ c κs. tt) (λ c κs. tt)
+    (λ c κs. let room = c .before .pre in record { sized = room .sized; inside = room .inside; wide = omega (arith, room .wide) }) (λ c κs. tt)
+    (λ c κs. tt) (λ c κs. tt) (λ c κs. tt)
     (λ c.
     let c3 = c .before .before in
     let c2 = c3 .before .before in

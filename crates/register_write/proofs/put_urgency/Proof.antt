@@ -9,8 +9,7 @@ pub put-urgency-spec : {M : Type 1} → statement M
 put-urgency-spec =
     tie.close
     (tie.spec
-    (λ c. search needs) (λ c κs. tt) (λ c κs. tt) (λ c κs. tt)
-    (λ c. search needs) (λ c κs. tt) (λ c κs. tt) (λ c κs. tt) (λ c κs. tt)
+    (λ c. search needs) (λ c κs. tt) (λ c κs. tt) (λ c κs. tt) (λ c. search needs) (λ c κs. tt) (λ c κs. tt) (λ c κs. tt) (λ c κs. tt)
     -- a grade
     (λ c.
     let n = c .before .before .before .before in

@@ -32,14 +32,11 @@ pub write-spec : {M : Type 1} → statement M
 write-spec =
     tie.close
     (tie.spec
-    Inv-loop
-    μ-loop
-    (λ c κs. tt)
+    Inv-loop μ-loop (λ c κs. tt)
     (λ c. let s = c .before .before in back-start (s .args .t1) (s .args .count) (whole s) (c .at-most .ensures) (length-replicate {A = ℕ} 35840 0))
     (λ c. omega arith)
     (λ c. omega (arith, c .before .loop .inv .few, c .before .loop .inv .upto)) (λ c. omega (arith, c .before .loop .inv .few, c .before .loop .inv .upto))  -- spells[i]
-    (λ c κs. back-room (c .before .before .before .loop .inv) (omega arith))
-    (λ c. omega arith)
+    (λ c κs. back-room (c .before .before .before .loop .inv) (omega arith)) (λ c. omega arith)
     -- the loop goes on
     (λ c.
     let l = c .before .before .before .before in
@@ -49,8 +46,7 @@ write-spec =
     (λ c. c .before .loop .inv .put .inside)  -- 35840 - at
     (λ c. too-short (c .before .before .before .before .before .args .out .now) (all (c .before)) (c .if1 .taken))
     (λ c. c .before .before .loop .inv .put .inside)  -- &buf[at..]
-    (λ c. c .before .before .before .loop .inv .put .inside)
-    (λ c. omega (arith, c .before .before .before .loop .inv .put .sized))
+    (λ c. c .before .before .before .loop .inv .put .inside) (λ c. omega (arith, c .before .before .before .loop .inv .put .sized))
     (λ c κs.
     let f = c .before .before .before in
     let l = f .before .before .loop in

@@ -60,13 +60,10 @@ pub calls-spec : {M : Type 1} → statement M
 calls-spec =
     tie.close
     (tie.spec
-    Inv-loop
-    μ-loop
-    (λ c κs. search needs)
-    (λ c. starts _ _ _ _ _ _ _ _ (c .before .before .before .before .before .before .pre))
+    Inv-loop μ-loop (λ c κs. search needs) (λ c. starts _ _ _ _ _ _ _ _ (c .before .before .before .before .before .before .pre))
     (λ c κs. whole c .0)  -- code_at(codes, made)
-    (λ c. search needs) (λ c. search needs) (λ c. search needs) (λ c κs. search needs) (λ c. search needs)
-    (λ c. search needs) (λ c. search needs) (λ c. search needs) (λ c. search needs)
+    (λ c. search needs) (λ c. search needs) (λ c. search needs) (λ c κs. search needs) (λ c. search needs) (λ c. search needs) (λ c. search needs)
+    (λ c. search needs) (λ c. search needs)
     -- return made
     (λ c.
     let p = c .before .before in
@@ -76,12 +73,14 @@ calls-spec =
     (λ c. omega (arith, parts (c .before .before))) (λ c. omega (arith, parts (c .before .before))) (λ c. omega (arith, parts (c .before .before)))
     (λ c. omega (arith, parts (c .before .before))) (λ c. omega (arith, parts (c .before .before)))
     -- &mut numbers[n..n + c.numbers]
-    (λ c. omega (arith, parts (c .before .before .before .before))) (λ c. omega (arith, parts (c .before .before .before .before))) (λ c. omega (arith, parts (c .before .before .before .before)))
     (λ c. omega (arith, parts (c .before .before .before .before))) (λ c. omega (arith, parts (c .before .before .before .before)))
+    (λ c. omega (arith, parts (c .before .before .before .before))) (λ c. omega (arith, parts (c .before .before .before .before)))
+    (λ c. omega (arith, parts (c .before .before .before .before)))
     -- &mut text[t..t + c.text]
-    (λ c. omega (arith, parts (c .before .before .before .before .before .before))) (λ c. omega (arith, parts (c .before .before .before .before .before .before)))
-    (λ c. omega (arith, parts (c .before .before .before .before .before .before))) (λ c. omega (arith, parts (c .before .before .before .before .before .before)))
-    (λ c κs. search needs)
+    (λ c. omega (arith, parts (c .before .before .before .before .before .before)))
+    (λ c. omega (arith, parts (c .before .before .before .before .before .before)))
+    (λ c. omega (arith, parts (c .before .before .before .before .before .before)))
+    (λ c. omega (arith, parts (c .before .before .before .before .before .before))) (λ c κs. search needs)
     -- tell(results, made, r.outcome)
     (λ c κs.
     let w = c .before .before .before .before .before .before .before .before .before .before .before .before .before .before .before .before .before .before in
@@ -94,6 +93,5 @@ calls-spec =
     (λ c. omega (arith, parts (c .before .before .before .before .before .before .before .before .before .before .before .before .before .before .before .before .before .before .before)))
     (λ c. omega (arith, parts (c .before .before .before .before .before .before .before .before .before .before .before .before .before .before .before .before .before .before .before .before)))
     (λ c. omega (arith, c .before .before .before .before .before .before .before .before .before .before .before .before .before .before .before .before .before .before .before .before .before .before .before .before .before .loop-test .taken))
-    loop-again
-    (λ c. search needs) (λ c. search needs) (λ c. search needs)
+    loop-again (λ c. search needs) (λ c. search needs) (λ c. search needs)
     (λ c. rw (← c .before .before .whole-of .ensures) (ended-all _ _ _ _ _ _ _ _ _ _ _ _ _ _ _ _ _ (c .before .loop .inv) (c .loop-test .left))))

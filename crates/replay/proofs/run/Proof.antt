@@ -5,15 +5,9 @@ use Rattle.replay.proofs.Runs.{replayed-fresh, replayed-read}
 use Rattle.replay.proofs.run.Statement.{statement}
 use Rattle.replay.proofs.run.Tie as tie
 
-calls-requires : tie.Need-calls-requires
-calls-requires c κs = represented (c .before .before .before .before .fresh .ensures .0)
-
 returns : tie.Need-returns
 returns c =
     replayed-fresh _ _ _ _ _ _ _ _ _ _ _ (c .before .before .before .before .before .before .before .before .before .before .before .before .before .if1 .taken) (c .before .before .before .before .before .before .calls .ensures _ (c .before .before .before .before .before .before .before .before .before .before .before .fresh .ensures .0))
-
-calls-requires-2 : tie.Need-calls-requires-2
-calls-requires-2 c κs = represented (c .before .before .before .before .before .read .ensures .represents)
 
 returns-2 : tie.Need-returns-2
 returns-2 c =
@@ -25,10 +19,7 @@ run-spec =
     tie.close
     (tie.spec
     (λ c κs. search needs)
-    calls-requires
-    (λ c. search needs) (λ c. search needs) (λ c. search needs)
-    returns
-    (λ c κs. search needs)
-    calls-requires-2
-    (λ c. search needs) (λ c. search needs) (λ c. search needs)
-    returns-2)
+    (λ c κs. represented (c .before .before .before .before .fresh .ensures .0))  -- calls(..)
+    (λ c. search needs) (λ c. search needs) (λ c. search needs) returns (λ c κs. search needs)
+    (λ c κs. represented (c .before .before .before .before .before .read .ensures .represents))  -- the second calls(..)
+    (λ c. search needs) (λ c. search needs) (λ c. search needs) returns-2)

@@ -11,9 +11,7 @@ tell-spec =
     (tie.spec
     (λ c. search needs) (λ c. search needs) (λ c. search needs)
     -- results[at + 1] to results[at + 4]
-    (λ c. search needs) (λ c. search needs) (λ c. search needs) (λ c. simp length-set (omega arith))
-    (λ c. search needs) (λ c. search needs) (λ c. simp length-set (omega arith))
-    (λ c. search needs) (λ c. search needs) (λ c. simp length-set (omega arith))
-    (λ c. search needs) (λ c. search needs) (λ c. simp length-set (omega arith))
-    (λ c. search needs)
+    (λ c. search needs) (λ c. search needs) (λ c. search needs) (λ c. simp length-set (omega arith)) (λ c. search needs) (λ c. search needs)
+    (λ c. simp length-set (omega arith)) (λ c. search needs) (λ c. search needs) (λ c. simp length-set (omega arith)) (λ c. search needs)
+    (λ c. search needs) (λ c. simp length-set (omega arith)) (λ c. search needs)
     (λ c. let a = c .before .args in rw (add-one, add-two, add-three, add-four) (sets-eq (told (answerOf (a .o) [] [])) (a .results .now) (resultWidth * a .k) (omega arith))))

@@ -13,8 +13,7 @@ put-reply-spec =
     -- refused
     (λ c κs. search needs)
     (λ c. let a = c .before .before .before .before .before .before .args in sends-refused (a .call) (a .o) (a .numbers .now) (a .text .now) (c .before .before .if1 .taken) (c .put-refused .ensures))
-    (λ c κs. search needs)
-    (λ c. search needs) (λ c κs. search needs)
+    (λ c κs. search needs) (λ c. search needs) (λ c κs. search needs)
     -- a text
     (λ c. search needs) (λ c. search needs)
     (λ c. let start = c .before .before .before .before .before .before .before .before .before in sym (length-take-le (start .args .o .length) (start .args .text .now) (start .pre .written)))

@@ -22,20 +22,11 @@ loop-again c =
     let part = c .before .before .before in
     printing-one (part .before .before .before .loop .inv) (part .days-part .ensures)
 
-returns : tie.Need-returns Inv-loop μ-loop
-returns c = printing-some (c .before .before .before .before .before .before .loop .inv)
-
-returns-2 : tie.Need-returns-2 Inv-loop μ-loop
-returns-2 c = printing-all (c .before .loop .inv) (omega (arith, c .loop-test .left))
-
 pub print-days-spec : {M : Type 1} → statement M
 print-days-spec =
     tie.close
     (tie.spec
-    Inv-loop
-    μ-loop
-    (λ c. printing-none _) (λ c κs. search needs) (λ c κs. search needs)
-    returns
-    loop-less
-    loop-again
-    returns-2)
+    Inv-loop μ-loop (λ c. printing-none _) (λ c κs. search needs) (λ c κs. search needs)
+    (λ c. printing-some (c .before .before .before .before .before .before .loop .inv))  -- return
+    loop-less loop-again
+    (λ c. printing-all (c .before .loop .inv) (omega (arith, c .loop-test .left))))  -- the second return

@@ -20,9 +20,6 @@ known a =
     let t = tells a (pre .list) (pre .shows) in
     (t .few, t .comparisons-few)
 
-array-share-prefix-numbers : tie.Need-array-share-prefix-numbers
-array-share-prefix-numbers c = omega (arith, known (c .before .before) .0)
-
 -- there are as many numbers as were counted
 full : (c : tie.After-numbers3) →
     let a = c .before .before .before in
@@ -32,21 +29,12 @@ full c = length-take-le _ _ (omega (arith, known (c .before .before .before) .0)
 sized : (c : tie.After-put-numbers-arg) → length (c .before .before .before .before .args .buf .now) ≡ 8192
 sized c = search needs
 
-slice-aggregate-put-numbers : tie.Need-slice-aggregate-put-numbers
-slice-aggregate-put-numbers c = sym (full c)
-
 returns : tie.Need-returns
 returns c =
     let n = c .before .before in
     let a = n .before .before .before in
     day-ends (sized (n .before)) (a .before .before .pre) (λ p shows.
     day-none (tells a p shows) (sized (n .before)) (full n) (c .before .put-numbers .ensures) (c .if1 .taken))
-
-cast-put-number : tie.Need-cast-put-number
-cast-put-number c = omega (arith, known (c .before .before .before .before .before .before))
-
-cast-put-number-2 : tie.Need-cast-put-number-2
-cast-put-number-2 c = omega (arith, known (c .before .before .before .before .before .before .before .before))
 
 returns-2 : tie.Need-returns-2
 returns-2 c =
@@ -65,12 +53,10 @@ day-line-spec =
     tie.close
     (tie.spec
     (λ c. search needs) (λ c κs. search needs)
-    array-share-prefix-numbers
-    slice-aggregate-put-numbers
+    (λ c. omega (arith, known (c .before .before) .0))  -- &numbers[..k]
+    (λ c. sym (full c))  -- put_numbers(buf, LINE, ..)
+    (λ c κs. search needs) returns
+    (λ c. omega (arith, known (c .before .before .before .before .before .before)))  -- comparisons as u16
     (λ c κs. search needs)
-    returns
-    cast-put-number
-    (λ c κs. search needs)
-    cast-put-number-2
-    (λ c κs. search needs) (λ c κs. search needs)
-    returns-2)
+    (λ c. omega (arith, known (c .before .before .before .before .before .before .before .before)))  -- k as u16
+    (λ c κs. search needs) (λ c κs. search needs) returns-2)

@@ -4,10 +4,6 @@ use Rattle.basis.proofs.Prelude.{_≡_, sym, _-_, _≤_, inl, inr, length, arit
 use Rattle.stand_text.proofs.Parts.{Filled, filled-none, line-sized, filled-one, filled-all}
 use Rattle.stand_text.proofs.days_part.Statement.{statement}
 use Rattle.stand_text.proofs.days_part.Tie as tie
-use Rattle.stand_text.proofs.days_part.Reads as reads
-use Rattle.stand_text.proofs.days_part.Lts as lts
-use Rattle.stand_text.proofs.append.Reads as append-reads
-use Rattle.stand_text.proofs.day_line.Reads as day-line-reads
 
 abbrev Inv-loop : tie.InvT-loop
 Inv-loop index from out₀ buf₀ bytes₀ d₀ out buf bytes d = (length buf ≡ 8192) × Filled index from out₀ bytes d out
@@ -55,12 +51,5 @@ pub days-part-spec : {M : Type 1} → statement M
 days-part-spec =
     tie.close
     (tie.spec
-    Inv-loop
-    μ-loop
-    (λ c. (search needs, filled-none _ _ _)) (λ c κs. search needs)
-    (λ c. sym (kept (c .before)))
-    append-requires
-    (λ c. search needs) (λ c. search needs)
-    loop-again
-    returns
-    returns-2)
+    Inv-loop μ-loop (λ c. (search needs, filled-none _ _ _)) (λ c κs. search needs) (λ c. sym (kept (c .before))) append-requires (λ c. search needs)
+    (λ c. search needs) loop-again returns returns-2)
