@@ -1,10 +1,6 @@
 -- Positions and rows: the positions that pass a test lead to the rows that pass the same test. Assumes nothing.
 use Rattle.basis.proofs.Prelude.{_∙_, _≡_, ap, refl, sym, _*_, _<_, _≤_, suc, zero, ℕ, List, [], _++_, _∷_, append-assoc, map, Bool, cond, getD, length, length-map, arith, by-test}
-use Rattle.spell.specs.declared.Spell.{Spell}
-use Rattle.stabbing.specs.Tree.{keep, fitsAt, start}
-use Rattle.stabbing.proofs.Marks.{keep-hit, keep-miss}
-use Rattle.stabbing.proofs.Walk.{formula-le}
-use Rattle.model.specs.Questions.{reaches, filter, listed, firstsOf, lastsOf, comparisonsOf}
+use Rattle.model.proofs.Names.{Spell, keep, fitsAt, start, keep-hit, keep-miss, formula-le, reaches, filter, listed, firstsOf, lastsOf, comparisonsOf}
 
 -- ---- Lists
 

@@ -1,25 +1,9 @@
 -- Document 01's register A, M1 and M2 run through the account: what each call answers, computed. Assumes nothing.
 use Rattle.basis.proofs.Prelude.{_≡_, refl, suc, zero, ℕ, List, [], _++_, _∷_, map, false, true, replicate, take}
-use lib.Ieee.{binary32, isNan, toBits, ofBits}
-use Rattle.spell.specs.declared.Urgency.{Urgency}
-use Rattle.spell.specs.declared.Urgency.the-variants.{Grade, Reading}
-use Rattle.spell.specs.declared.Spell.{Spell}
-use Rattle.spell.specs.Order.{listedBefore, earlierOf}
-use Rattle.spell.specs.Listing.{stands}
-use Rattle.spell.specs.Same.{sameReading, sameOf}
-use Rattle.stabbing.specs.Tree.{below, keep, count, head, next, parent, child, leftSibling, lastChild, fitsAt, start, onPath, formula}
-use Rattle.model.specs.declared.Call.{Call}
-use Rattle.model.specs.declared.Call.the-variants.{Enter, Amend, Strike, TakeBack, Publish, Ask}
-use Rattle.model.specs.declared.Question.the-variants.{Day, Span, Cover, Days, Mask}
-use Rattle.orders.specs.Orders.{sortedBy}
-use Rattle.rules.specs.Rules.{lastOf}
-use Rattle.model.specs.Edits.{insertBy, remove, idle, enterRefusal, amendRefusal, strikeRefusal, remember}
-use Rattle.model.specs.Publishing.{publishedOf}
-use Rattle.calendar.specs.Calendar.{daysOk}
-use Rattle.masks.specs.Masks.{isSet, ticksFrom}
-use Rattle.model.specs.Questions.{onAny, rising, filter, comparisonsOf}
-use Rattle.model.specs.Effects.{settle}
-use Rattle.model.specs.Model.{fresh, Request, Answer, takeBack, cover, ask, effectOf, run}
+use Rattle.model.proofs.Names.{binary32, isNan, toBits, ofBits, Urgency, Grade, Reading, Spell, listedBefore, earlierOf, stands, sameReading, sameOf, below, keep, count, head, parent, child, leftSibling, lastChild, fitsAt, start, onPath, formula, Call, Enter, Amend, Strike, TakeBack, Publish, Ask, Day, Span, Cover, Days, Mask, sortedBy, lastOf, remove, idle, enterRefusal, amendRefusal, strikeRefusal, remember, publishedOf, daysOk, isSet, ticksFrom, onAny, rising, filter, comparisonsOf, settle, fresh, takeBack, cover, ask, effectOf, run}
+use Rattle.stabbing.specs.Tree.{next}
+use Rattle.model.specs.Edits.{insertBy}
+use Rattle.model.specs.Model.{Request, Answer}
 
 -- ---- A call, and the part of its answer that a case names
 

@@ -1,11 +1,6 @@
 -- When the checks of an edit accept it. Assumes nothing.
 use Rattle.basis.proofs.Prelude.{_∙_, _≡_, refl, sym, _<_, ℕ, List, Bool, cond, false, true, _↔_, eqb, leb, length, arith, eq-eqb, eqb-false, eqb-true, leb-false, lt-leb, ne-eqb}
-use Rattle.refusal.specs.Table.{accepted, duplicateNumber, unknownNumber, full}
-use Rattle.spell.specs.declared.Spell.{Spell}
-use Rattle.spell.specs.Entry.{refusalOf}
-use Rattle.spell.specs.Listing.{stands}
-use Rattle.spell.proofs.Entered.{past}
-use Rattle.model.specs.Edits.{orElse, enterRefusal, amendRefusal, strikeRefusal}
+use Rattle.model.proofs.Names.{accepted, duplicateNumber, unknownNumber, full, Spell, refusalOf, stands, past, orElse, enterRefusal, amendRefusal, strikeRefusal}
 
 -- ---- Two checks, one after the other
 

@@ -1,18 +1,7 @@
 -- What is claimed of every call of the account, each claim a citation. Assumes nothing.
 use Rattle.basis.proofs.Prelude.{_≡_, refl, _*_, _≤_, ℕ, List, List·Memᴰ, _++_, Bool, true, _↔_, _⊎_, inl, inr, drop, length, arith}
-use Rattle.refusal.specs.Table.{accepted}
-use Rattle.spell.specs.declared.Spell.{Spell}
-use Rattle.spell.specs.Order.{listedBefore, orderedBy}
-use Rattle.spell.proofs.Order.{answer-order}
-use Rattle.spell.specs.Listing.{distinct}
-use Rattle.masks.specs.Masks.{ticks}
-use Rattle.masks.proofs.Claims.{in-sheet}
-use Rattle.model.specs.declared.Call.the-variants.{Publish, Ask}
-use Rattle.model.specs.declared.Question.the-variants.{Day, Span, Cover, Days, Mask}
-use Rattle.model.specs.Questions.{onDay, onSpan, covers, onAny, filter, listed, comparisonsOf}
-use Rattle.model.specs.Effects.{State, Request, Answer, After, Effect, refused, done, gives, writes, refuse, gave, settle}
-use Rattle.model.specs.Model.{several, ask, effectOf, stepOf, step}
-use Rattle.model.specs.Journal.{reads}
+use Rattle.model.proofs.Names.{accepted, Spell, listedBefore, orderedBy, answer-order, distinct, ticks, in-sheet, Publish, Ask, Day, Span, Cover, Days, Mask, onDay, onSpan, covers, onAny, filter, listed, comparisonsOf, After, Effect, refused, done, gives, writes, refuse, gave, settle, several, ask, effectOf, stepOf, step, reads}
+use Rattle.model.specs.Effects.{State, Request, Answer}
 use Rattle.model.proofs.Effects.{Comes, settles, Refusing, call-does, reads-every, every, day-does, span-does, cover-does, several-does}
 use Rattle.model.proofs.Filter.{filter-in, in-filter, filter-ordered, filter-distinct}
 use Rattle.model.proofs.Bridge.{comparisons-le}

@@ -1,21 +1,7 @@
 -- What the edits do, each claim one of every state. Assumes nothing.
 use Rattle.basis.proofs.Prelude.{_∙_, _≡_, ap, refl, sym, _≤_, ℕ, List, List·Memᴰ, _++_, _∷_, false, true, _↔_, _⊎_, inl, inr, drop, length, take, le-leb, by-cases}
-use Rattle.refusal.specs.Table.{accepted, duplicateNumber, unknownNumber, full}
-use Rattle.rules.specs.Rules.{isRule}
-use Rattle.spell.specs.declared.Spell.{Spell}
-use Rattle.spell.specs.Entry.{refusalOf}
-use Rattle.spell.specs.Order.{earlierOf}
-use Rattle.spell.specs.Listing.{stands, distinct}
-use Rattle.register.specs.Text.{writeAll}
-use Rattle.model.specs.declared.Call.the-variants.{Enter, Amend, Strike, TakeBack, Publish, Write, Ask}
-use Rattle.model.specs.declared.Question.the-variants.{Day}
-use Rattle.model.specs.Edits.{insert, remove, replace, idle, enterRefusal, amendRefusal, strikeRefusal, remember}
-use Rattle.model.specs.Questions.{onDay, listed}
-use Rattle.model.specs.Publishing.{publishedOf}
-use Rattle.model.specs.Effects.{State, withStanding, withPublished, Request, After, Effect, refuse, settle}
-use Rattle.buffer.specs.Buffer.{over}
-use Rattle.model.specs.Model.{edit, effectOf, stepOf}
-use Rattle.model.specs.Reached.{Passes}
+use Rattle.model.proofs.Names.{accepted, duplicateNumber, unknownNumber, full, isRule, Spell, refusalOf, earlierOf, stands, distinct, writeAll, Enter, Amend, Strike, TakeBack, Publish, Write, Ask, Day, insert, remove, replace, idle, enterRefusal, amendRefusal, strikeRefusal, remember, onDay, listed, publishedOf, withStanding, withPublished, After, Effect, refuse, settle, over, edit, effectOf, stepOf, Passes}
+use Rattle.model.specs.Effects.{State, Request}
 use Rattle.model.proofs.Checks.{stops, passes, Enters, enter-accepted, Amends, amend-accepted, strike-accepted}
 use Rattle.model.proofs.Edits.{in-insert, in-remove}
 use Rattle.model.proofs.Idle.{idle-stands}

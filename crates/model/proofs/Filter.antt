@@ -1,10 +1,6 @@
 -- The spells of a list that pass a test: exactly those, in the order, each number once. Assumes nothing.
 use Rattle.basis.proofs.Prelude.{_∙_, _≡_, ap, refl, sym, _≤_, suc, ℕ, List, List·Memᴰ, List·Memᴰ·cases-cons, List·Memᴰ·head, List·Memᴰ·not-nil, List·Memᴰ·tail, [], _∷_, Bool, _||_, cond, false, false≢true, not, true, _⊎_, inl, inr, eqb, length, length-map, arith, not-true, both}
-use Rattle.spell.specs.declared.Spell.{Spell}
-use Rattle.spell.specs.Order.{orderedBy}
-use Rattle.spell.specs.Listing.{stands, distinct, Each}
-use Rattle.spell.proofs.Order.{StrictOrder, ordered-tail, ordered-first, ordered-cons}
-use Rattle.model.specs.Questions.{filter, listed}
+use Rattle.model.proofs.Names.{Spell, orderedBy, stands, distinct, Each, StrictOrder, ordered-tail, ordered-first, ordered-cons, filter, listed}
 
 module _ (t : Spell → Bool) where
   -- ---- In the filtered list are the spells of the list that pass

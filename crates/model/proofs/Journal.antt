@@ -1,9 +1,8 @@
 -- Why a journal of the accepted changes and of the readings suffices. Assumes nothing.
 use Rattle.basis.proofs.Prelude.{_∙_, _≡_, ap, refl, sym, List, [], _∷_, Bool, _&&_, cond, false, false≢true, not, true, eqb, eqb-false}
-use Rattle.refusal.specs.Table.{accepted}
-use Rattle.model.specs.Effects.{After}
-use Rattle.model.specs.Model.{State, step}
-use Rattle.model.specs.Journal.{reads, Event, call, reading, Told, next, told, left, allTold, kept, journal, journalTold}
+use Rattle.model.proofs.Names.{accepted, After, step, reads, Event, call, Told, told, left, allTold, kept, journal, journalTold}
+use Rattle.model.specs.Model.{State}
+use Rattle.model.specs.Journal.{reading, next}
 use Rattle.model.proofs.Claims.{refused-keeps, reads-keep}
 
 -- WHAT IS LEFT OUT changes nothing: a question, a writing, a refused call

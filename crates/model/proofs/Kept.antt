@@ -1,21 +1,10 @@
 -- The lists of the account stay in the order, their numbers unique, through every call. Assumes nothing.
 use Rattle.basis.proofs.Prelude.{by-cases, _≡_, refl, _≤_, suc, zero, ℕ, List, List·Memᴰ, List·Memᴰ·cases-cons, List·Memᴰ·head, List·Memᴰ·not-nil, List·Memᴰ·tail, [], _∷_, inl, inr, length, length-take, take, arith}
-use Rattle.refusal.specs.Table.{accepted}
-use Rattle.spell.specs.declared.Spell.{Spell}
-use Rattle.spell.specs.Listing.{Sound, Good, Orderly}
-use Rattle.spell.proofs.Order.{text-order, answer-order, each-map}
-use Rattle.register.specs.Text.{Register, readText}
-use Rattle.register.specs.Text.Register.{good, bad}
-use Rattle.register.proofs.Claims.{text-again}
-use Rattle.model.specs.declared.Call.{Call}
-use Rattle.model.specs.declared.Call.the-variants.{Enter, Amend, Strike, TakeBack, Publish, Write, Ask}
-use Rattle.model.specs.Edits.{insert, remove, replace, enterRefusal, amendRefusal, strikeRefusal, remember}
-use Rattle.model.specs.Effects.{State, Request, After, Effect}
-use Rattle.model.specs.Model.{begun, edit, takeBack, effectOf, step}
-use Rattle.model.specs.Reached.{Begun, afresh, reading, after, Kept, Brings}
+use Rattle.model.proofs.Names.{accepted, Spell, Sound, Good, Orderly, text-order, answer-order, each-map, Register, readText, good, bad, text-again, Call, Enter, Amend, Strike, TakeBack, Publish, Write, Ask, insert, remove, replace, enterRefusal, amendRefusal, strikeRefusal, remember, After, Effect, begun, edit, takeBack, effectOf, step, Begun, afresh, after, Kept, Brings, isRule}
+use Rattle.model.specs.Effects.{State, Request}
+use Rattle.model.specs.Reached.{reading}
 use Rattle.model.proofs.Edits.{orderly-none, orderly-insert, orderly-remove, orderly-replace}
 use Rattle.model.proofs.Publishing.{Cuts, published-orderly}
-use Rattle.rules.specs.Rules.{isRule}
 use Rattle.model.proofs.Checks.{enters, amends, strike-accepted}
 use Rattle.model.proofs.Effects.{Comes, settles, become-does, amend-does, asks-does}
 use Rattle.model.proofs.Rules.{reading-begins}

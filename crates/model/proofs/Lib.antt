@@ -13,3 +13,4 @@ pub mod Kept
 pub mod Journal
 pub mod Runs
 pub mod Cases
+mod Names

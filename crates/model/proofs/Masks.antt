@@ -1,16 +1,8 @@
 -- The review calendar as a mask (document 02, W2): the question of a mask is the days question for its ticked days, and what refuses it.
 -- Assumes nothing.
 use Rattle.basis.proofs.Prelude.{_≡_, refl, ℕ, suc, _<_, List, [], _∷_, cond, true, false, eqb, leb, length, getD, arith, lt-ltb, by-test}
-use Rattle.refusal.specs.Table.{accepted, offCalendar}
-use Rattle.spell.specs.declared.Spell.{Spell}
-use Rattle.calendar.specs.Calendar.{daysOk}
-use Rattle.masks.specs.Masks.{ticks}
-use Rattle.masks.proofs.Claims.{rises, empty}
-use Rattle.model.specs.declared.Call.the-variants.{Ask}
-use Rattle.model.specs.declared.Question.the-variants.{Days, Mask}
-use Rattle.model.specs.Questions.{onAny, rising, filter, listed}
-use Rattle.model.specs.Effects.{State, Request, Answer, gives, refuse, gave, settle}
-use Rattle.model.specs.Model.{ask, effectOf, stepOf, step}
+use Rattle.model.proofs.Names.{accepted, offCalendar, Spell, daysOk, ticks, rises, empty, Ask, Days, Mask, onAny, rising, filter, listed, gives, refuse, gave, settle, ask, effectOf, stepOf, step}
+use Rattle.model.specs.Effects.{State, Request, Answer}
 use Rattle.model.proofs.Rules.{fits-given}
 
 -- a list each of whose days is above the one before

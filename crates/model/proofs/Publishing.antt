@@ -1,15 +1,7 @@
 -- The published list: in the order of the answers, each number once, and the standing list itself where the two orders are one. Assumes nothing.
 use Rattle.basis.proofs.Prelude.{_∙_, _≡_, ap, refl, _≤_, ℕ, List, List·Memᴰ, List·Memᴰ·cases-cons, List·Memᴰ·head, List·Memᴰ·not-nil, List·Memᴰ·tail, [], _∷_, map, inl, inr, Bool, false, not, true, length, length-map, arith, not-true, both}
-use Rattle.orders.specs.Orders.{insertBy, sortedBy}
-use Rattle.orders.proofs.Sorting.{sorted-length}
-use Rattle.rules.specs.Rules.{cut}
-use Rattle.rules.proofs.Rules.{as-entered}
-use Rattle.spell.specs.declared.Spell.{Spell}
-use Rattle.spell.specs.Order.{earlierOf, listedBefore, orderedBy}
-use Rattle.spell.specs.Listing.{stands, distinct, Each, Orderly, OrderlyBy}
-use Rattle.spell.proofs.Listing.{neither}
-use Rattle.spell.proofs.Order.{StrictOrder, answer-order, asym, ordered-tail, ordered-first}
-use Rattle.model.specs.Publishing.{publishedOf}
+use Rattle.model.proofs.Names.{sortedBy, sorted-length, cut, as-entered, Spell, earlierOf, listedBefore, orderedBy, stands, distinct, Each, Orderly, OrderlyBy, neither, StrictOrder, answer-order, asym, ordered-tail, ordered-first, publishedOf}
+use Rattle.orders.specs.Orders.{insertBy}
 use Rattle.model.proofs.Edits.{stands-insert, orderly-none, orderly-insert, in-insert}
 
 module _ (t : Spell → Spell → Bool) where

@@ -1,16 +1,8 @@
 -- Document 01's plain account, what begins it and what take back, publish and writing do, as claims of every state. The edits are in
 -- `Editing.antt`, the questions in `Claims.antt`, whole lists of calls in `Runs.antt`. Assumes nothing.
 use Rattle.basis.proofs.Prelude.{_≡_, refl, _<_, _≤_, ℕ, List, [], _++_, _∷_, leb, drop, length, arith, le-leb, leb-false, leb-true, lt-leb, by-test, true, false}
-use Rattle.refusal.specs.Table.{accepted, noHistory, shortBuffer, noSuchRule}
-use Rattle.rules.specs.Rules.{isRule}
-use Rattle.spell.specs.declared.Spell.{Spell}
-use Rattle.register.specs.Text.{Register, readText, writeAll}
-use Rattle.register.specs.Text.Register.{good, bad}
-use Rattle.register.proofs.Claims.{text-again}
-use Rattle.model.specs.declared.Call.the-variants.{TakeBack, Publish, Write}
-use Rattle.model.specs.Publishing.{publishedOf}
-use Rattle.model.specs.Effects.{State, withStanding, withPublished, Request, Answer, gives, writes, refuse, gave, wrote, settle}
-use Rattle.model.specs.Model.{fresh, begun, takeBack, effectOf, stepOf}
+use Rattle.model.proofs.Names.{accepted, noHistory, shortBuffer, noSuchRule, isRule, Spell, Register, readText, writeAll, good, bad, text-again, TakeBack, Publish, Write, publishedOf, withStanding, withPublished, gives, writes, refuse, gave, wrote, settle, fresh, begun, takeBack, effectOf, stepOf}
+use Rattle.model.specs.Effects.{State, Request, Answer}
 
 -- ---- The beginning
 

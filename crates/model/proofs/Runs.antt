@@ -1,23 +1,7 @@
 -- What is claimed of every list of calls, begun fresh or on any text. Assumes nothing.
 use Rattle.basis.proofs.Prelude.{_∙_, _≡_, ap, refl, sym, _≤_, ℕ, List, List·Memᴰ, List·Memᴰ·cases-cons, List·Memᴰ·head, List·Memᴰ·not-nil, List·Memᴰ·tail, [], _++_, _∷_, map, Bool, _||_, false, false≢true, true, _↔_, _⊎_, inl, inr, leb, drop, length, length-map, le-leb, leb-true, both, either}
-use Rattle.refusal.specs.Table.{accepted}
-use Rattle.spell.specs.declared.Spell.{Spell}
-use Rattle.spell.specs.Order.{listedBefore, orderedBy}
-use Rattle.spell.specs.Listing.{distinct, HeldUrgency, Sound}
-use Rattle.spell.proofs.Order.{each-member, each-map}
-use Rattle.rules.proofs.Rules.{cut-passes, cut-sound}
-use Rattle.register.specs.Text.{writeAll, readText}
-use Rattle.register.specs.Text.Register.{good}
-use Rattle.register.proofs.Claims.{list-again}
-use Rattle.masks.specs.Masks.{ticks}
-use Rattle.model.specs.declared.Call.the-variants.{Amend, Ask}
-use Rattle.model.specs.declared.Question.{Question}
-use Rattle.model.specs.declared.Question.the-variants.{Day, Span, Cover, Days, Mask}
-use Rattle.model.specs.Edits.{idle}
-use Rattle.model.specs.Questions.{reaches, onDay, onSpan, covers, onAny, filter}
-use Rattle.model.specs.Effects.{refuse}
-use Rattle.model.specs.Model.{State, Request, Answer, stepOf, step, run}
-use Rattle.model.specs.Reached.{Begun, after, Kept, Passes, Brings}
+use Rattle.model.proofs.Names.{accepted, Spell, listedBefore, orderedBy, distinct, HeldUrgency, Sound, each-member, each-map, cut-passes, cut-sound, writeAll, readText, good, list-again, ticks, Amend, Ask, Question, Day, Span, Cover, Days, Mask, idle, reaches, onDay, onSpan, covers, onAny, filter, refuse, stepOf, step, run, Begun, after, Kept, Passes, Brings}
+use Rattle.model.specs.Model.{State, Request, Answer}
 use Rattle.model.proofs.Claims.{Lists, day-lists, span-lists, cover-lists, days-lists, mask-lists, listed-exactly, listed-ordered, listed-once}
 use Rattle.model.proofs.Edits.{one-spell}
 use Rattle.model.proofs.Idle.{idle-itself, idle-member}

@@ -1,19 +1,8 @@
 -- How many bytes follow a line: only the word `read` has any, the first of the table. Assumes nothing.
-use Prim.Native.String.{String}
-use Rattle.basis.proofs.Prelude.{_∙_, _≡_, refl, sym, _<_, _≤_, ℕ, List, [], _∷_, Bool, _&&_, both, cond, false, true, drop, length, arith, le-leb, lt-leb}
-use Rattle.fields.specs.Fields.{Found, found, unreadable, readLength, readNumber, readMask}
-use Rattle.register.specs.Text.{readLine}
-use Rattle.model.specs.declared.Call.the-variants.{Ask}
+use Rattle.requests.proofs.Names.{String, Found, found, unreadable, readLength, readNumber, readMask, readLine, Ask, Layout, Alone, Number, Pair, MaskFields, DayFields, Length, Unknown, Room, Read, Request, table, begins, bytesOf, headOf, Asked, asksCall, asksRoom, asksRead, malformed, asking, ended, DayList, readDays, askDays, askedBy, askedOf, following, requestOf, Announces, Asks, followingIn}
+use Rattle.basis.proofs.Prelude.{_≡_, refl, sym, _<_, _≤_, ℕ, List, [], _∷_, Bool, _&&_, both, cond, false, true, drop, length, arith, le-leb, lt-leb}
 use Rattle.model.specs.declared.Question.the-variants.{Days}
-use Rattle.requests.specs.declared.Layout.{Layout}
-use Rattle.requests.specs.declared.Layout.the-variants.{Alone, Spell, Number, Pair, Mask as MaskFields, Days as DayFields, Length, Unknown}
-use Rattle.requests.specs.declared.LengthWord.the-variants.{Room, Read}
-use Rattle.requests.specs.declared.Head.{Head}
-use Rattle.requests.specs.declared.Request.{Request}
-use Rattle.requests.specs.Words.{table, begins, bytesOf, headOf}
-use Rattle.requests.specs.Requests.{Asked, asksCall, asksRoom, asksRead, malformed, asking, ended, DayList, readDays, askDays, askedBy, askedOf, following}
-use Rattle.requests.specs.Parsing.{requestOf, Announces}
-use Rattle.requests.specs.Contracts.{Asks, followingIn}
+use Rattle.requests.specs.declared.Layout.the-variants.{Spell}
 
 -- ---- Other words: nothing follows
 

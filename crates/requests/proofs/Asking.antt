@@ -1,20 +1,8 @@
 -- What a line asks, as the program holds it: its days stand in the lent list, and its room is one that can be lent. Assumes nothing.
-use Rattle.basis.proofs.Prelude.{_≡_, ap, refl, _≤_, suc, zero, ℕ, List, [], _++_, _∷_, Bool, _&&_, cond, false, true, leb, drop, length, take, take-at, arith}
-use Rattle.fields.specs.Fields.{Found, found, unreadable, readNumber, readLength, readMask}
-use Rattle.decimals.proofs.Decimals.{length-within}
-use Rattle.register.specs.Text.{readLine}
-use Rattle.model.specs.declared.Call.{Call}
-use Rattle.model.specs.declared.Call.the-variants.{Ask}
+use Rattle.basis.proofs.Prelude.{_≡_, ap, refl, _≤_, suc, zero, ℕ, List, [], _++_, _∷_, Bool, cond, false, true, leb, drop, length, take, take-at, arith}
+use Rattle.requests.proofs.Names.{Found, found, unreadable, readNumber, readLength, readMask, length-within, readLine, Call, Ask, Request, Layout, Alone, Number, Pair, MaskFields, DayFields, Length, Unknown, LengthWord, Room, Read, Head, table, headOf, spellCall, numberCall, pairCall, limitOf, Asked, asksCall, asksRoom, asksRead, malformed, asks, asking, ended, lengthAsks, DayList, lastDay, nextDay, readDays, askDays, askedBy, daysBy, askedOf, daysOf, requestOf, askedFrom, daysIn, roomIn, Parses}
 use Rattle.model.specs.declared.Question.the-variants.{Days, Mask}
-use Rattle.requests.specs.declared.Request.{Request}
-use Rattle.requests.specs.declared.Layout.{Layout}
-use Rattle.requests.specs.declared.Layout.the-variants.{Alone, Spell, Number, Pair, Mask as MaskFields, Days as DayFields, Length, Unknown}
-use Rattle.requests.specs.declared.LengthWord.{LengthWord}
-use Rattle.requests.specs.declared.LengthWord.the-variants.{Room, Read}
-use Rattle.requests.specs.declared.Head.{Head}
-use Rattle.requests.specs.Words.{table, headOf, spellCall, numberCall, pairCall, limitOf}
-use Rattle.requests.specs.Requests.{Asked, asksCall, asksRoom, asksRead, malformed, asks, asking, ended, lengthAsks, DayList, lastDay, nextDay, readDays, askDays, askedBy, daysBy, askedOf, daysOf}
-use Rattle.requests.specs.Parsing.{requestOf, askedFrom, daysIn, roomIn, Parses}
+use Rattle.requests.specs.declared.Layout.the-variants.{Spell}
 
 -- the days of a call are the first of a list that begins with xs, at most n of them; a room is at most 65,536
 Sound : Asked → List ℕ → ℕ → Type 0

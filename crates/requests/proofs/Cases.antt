@@ -1,17 +1,8 @@
 -- Lines with what they ask, computed: one for each word, and lines at the edges of the forms. Assumes nothing.
 use Rattle.basis.proofs.Prelude.{_≡_, refl, ℕ, List, [], _++_, _∷_, map, cond, eqb}
-use Prim.Native.Char.{code}
-use Prim.Native.String.{String, [] as none, _∷_ as _then_}
-use lib.Ieee.{binary32, ofBits}
-use Rattle.spell.specs.declared.Urgency.{Urgency}
-use Rattle.spell.specs.declared.Urgency.the-variants.{Grade, Reading}
+use Rattle.requests.proofs.Names.{code, String, none, _then_, binary32, ofBits, Urgency, Grade, Reading, passed, readDigits, readDecimal, hexValue, readHex, readLetter, readValue, readUrgency, readLine, Enter, Amend, Strike, TakeBack, Publish, Write, Ask, Day, Span, Cover, words, begins, headOf, Asked, asksCall, asks, asksRoom, asksRead, malformed, readDays, askedBy, askedOf}
 use Rattle.spell.specs.declared.Spell.{Spell}
-use Rattle.fields.specs.Fields.{passed, readDigits, readDecimal, hexValue, readHex}
-use Rattle.register.specs.Text.{readLetter, readValue, readUrgency, readLine}
-use Rattle.model.specs.declared.Call.the-variants.{Enter, Amend, Strike, TakeBack, Publish, Write, Ask}
-use Rattle.model.specs.declared.Question.the-variants.{Day, Span, Cover, Days, Mask}
-use Rattle.requests.specs.Words.{table as words, begins, headOf}
-use Rattle.requests.specs.Requests.{Asked, asksCall, asks, asksRoom, asksRead, malformed, readDays, askedBy, askedOf}
+use Rattle.model.specs.declared.Question.the-variants.{Days, Mask}
 
 -- the bytes of a text as docs/PROTOCOL.md shows it: a space stands for a tab
 unfoldable pub spelled : String → List ℕ

@@ -1,10 +1,7 @@
 -- What a line asks, in the words of the protocol. Assumes nothing.
 use Rattle.basis.proofs.Prelude.{_≡_, refl, _+_, ℕ, List}
-use Rattle.register.specs.Text.{readLine}
-use Rattle.model.specs.declared.Call.the-variants.{Enter}
+use Rattle.requests.proofs.Names.{readLine, Enter, EnterWord, asks, asking, ended, askedBy, askedOf}
 use Rattle.requests.specs.declared.Layout.the-variants.{Spell}
-use Rattle.requests.specs.declared.SpellWord.the-variants.{Enter as EnterWord}
-use Rattle.requests.specs.Requests.{asks, asking, ended, askedBy, askedOf}
 use Rattle.requests.proofs.Enough.{days-room}
 
 -- THE FIELDS OF `enter` are read exactly as those of a register line, with nothing after its LF

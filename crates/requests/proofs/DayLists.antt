@@ -1,13 +1,7 @@
 -- The days of a line, read one after another into their places. Assumes nothing.
 use Rattle.basis.proofs.Prelude.{_∙_, _≡_, ap, refl, sym, _+_, _-_, _<_, _≤_, suc, ℕ, List, [], _++_, _∷_, append-assoc, append-nil, false, drop, drop-of-length-le, length, length-append, length-set, set, take, take-append-drop, drop-drop, drop-set-lt, length-take-le, set-split, take-all, take-suc-set, add-one, arith}
-use Rattle.fields.specs.Fields.{Found, found, unreadable, readNumber}
-use Rattle.model.specs.declared.Call.the-variants.{Ask}
+use Rattle.requests.proofs.Names.{Found, found, unreadable, readNumber, Ask, Request, RequestCall, RequestMalformed, DayList, lastDay, readDays, over, after, ReadsDays}
 use Rattle.model.specs.declared.Question.the-variants.{Days}
-use Rattle.requests.specs.declared.Request.{Request}
-use Rattle.requests.specs.declared.Request.the-variants.{Call as RequestCall, Malformed as RequestMalformed}
-use Rattle.requests.specs.Requests.{DayList, lastDay, readDays}
-use Rattle.buffer.specs.Buffer.{over}
-use Rattle.requests.specs.Contracts.{after, ReadsDays}
 
 -- lists that agree from a place on agree from every later one
 agree : (a b : List ℕ) (k n : ℕ) → drop k a ≡ drop k b → k ≤ n → drop n a ≡ drop n b

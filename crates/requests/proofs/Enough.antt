@@ -1,13 +1,7 @@
 -- A line of at most 65,536 bytes has fewer than 32,768 days: more room for them changes nothing. Assumes nothing.
 use Rattle.basis.proofs.Prelude.{_≡_, ap, refl, sym, _*_, _+_, _≤_, suc, zero, ℕ, List, [], _∷_, Bool, cond, false, true, leb, drop, length, length-drop, arith, leb-true}
-use Rattle.fields.specs.Fields.{Found, found, unreadable, readNumber}
-use Rattle.fields.proofs.Widths.{decimal-wide}
-use Rattle.decimals.proofs.Decimals.{write-number}
-use Rattle.requests.specs.declared.Layout.{Layout}
-use Rattle.requests.specs.declared.Layout.the-variants.{Alone, Spell, Number, Pair, Mask, Days, Length, Unknown}
-use Rattle.requests.specs.declared.Head.{Head}
-use Rattle.requests.specs.Words.{table, headOf}
-use Rattle.requests.specs.Requests.{malformed, lastDay, nextDay, readDays, askDays, askedBy, askedOf}
+use Rattle.requests.proofs.Names.{Found, found, unreadable, readNumber, decimal-wide, write-number, Layout, Alone, Number, Pair, Length, Unknown, Head, table, headOf, malformed, lastDay, nextDay, readDays, askDays, askedBy, askedOf}
+use Rattle.requests.specs.declared.Layout.the-variants.{Spell, Mask, Days}
 
 -- a number and the byte that ends it take two bytes or more
 number-takes : (e : ℕ) (s : List ℕ) (d : ℕ) (rest : List ℕ) → readNumber e s ≡ found d rest → 2 + length rest ≤ length s

@@ -7,3 +7,4 @@ pub mod Asking
 pub mod Enough
 pub mod Claims
 pub mod Cases
+mod Names

@@ -1,14 +1,7 @@
 -- A whole line, by the layout of its fields. Assumes nothing.
-use Rattle.basis.proofs.Prelude.{_∙_, _≡_, ap, refl, sym, _<_, _≤_, ℕ, List, [], drop, length, le-leb, lt-leb}
-use Rattle.requests.specs.declared.Layout.{Layout}
+use Rattle.basis.proofs.Prelude.{_≡_, refl, _<_, _≤_, ℕ, List, [], drop, length, le-leb, lt-leb}
+use Rattle.requests.proofs.Names.{Layout, Head, Request, Malformed, table, headOf, readDays, askedBy, daysBy, askedOf, daysOf, Parses, Asks, ReadsDays}
 use Rattle.requests.specs.declared.Layout.the-variants.{Days}
-use Rattle.requests.specs.declared.Head.{Head}
-use Rattle.requests.specs.declared.Request.{Request}
-use Rattle.requests.specs.declared.Request.the-variants.{Malformed}
-use Rattle.requests.specs.Words.{table, headOf}
-use Rattle.requests.specs.Requests.{readDays, askedBy, daysBy, askedOf, daysOf}
-use Rattle.requests.specs.Parsing.{Parses}
-use Rattle.requests.specs.Contracts.{Asks, ReadsDays}
 
 module _ (line days : List ℕ) where
   pub parses-long : 65536 < length line → Parses line days Malformed days

@@ -1,12 +1,6 @@
 -- The word that a line begins with: byte by byte, and by the table. Assumes nothing.
-use Prim.Native.String.{String}
-use Rattle.basis.proofs.Prelude.{_≡_, refl, _+_, _<_, _≤_, ℕ, List, [], _∷_, Bool, cond, false, true, drop, getD, length, decLe, arith, lt-ltb}
-use Rattle.fields.specs.Fields.{isAt}
-use Rattle.fields.proofs.Places.{here, past-end, at-inside}
-use Rattle.requests.specs.declared.Layout.{Layout}
-use Rattle.requests.specs.declared.Layout.the-variants.{Unknown}
-use Rattle.requests.specs.declared.Head.{Head}
-use Rattle.requests.specs.Words.{begins, bytesOf, headOr, headOf}
+use Rattle.requests.proofs.Names.{String, isAt, here, past-end, at-inside, Layout, Unknown, Head, begins, bytesOf, headOr, headOf}
+use Rattle.basis.proofs.Prelude.{_≡_, refl, _+_, _<_, _≤_, ℕ, List, [], _∷_, false, true, drop, getD, length, decLe, arith, lt-ltb}
 
 module _ (w s : List ℕ) (i : ℕ) where
   pub begins-on : i < length w → isAt s i (getD w i 0) ≡ true → begins (drop i w) (drop i s) ≡ begins (drop (i + 1) w) (drop (i + 1) s)

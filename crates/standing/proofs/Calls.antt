@@ -1,29 +1,9 @@
 -- What each call's result is, in terms of the account: pure facts, no code. Assumes nothing.
 use Rattle.basis.proofs.Prelude.{_∙_, _≡_, ap, refl, sym, _-_, _<_, _≤_, suc, ℕ, List, [], _∷_, reverse-reverse, false, true, drop, getD, length, length-append, length-drop, length-replicate, length-reverse, length-take, take, getD-take, length-take-le, arith}
-use Rattle.buffer.specs.Buffer.{over}
-use Rattle.buffer.proofs.Over.{own-over, over-twice}
-use Rattle.refusal.specs.Table.{accepted, unknownNumber, noHistory}
-use Rattle.spell.specs.declared.Spell.{Spell}
-use Rattle.spell.specs.Order.{earlierOf}
-use Rattle.spell.specs.Listing.{stands, Sound, Good}
-use Rattle.spell.specs.Same.{sameOf}
-use Rattle.spell.proofs.Order.{text-order}
-use Rattle.spell.specs.Blank.{blank}
-use Rattle.model.specs.Edits.{insert, remove, replace, idle, enterRefusal, amendRefusal, strikeRefusal, takeBackRefusal, frontOr, restOf}
-use Rattle.standing_journal.specs.declared.Undo.{Undo}
-use Rattle.standing.specs.declared.Standing.{Standing}
-use Rattle.standing.specs.Standing.{listOf, entries, undo, pastOf, pasts, Goods, Wf, Fresh, Edits, afterTakeBack, TakesBack}
-use Rattle.standing_list.specs.Search.{indexOf}
-use Rattle.standing.specs.Places.{relisted, holding, freshStanding, entering, replacing, noted}
-use Rattle.standing_journal.specs.Journal.{blankEntry}
-use Rattle.standing_list.specs.List.{without}
-use Rattle.standing_list.proofs.Search.{remove-at}
+use Rattle.standing.proofs.Names.{over, own-over, over-twice, accepted, unknownNumber, noHistory, Spell, earlierOf, stands, Sound, Good, sameOf, text-order, blank, insert, remove, replace, idle, enterRefusal, amendRefusal, strikeRefusal, takeBackRefusal, frontOr, restOf, Undo, Standing, listOf, entries, undo, pastOf, pasts, Goods, Wf, Fresh, Edits, afterTakeBack, TakesBack, indexOf, relisted, holding, freshStanding, entering, replacing, noted, blankEntry, without, remove-at, length-insert, removed-gone, orderly-none, orderly-insert, orderly-remove, orderly-replace, remove-none, remove-insert, enters, amends, pop}
 use Rattle.standing.proofs.Places.{same, over-same, list-over, past-over, wf-over, over-relisted}
-use Rattle.model.proofs.Edits.{length-insert, removed-gone, orderly-none, orderly-insert, orderly-remove, orderly-replace, remove-none, remove-insert}
-use Rattle.model.proofs.Checks.{enters, amends}
 use Rattle.standing.proofs.Edits.{idle-index, insert-remove}
 use Rattle.standing.proofs.Checks.{found, missed, strike-refusal}
-use Rattle.standing_journal.proofs.Journal.{pop}
 use Rattle.standing.proofs.Past.{refused, edited}
 
 pub list-length : {st : Standing} → Wf st → length (listOf st) ≡ st .count

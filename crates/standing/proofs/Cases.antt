@@ -1,20 +1,6 @@
 -- Worked examples: an entry's words, and the places of small arrays after an edit and after a take back. Assumes nothing.
 use Rattle.basis.proofs.Prelude.{_≡_, refl, ℕ, List, [], _∷_, false, true}
-use lib.Ieee.{binary32, ofBits, toBits}
-use Rattle.spell.specs.declared.Urgency.the-variants.{Grade, Reading}
-use Rattle.spell.specs.declared.Spell.{Spell}
-use Rattle.spell.specs.Order.{earlierOf}
-use Rattle.spell.specs.Listing.{stands}
-use Rattle.spell.specs.Same.{sameOf}
-use Rattle.model.specs.Edits.{insert, insertBy, remove, replace, idle, enterRefusal, amendRefusal, strikeRefusal, frontOr}
-use Rattle.packing.specs.Words.{spellWords, spellOf, urgencyOf}
-use Rattle.standing_journal.specs.declared.Undo.{Undo}
-use Rattle.standing.specs.declared.Standing.{Standing}
-use Rattle.standing_list.specs.Search.{lead}
-use Rattle.standing_journal.specs.Journal.{blankEntry}
-use Rattle.standing_journal.specs.Words.{entryWords, entryOf}
-use Rattle.standing.specs.Places.{entering, replacing}
-use Rattle.standing.specs.Standing.{listOf, undo, pastOf, afterEdit, afterTakeBack}
+use Rattle.standing.proofs.Names.{binary32, ofBits, toBits, Grade, Reading, Spell, earlierOf, stands, sameOf, insert, insertBy, remove, replace, idle, enterRefusal, amendRefusal, strikeRefusal, frontOr, spellWords, spellOf, urgencyOf, Undo, Standing, lead, blankEntry, entryWords, entryOf, entering, replacing, listOf, undo, pastOf, afterEdit, afterTakeBack}
 
 -- ---- An entry's words
 

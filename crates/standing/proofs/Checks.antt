@@ -1,11 +1,6 @@
 -- The order of the checks: what enter, amend and strike compute is the refusal of the account. Assumes nothing.
 use Rattle.basis.proofs.Prelude.{_∙_, _≡_, ap, refl, sym, _<_, _≤_, ℕ, List, Bool, cond, false, true, leb, ltb, length, le-leb, le-ltb, lt-leb, lt-ltb, ltb-false, ltb-true, by-test}
-use Rattle.refusal.specs.Table.{accepted, duplicateNumber, unknownNumber, full}
-use Rattle.spell.specs.declared.Spell.{Spell}
-use Rattle.spell.specs.Entry.{refusalOf}
-use Rattle.spell.specs.Listing.{stands}
-use Rattle.model.specs.Edits.{orElse, enterRefusal, amendRefusal, strikeRefusal}
-use Rattle.standing_list.specs.Search.{indexOf}
+use Rattle.standing.proofs.Names.{accepted, duplicateNumber, unknownNumber, full, Spell, refusalOf, stands, orElse, enterRefusal, amendRefusal, strikeRefusal, indexOf}
 use Rattle.standing.proofs.Edits.{stands-index}
 
 -- ---- A number is looked for in the list l of n spells: p is where it stands, or n

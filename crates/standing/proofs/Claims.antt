@@ -1,19 +1,6 @@
 -- What the calls are for, as their contracts give it. Assumes nothing.
 use Rattle.basis.proofs.Prelude.{_∙_, _≡_, refl, Bool, false, false≢true, true, _⊎_, inl, inr, _≤_, ℕ, List, _∷_, length, length-reverse, length-take, take, arith, eq-eqb, ne-eqb}
-use Rattle.refusal.specs.Table.{accepted}
-use Rattle.spell.specs.declared.Spell.{Spell}
-use Rattle.model.specs.Edits.{remember, takeBackRefusal, frontOr, restOf}
-use Rattle.packing.specs.Blocks.{Every}
-use Rattle.packing.specs.Words.{Narrow, spellWords, spellOf}
-use Rattle.packing.proofs.Blocks.{every-map}
-use Rattle.packing.proofs.Words.{spell-back}
-use Rattle.standing_journal.specs.declared.Undo.{Undo}
-use Rattle.standing.specs.declared.Standing.{Standing}
-use Rattle.standing.specs.declared.Edited.{Edited}
-use Rattle.standing.specs.Standing.{listOf, entries, pasts, Wf, Edits, TakesBack}
-use Rattle.standing_journal.specs.Words.{entryWords, entryOf}
-use Rattle.standing_journal.proofs.Words.{entry-back}
-use Rattle.standing.specs.Packed.{packed, unpacked}
+use Rattle.standing.proofs.Names.{accepted, Spell, remember, takeBackRefusal, frontOr, restOf, Every, Narrow, spellWords, spellOf, every-map, spell-back, Undo, Standing, Edited, listOf, entries, pasts, Wf, Edits, TakesBack, entryWords, entryOf, entry-back, packed, unpacked}
 use Rattle.standing.proofs.Past.{length-past}
 use Rattle.standing.proofs.Packed.{unpacked-packed}
 

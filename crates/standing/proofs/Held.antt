@@ -1,15 +1,6 @@
 -- What the checker knows of every spell that a program holds: its numbers are 16 bits wide, and its reading is a 32-bit float. Assumes nothing.
 use Rattle.basis.proofs.Prelude.{_≡_, List, arith}
-use mir.Val.{Val}
-use denote.Laws.{Is}
-use Rattle.refusal.specs.Table.{accepted}
-use Rattle.spell.specs.declared.Urgency.{Urgency}
-use Rattle.spell.specs.declared.Urgency.the-variants.{Grade, Reading}
-use Rattle.spell.specs.declared.Spell.{Spell}
-use Rattle.spell.specs.Entry.{refusalOf}
-use Rattle.spell.specs.Listing.{HeldUrgency, Sound}
-use Rattle.spell.proofs.Urgency.{the-row as urgency-row}
-use Rattle.spell.proofs.Spell.{the-row as spell-row}
+use Rattle.standing.proofs.Names.{Val, Is, accepted, Urgency, Grade, Reading, Spell, refusalOf, HeldUrgency, Sound, urgency-row, spell-row}
 
 held : (u : Urgency) (vs : List Val) → Is urgency-row u vs → HeldUrgency u
 held (Grade g) vs p = tt

@@ -8,3 +8,4 @@ pub mod Claims
 pub mod Loading
 pub mod Packed
 pub mod Cases
+mod Names

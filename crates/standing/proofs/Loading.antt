@@ -1,15 +1,6 @@
 -- The standing list of a register text. Assumes nothing.
 use Rattle.basis.proofs.Prelude.{_≡_, refl, ℕ, List, []}
-use Rattle.buffer.proofs.Over.{over-blank}
-use Rattle.spell.specs.Listing.{Good}
-use Rattle.register.specs.Text.{Register, good, bad, readText}
-use Rattle.spell.specs.Blank.{blank}
-use Rattle.register.specs.Answers.{readingOf}
-use Rattle.register.proofs.Texts.{written-read}
-use Rattle.model.specs.Model.{begun}
-use Rattle.standing.specs.declared.Standing.{Standing}
-use Rattle.standing.specs.Places.{freshStanding, loadedOf}
-use Rattle.standing.specs.Standing.{Wf, listOf, pasts, afterReading}
+use Rattle.standing.proofs.Names.{over-blank, Good, Register, good, bad, readText, blank, readingOf, written-read, begun, Standing, freshStanding, loadedOf, Wf, listOf, pasts, afterReading}
 use Rattle.standing.proofs.Places.{list-over}
 use Rattle.standing.proofs.Calls.{begun-wf, begun-past, good-none}
 

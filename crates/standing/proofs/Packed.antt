@@ -1,13 +1,6 @@
 -- The words of a standing list read back as it. Assumes nothing.
 use Rattle.basis.proofs.Prelude.{_∙_, _≡_, ap, refl, sym, _+_, _-_, ℕ, List, [], _++_, _∷_, append-assoc, append-nil, drop, drop-of-length-le, getD, length, length-append, length-drop, set, take, drop-at, getD-append-add, getD-at, sets-eq, take-all, take-at, arith}
-use Rattle.packing.specs.Blocks.{written, parts, Every, PutAll}
-use Rattle.packing.specs.Words.{spellWords, spellOf}
-use Rattle.packing.proofs.Blocks.{put-first, written-length, read-back}
-use Rattle.packing.proofs.Words.{spell-long, spell-reads}
-use Rattle.standing.specs.declared.Standing.{Standing}
-use Rattle.standing_journal.specs.Words.{entryWords, entryOf}
-use Rattle.standing_journal.proofs.Words.{entry-long, entry-reads}
-use Rattle.standing.specs.Packed.{packed, unpacked, Packs}
+use Rattle.standing.proofs.Names.{written, parts, Every, PutAll, spellWords, spellOf, put-first, written-length, read-back, spell-long, spell-reads, Standing, entryWords, entryOf, entry-long, entry-reads, packed, unpacked, Packs}
 
 -- as the code reads it: the journal from the part after the array
 pub read-standing : (l : List ℕ)

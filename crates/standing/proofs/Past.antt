@@ -1,13 +1,6 @@
 -- The past as the journal gives it, and an edit that is pushed on it. Assumes nothing.
 use Rattle.basis.proofs.Prelude.{_∙_, _≡_, ap, refl, sym, suc, zero, ℕ, List, [], _∷_, Bool, false, true, eqb, length, length-take, take, arith, eqb-false, ne-eqb}
-use Rattle.refusal.specs.Table.{accepted}
-use Rattle.spell.specs.declared.Spell.{Spell}
-use Rattle.spell.specs.Listing.{Good}
-use Rattle.model.specs.Edits.{remember}
-use Rattle.standing_journal.specs.declared.Undo.{Undo}
-use Rattle.standing.specs.declared.Standing.{Standing}
-use Rattle.standing.specs.Standing.{listOf, entries, undo, pastOf, pasts, Goods, Wf, makes, Edits}
-use Rattle.standing.specs.Places.{holding, noted}
+use Rattle.standing.proofs.Names.{accepted, Spell, Good, remember, Undo, Standing, listOf, entries, undo, pastOf, pasts, Goods, Wf, makes, Edits, holding, noted}
 use Rattle.standing.proofs.Places.{list-over, past-over, wf-over}
 
 -- ---- The past

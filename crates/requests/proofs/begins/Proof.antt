@@ -11,24 +11,12 @@ Inv-loop line word i₀ i = (i ≤ length word) × (begins word line ≡ begins 
 abbrev μ-loop : tie.MeasureT-loop
 μ-loop line word i₀ i = length word - i
 
-loop-holds : tie.Need-loop-holds Inv-loop μ-loop
-loop-holds c = (omega arith, refl)
-
-shared-slice-read-is-at : tie.Need-shared-slice-read-is-at Inv-loop μ-loop
-shared-slice-read-is-at c = omega arith
-
 returns : tie.Need-returns Inv-loop μ-loop
 returns c =
     let head = c .before .before .before .before in
     let args = head .before .before .before .args in
     sym (head .loop .inv .1 ∙ begins-not (args .word .now) (args .line .now) (head .loop .i) (omega arith)
     (sym (c .before .is-at .ensures) ∙ not-true (c .before .is-at .result) (c .if1 .taken)))
-
-add-i : tie.Need-add-i Inv-loop μ-loop
-add-i c = omega arith
-
-loop-less : tie.Need-loop-less Inv-loop μ-loop
-loop-less c = omega arith
 
 loop-again : tie.Need-loop-again Inv-loop μ-loop
 loop-again c =
@@ -49,13 +37,6 @@ pub begins-spec : {M : Type 1} → statement M
 begins-spec =
     tie.close
     (tie.spec
-    Inv-loop
-    μ-loop
-    loop-holds
-    shared-slice-read-is-at
-    (λ c κs. search needs)
-    returns
-    add-i
-    loop-less
-    loop-again
-    returns-2)
+    Inv-loop μ-loop
+    (λ c. (omega arith, refl))  -- the loop begins
+    (λ c. omega arith) (λ c κs. search needs) returns (λ c. omega arith) (λ c. omega arith) loop-again returns-2)

@@ -1,8 +1,6 @@
 -- `requests::last_day` meets its contract. Assumes nothing.
 use Rattle.basis.proofs.Prelude.{_∙_, _≡_, ap, sym, drop, needs}
-use Rattle.fields.specs.Fields.{found, readNumber}
-use Rattle.fields.specs.Answers.{fieldOf}
-use Rattle.fields.proofs.Places.{here, past-end}
+use Rattle.requests.proofs.Names.{found, readNumber, fieldOf, here, past-end}
 use Rattle.requests.proofs.DayLists.{last-none, last-one}
 use Rattle.requests.proofs.last_day.Statement.{statement}
 use Rattle.requests.proofs.last_day.Tie as tie
@@ -37,8 +35,5 @@ pub last-day-spec : {M : Type 1} → statement M
 last-day-spec =
     tie.close
     (tie.spec
-    (λ c κs. search needs) (λ c. search needs) (λ c. search needs)
-    returns
-    returns-2
-    (λ c. search needs) (λ c. search needs) (λ c. search needs) (λ c. search needs)
-    returns-3)
+    (λ c κs. search needs) (λ c. search needs) (λ c. search needs) returns returns-2 (λ c. search needs) (λ c. search needs) (λ c. search needs)
+    (λ c. search needs) returns-3)

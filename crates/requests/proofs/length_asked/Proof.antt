@@ -1,7 +1,6 @@
 -- `requests::length_asked` meets its contract. Assumes nothing.
 use Rattle.basis.proofs.Prelude.{_∙_, ap, sym, needs}
-use Rattle.fields.specs.Answers.{lengthOf}
-use Rattle.requests.specs.Requests.{lengthAsks, askedBy}
+use Rattle.requests.proofs.Names.{lengthOf, lengthAsks, askedBy}
 use Rattle.requests.proofs.Layouts.{none-asked, last-asked}
 use Rattle.requests.proofs.length_asked.Statement.{statement}
 use Rattle.requests.proofs.length_asked.Tie as tie

@@ -1,10 +1,7 @@
 -- `requests::mask_asked` meets its contract: the mask is read where the base day ended. Assumes nothing.
 use Rattle.basis.proofs.Prelude.{_∙_, _≡_, ap, refl, sym, drop, needs}
-use Rattle.fields.specs.Fields.{found, readNumber}
-use Rattle.fields.specs.Answers.{fieldOf, lengthOf}
-use Rattle.model.specs.declared.Call.the-variants.{Ask}
+use Rattle.requests.proofs.Names.{found, readNumber, fieldOf, lengthOf, Ask, asks, askedBy}
 use Rattle.model.specs.declared.Question.the-variants.{Mask}
-use Rattle.requests.specs.Requests.{asks, askedBy}
 use Rattle.requests.proofs.Layouts.{none-asked, value-asked, last-asked}
 use Rattle.requests.proofs.mask_asked.Statement.{statement}
 use Rattle.requests.proofs.mask_asked.Tie as tie
@@ -43,9 +40,5 @@ pub mask-asked-spec : {M : Type 1} → statement M
 mask-asked-spec =
     tie.close
     (tie.spec
-    (λ c κs. search needs) (λ c. search needs) (λ c. search needs)
-    returns
-    (λ c κs. search needs) (λ c. search needs) (λ c. search needs)
-    returns-2
-    (λ c κs. search needs)
-    returns-3)
+    (λ c κs. search needs) (λ c. search needs) (λ c. search needs) returns (λ c κs. search needs) (λ c. search needs) (λ c. search needs) returns-2
+    (λ c κs. search needs) returns-3)

@@ -1,10 +1,6 @@
 -- `requests::number_asked` meets its contract. Assumes nothing.
 use Rattle.basis.proofs.Prelude.{_∙_, ap, sym, needs}
-use Rattle.fields.specs.Answers.{fieldOf}
-use Rattle.model.specs.declared.Call.{Call}
-use Rattle.requests.specs.declared.Request.the-variants.{Call as RequestCall}
-use Rattle.requests.specs.Words.{numberCall}
-use Rattle.requests.specs.Requests.{asks, askedBy}
+use Rattle.requests.proofs.Names.{fieldOf, Call, RequestCall, numberCall, asks, askedBy}
 use Rattle.requests.proofs.Layouts.{none-asked, last-asked}
 use Rattle.requests.proofs.number_asked.Statement.{statement}
 use Rattle.requests.proofs.number_asked.Tie as tie

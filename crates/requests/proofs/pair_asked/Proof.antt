@@ -1,9 +1,6 @@
 -- `requests::pair_asked` meets its contract: the second number is read where the first ended. Assumes nothing.
 use Rattle.basis.proofs.Prelude.{_∙_, _≡_, ap, refl, sym, drop, needs}
-use Rattle.fields.specs.Fields.{found, readNumber}
-use Rattle.fields.specs.Answers.{fieldOf}
-use Rattle.requests.specs.Words.{pairCall}
-use Rattle.requests.specs.Requests.{asks, askedBy}
+use Rattle.requests.proofs.Names.{found, readNumber, fieldOf, pairCall, asks, askedBy}
 use Rattle.requests.proofs.Layouts.{none-asked, value-asked, last-asked}
 use Rattle.requests.proofs.pair_asked.Statement.{statement}
 use Rattle.requests.proofs.pair_asked.Tie as tie
@@ -42,9 +39,5 @@ pub pair-asked-spec : {M : Type 1} → statement M
 pair-asked-spec =
     tie.close
     (tie.spec
-    (λ c κs. search needs) (λ c. search needs) (λ c. search needs)
-    returns
-    (λ c κs. search needs) (λ c. search needs) (λ c. search needs)
-    returns-2
-    (λ c κs. search needs)
-    returns-3)
+    (λ c κs. search needs) (λ c. search needs) (λ c. search needs) returns (λ c κs. search needs) (λ c. search needs) (λ c. search needs) returns-2
+    (λ c κs. search needs) returns-3)

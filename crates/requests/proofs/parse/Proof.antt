@@ -11,16 +11,9 @@ unfolding askedBy daysBy
 parse-spec =
     tie.close
     (tie.spec
-    (λ c. parses-long _ _ (c .if1 .taken))
-    (λ c κs. search needs)
-    (λ c. search needs) (λ c κs. search needs)
-    (λ c. search needs) (λ c κs. search needs)
-    (λ c. search needs) (λ c κs. search needs)
-    (λ c. search needs) (λ c κs. search needs)
-    (λ c. search needs) (λ c κs. search needs)
-    (λ c. search needs) (λ c κs. search needs)
-    (λ c. search needs) (λ c κs. search needs)
-    (λ c. search needs)
+    (λ c. parses-long _ _ (c .if1 .taken)) (λ c κs. search needs) (λ c. search needs) (λ c κs. search needs) (λ c. search needs)
+    (λ c κs. search needs) (λ c. search needs) (λ c κs. search needs) (λ c. search needs) (λ c κs. search needs) (λ c. search needs)
+    (λ c κs. search needs) (λ c. search needs) (λ c κs. search needs) (λ c. search needs) (λ c κs. search needs) (λ c. search needs)
     -- nothing follows the word
     (λ c. let known = c .before .before in let head = known .before .before in parses-by _ _ (head .before .if1 .left) (head .head-of .ensures) (known .layout .given .1) (λ _ _. refl) (λ _. c .if-ended .ensures ∙ ended-asked _ (asks (known .layout .given .0 .0)) (drop (head .head-of .result .at) (head .before .before .before .before .args .line .now)) refl))
     -- a spell, a number, two numbers, a base day and a mask

@@ -1,8 +1,7 @@
 -- `requests::read_days` meets its contract. The invariant: k days stand in their places, and the rest is to be read from the place `at`.
 -- Assumes nothing.
 use Rattle.basis.proofs.Prelude.{_∙_, ap, sym, _-_, drop, length, arith, needs}
-use Rattle.fields.specs.Answers.{fieldOf}
-use Rattle.requests.specs.Requests.{readDays}
+use Rattle.requests.proofs.Names.{fieldOf, readDays}
 use Rattle.requests.proofs.DayLists.{SoFar, sofar-start, sofar-step, sofar-last, sofar-full}
 use Rattle.requests.proofs.read_days.Statement.{statement}
 use Rattle.requests.proofs.read_days.Tie as tie
@@ -13,12 +12,6 @@ Inv-loop line start days₀ at₀ k₀ days at k = SoFar (readDays (length days�
 abbrev μ-loop : tie.MeasureT-loop
 μ-loop line start days₀ at₀ k₀ days at k = length days₀ - k
 
-loop-holds : tie.Need-loop-holds Inv-loop μ-loop
-loop-holds c = sofar-start _ _ _
-
-same-length : tie.Need-same-length Inv-loop μ-loop
-same-length c = c .before .before .last-day .ensures .sized ∙ c .before .before .before .before .before .before .before .before .loop .inv .sized
-
 returns : tie.Need-returns Inv-loop μ-loop
 returns c =
     let head = c .before .before .before .before .before .before .before .before in
@@ -27,9 +20,6 @@ returns c =
     (sym (c .before .before .before .before .before .before .read-number .ensures .says) ∙ ap (fieldOf line) (c .before .before .before .before .enum-told .given .1))
     (c .before .before .last-day .ensures)
 
-loop-less : tie.Need-loop-less Inv-loop μ-loop
-loop-less c = omega (arith, c .before .before .before .before .before .loop .inv .sized)
-
 loop-again : tie.Need-loop-again Inv-loop μ-loop
 loop-again c =
     let head = c .before .before .before .before .before in
@@ -37,24 +27,16 @@ loop-again c =
     sofar-step (head .loop .inv) (omega (arith, head .loop .inv .sized)) _ _
     (sym (c .before .before .before .read-number .ensures .says) ∙ ap (fieldOf line) (c .before .d .given .1))
 
-same-length-2 : tie.Need-same-length-2 Inv-loop μ-loop
-same-length-2 c = c .before .loop .inv .sized
-
-returns-2 : tie.Need-returns-2 Inv-loop μ-loop
-returns-2 c = sofar-full (c .before .loop .inv) (c .loop-test .left)
-
 pub read-days-spec : {M : Type 1} → statement M
 read-days-spec =
     tie.close
     (tie.spec
-    Inv-loop
-    μ-loop
-    loop-holds
+    Inv-loop μ-loop
+    (λ c. sofar-start _ _ _)  -- the loop begins
     (λ c κs. search needs) (λ c. search needs) (λ c. search needs) (λ c κs. search needs)
-    same-length
-    returns
-    (λ c. search needs) (λ c. search needs) (λ c. search needs)
-    loop-less
+    (λ c. c .before .before .last-day .ensures .sized ∙ c .before .before .before .before .before .before .before .before .loop .inv .sized)  -- the length is kept
+    returns (λ c. search needs) (λ c. search needs) (λ c. search needs)
+    (λ c. omega (arith, c .before .before .before .before .before .loop .inv .sized))  -- the measure
     loop-again
-    same-length-2
-    returns-2)
+    (λ c. c .before .loop .inv .sized)  -- the length is kept
+    (λ c. sofar-full (c .before .loop .inv) (c .loop-test .left)))  -- the second return

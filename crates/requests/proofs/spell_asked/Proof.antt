@@ -1,10 +1,6 @@
 -- `requests::spell_asked` meets its contract. Assumes nothing.
 use Rattle.basis.proofs.Prelude.{_∙_, ap, sym, needs}
-use Rattle.register.specs.Answers.{lineOf}
-use Rattle.model.specs.declared.Call.{Call}
-use Rattle.requests.specs.declared.Request.the-variants.{Call as RequestCall}
-use Rattle.requests.specs.Words.{spellCall}
-use Rattle.requests.specs.Requests.{asks, askedBy}
+use Rattle.requests.proofs.Names.{lineOf, Call, RequestCall, spellCall, asks, askedBy}
 use Rattle.requests.proofs.Layouts.{none-asked, last-asked}
 use Rattle.requests.proofs.spell_asked.Statement.{statement}
 use Rattle.requests.proofs.spell_asked.Tie as tie

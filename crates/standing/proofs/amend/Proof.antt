@@ -1,11 +1,6 @@
 use Rattle.basis.proofs.Prelude.{_∙_, _≡_, ap, sym, _<_, arith, needs}
-use Rattle.refusal.specs.Table.{accepted}
-use Rattle.spell.specs.declared.Spell.{Spell}
-use Rattle.model.specs.Edits.{idle, amendRefusal}
-use Rattle.standing.specs.declared.Standing.{Standing}
-use Rattle.standing.specs.Standing.{listOf}
+use Rattle.standing.proofs.Names.{accepted, Spell, idle, amendRefusal, Standing, listOf, amends}
 use Rattle.standing.proofs.Held.{sound}
-use Rattle.model.proofs.Checks.{amends}
 use Rattle.standing.proofs.Checks.{amend-refusal, place-in}
 use Rattle.standing.proofs.Past.{unmade, refused}
 use Rattle.standing.proofs.Calls.{list-length, idle-is, amend-room, amend-made}
@@ -72,14 +67,11 @@ amend-spec =
     -- refused
     (λ c. let d = c .before in refused (idle (listOf (st d)) (s d)) (start d .pre) (c .if1 .taken) (checked d))
     -- let old = st.spells[p]
-    (λ c. omega (arith, there c))
-    (λ c. omega (arith, there c))
-    (λ c κs. search needs)
+    (λ c. omega (arith, there c)) (λ c. omega (arith, there c)) (λ c κs. search needs)
     -- idle
     (λ c. let e1 = c .before .before .before in unmade (start (e1 .before) .pre) (rw (compared (c .before) ∙ c .if2 .taken)) (passed e1))
     -- removed_at(st, p)
-    (λ c κs. let e1 = c .before .before .before in (omega (arith, there e1), there e1))
-    inserted-requires
+    (λ c κs. let e1 = c .before .before .before in (omega (arith, there e1), there e1)) inserted-requires
     -- pushed(more, entry)
     (λ c κs.
     let gone = c .before in

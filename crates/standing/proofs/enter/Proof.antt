@@ -1,11 +1,6 @@
 -- `standing::enter` meets its contract. Assumes nothing.
 use Rattle.basis.proofs.Prelude.{_∙_, _≡_, false, arith, needs}
-use Rattle.refusal.specs.Table.{accepted}
-use Rattle.spell.specs.declared.Spell.{Spell}
-use Rattle.model.specs.Edits.{enterRefusal}
-use Rattle.model.proofs.Checks.{enters}
-use Rattle.standing.specs.declared.Standing.{Standing}
-use Rattle.standing.specs.Standing.{listOf}
+use Rattle.standing.proofs.Names.{accepted, Spell, enterRefusal, enters, Standing, listOf}
 use Rattle.standing.proofs.Held.{sound}
 use Rattle.standing.proofs.Checks.{enter-refusal}
 use Rattle.standing.proofs.Past.{refused}
@@ -42,8 +37,7 @@ pub enter-spec : {M : Type 1} → statement M
 enter-spec =
     tie.close
     (tie.spec
-    (λ c κs. search needs) (λ c κs. search needs) (λ c κs. search needs) (λ c κs. search needs)
-    (λ c κs. search needs) (λ c κs. search needs)
+    (λ c κs. search needs) (λ c κs. search needs) (λ c κs. search needs) (λ c κs. search needs) (λ c κs. search needs) (λ c κs. search needs)
     -- refused
     (λ c. refused false (start (c .before) .pre) (c .if1 .taken) (checked (c .before)))
     -- inserted(st, s)

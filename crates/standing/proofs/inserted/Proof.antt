@@ -1,8 +1,6 @@
 -- `standing::inserted` meets its contract. Assumes nothing.
 use Rattle.basis.proofs.Prelude.{_∙_, _≡_, refl, length, length-take-le, arith, needs, lt-ltb, unmapped}
-use Rattle.spell.specs.Order.{earlierOf}
-use Rattle.model.proofs.Edits.{length-insert}
-use Rattle.standing.specs.Standing.{listOf}
+use Rattle.standing.proofs.Names.{earlierOf, length-insert, listOf}
 use Rattle.standing.proofs.Places.{same}
 use Rattle.standing.proofs.inserted.Statement.{statement}
 use Rattle.standing.proofs.inserted.Tie as tie

@@ -1,7 +1,6 @@
 -- `standing::removed` meets its contract. Assumes nothing.
 use Rattle.basis.proofs.Prelude.{_∙_, _≡_, ap, length, arith, needs, unmapped}
-use Rattle.standing.specs.Standing.{listOf}
-use Rattle.standing.specs.Places.{relisted}
+use Rattle.standing.proofs.Names.{listOf, relisted}
 use Rattle.standing.proofs.Calls.{removed-is, removed-none}
 use Rattle.standing.proofs.removed.Statement.{statement}
 use Rattle.standing.proofs.removed.Tie as tie
@@ -14,8 +13,7 @@ pub removed-spec : {M : Type 1} → statement M
 removed-spec =
     tie.close
     (tie.spec
-    (λ c κs. search needs)
-    (λ c κs. search needs)
+    (λ c κs. search needs) (λ c κs. search needs)
     (λ c.
     let found = c .before .before in
     let a = found .before .before .args in

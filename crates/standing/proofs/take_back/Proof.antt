@@ -9,8 +9,8 @@ take-back-spec =
     tie.close
     (tie.spec
     -- no past
-    (λ c. takes-none (c .before .pre) (c .if1 .taken))
-    (λ c. search needs) (λ c. search needs) (λ c. search needs) (λ c κs. search needs) (λ c. search needs)
+    (λ c. takes-none (c .before .pre) (c .if1 .taken)) (λ c. search needs) (λ c. search needs) (λ c. search needs) (λ c κs. search needs)
+    (λ c. search needs)
     -- it was entered
     (λ c.
     let gone = c .before .before in

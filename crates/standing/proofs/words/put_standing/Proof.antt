@@ -5,9 +5,6 @@ use Rattle.standing.proofs.Packed.{put-part, packed-length}
 use Rattle.standing.proofs.words.put_standing.Statement.{statement}
 use Rattle.standing.proofs.words.put_standing.Tie as tie
 
-slice-write-out-2 : tie.Need-slice-write-out-2
-slice-write-out-2 c = simp length-set (omega arith)
-
 returns : tie.Need-returns
 returns c =
     let laid = c .before .before .before .before in
@@ -25,8 +22,7 @@ pub put-standing-spec : {M : Type 1} → statement M
 put-standing-spec =
     tie.close
     (tie.spec
-    (λ c κs. search needs) (λ c. search needs) (λ c. search needs) (λ c. search needs) (λ c κs. search needs)
-    (λ c. search needs) (λ c. search needs) (λ c. search needs)
-    slice-write-out-2
-    same-length
-    returns)
+    (λ c κs. search needs) (λ c. search needs) (λ c. search needs) (λ c. search needs) (λ c κs. search needs) (λ c. search needs) (λ c. search needs)
+    (λ c. search needs)
+    (λ c. simp length-set (omega arith))  -- out[7745] = ..
+    same-length returns)
