@@ -75,7 +75,8 @@ extern "C" {
  * version wrote are no blocks of another one. */
 #define PHAYAKLIT_VERSION 3
 
-/* The sizes of the two blocks, in words of 16 bits. */
+/* The sizes of the two blocks, in words of 16 bits. In an index each link, its absence included, is a word: those to parent,
+ * left sibling, last child and next in chain take 8,192 bytes in all. */
 #define PHAYAKLIT_SERVICE_WORDS 7746
 #define PHAYAKLIT_INDEX_WORDS 83779
 

@@ -15,7 +15,8 @@ use core::fmt::{self, Display, Formatter};
 /// The version of the functions and of what the blocks hold, as this module knows them; `version` is the archive's.
 pub const VERSION: u32 = 3;
 
-/// The sizes of the two blocks, in words.
+/// The sizes of the two blocks, in words. In an index each link, its absence included, is a word: those to parent, left sibling,
+/// last child and next in chain take 8,192 bytes in all.
 pub const SERVICE_WORDS: usize = 7746;
 pub const INDEX_WORDS: usize = 83_779;
 

@@ -1,12 +1,14 @@
--- What the crate is for: the listing and the comparisons, shown once for any two days h and l, and cited for day, span and cover.
--- Assumes nothing.
+-- What the crate is for: the listing and the comparisons, shown once for any two days h and l, and cited for day, span and cover; and the
+-- links that publish stores. Assumes nothing.
 use Rattle.basis.proofs.Prelude.{_≡_, _*_, _<_, _≤_, ℕ, List, [], length}
 use Rattle.stabbing.specs.Tree.{keep, dayAt, fitsAt, start, formula}
 use Rattle.stabbing.specs.Walk.{walk}
 use Rattle.stabbing.specs.Stored.{Sorted, latest, spanStart}
+use Rattle.stabbing.specs.Index.{Built}
 use Rattle.stabbing.proofs.Walk as Walk
 use Rattle.stabbing.proofs.Starts as Starts
 use Rattle.stabbing.proofs.Listing.{Lists, lists}
+use Rattle.stabbing.proofs.StoredLinks.{StoredLinks, stored-links}
 
 module _ (fs ls : List ℕ) (sorted : Sorted fs ls) where
   -- what the walk from the start of "first ≤ h, last ≥ l" finds
@@ -48,3 +50,7 @@ module _ (fs ls : List ℕ) (sorted : Sorted fs ls) where
 
   pub cover-start : (p : ℕ) → p < length fs → start fs ls (dayAt fs p) (dayAt ls p) ≡ latest fs ls (dayAt fs p)
   cover-start = Starts.cover-latest fs ls sorted
+
+-- THE LINKS as publish stores them: each the definition's mark, or 0 for none, in 8,192 bytes
+pub links-stored : (ix : List ℕ) → Built ix → StoredLinks ix
+links-stored = stored-links

@@ -9,4 +9,6 @@ pub mod Wording
 pub mod Listing
 pub mod Claims
 pub mod Columns
+pub mod Marking
 pub mod Block
+pub mod StoredLinks

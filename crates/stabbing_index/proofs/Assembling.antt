@@ -1,17 +1,17 @@
 -- What the builder lays is the block of the definition: column by column, and then the whole. Assumes nothing.
-use Rattle.basis.proofs.Prelude.{_∙_, _≡_, ap, refl, sym, _+_, _-_, _<_, _≤_, suc, zero, zero-le, ℕ, List, [], _++_, _∷_, append-assoc, Bool, false, true, eqb, ltb, getD, length, length-append, length-set, set, take, getD-append-add, getD-take, length-take-le, take-all, take-suc-set, arith, le-leb, le-ltb, lt-leb, ltb-true, by-test}
-use Rattle.stabbing.specs.Tree.{dayAt, head, parent, child, leftSibling, lastChild, next, start}
+use Rattle.basis.proofs.Prelude.{_∙_, _≡_, ap, refl, sym, _+_, _-_, _<_, _≤_, suc, zero, ℕ, List, [], _++_, _∷_, append-assoc, Bool, false, true, eqb, getD, length, length-append, length-set, set, take, getD-append-add, getD-take, length-take-le, take-all, take-suc-set, arith, le-leb, lt-leb}
+use Rattle.stabbing.specs.Tree.{dayAt, parent, child, leftSibling, lastChild, next, start}
 use Rattle.stabbing.specs.Stored.{latest}
 use Rattle.stabbing.specs.Index.{capacity, dayCount, numberCount, firstColumn, lastColumn, parentColumn, leftColumn, childColumn, nextColumn, startTable, latestTable, numberTable, rowCount, indexLength, rowsOk, column, lastOf, headLink, rowLink, named, laid, blockOf}
 use Rattle.stabbing.proofs.Marks.{below-ext}
-use Rattle.stabbing.proofs.Links.{child-is, left-is, next-le}
+use Rattle.stabbing.proofs.Marking.{head-link, head-past, row-past, left-small, child-small, next-small}
 use Rattle.stabbing.proofs.Columns.{column-at, column-length, column-only}
 use Rattle.stabbing_index.specs.Build.{Builds}
 use Rattle.stabbing_index.specs.Contracts.{Columns, ColumnsOf, FilledTo, LinkedOf, ChainedOf, Dayed, DaysAsks, Extends, nameWord, MarksIn, markWords, BlankFrom, beside, linkWords, dayWords, RowsOf}
 use Rattle.stabbing_index.proofs.Laying.{laid-more, column-ext}
 use Rattle.stabbing_index.proofs.Links.{held-at}
 use Rattle.stabbing_index.proofs.Chains.{same-last}
-use Rattle.stabbing.proofs.Block.{head-link, rows-sorted, rows-days}
+use Rattle.stabbing.proofs.Block.{rows-sorted, rows-days}
 
 -- a word of a column that is laid
 laid-at : {e x : List ℕ} {a b : ℕ} (size : ℕ) (f : ℕ → ℕ) → Extends e a b (column size f) x → b ≡ a + size → b ≤ length e → (j : ℕ) → j < size → getD x (a + j) 0 ≡ f j
@@ -50,38 +50,23 @@ rows-laid {a = a} xs n h g i j =
 
 -- ---- the columns of links
 module _ {xs ys fs ls : List ℕ} {n : ℕ} (q : Columns xs ys fs ls n) where
-  -- every link is the mark of a row, and there is none past the rows
-  head-past : (link : ℕ → ℕ) (p : ℕ) → n ≤ p → headLink fs ls link p ≡ 0
-  head-past link p h = rw (le-ltb p (length fs) (omega (arith, q .count)))
-
-  next-past : (p : ℕ) → suc n ≤ p → rowLink fs ls (next fs ls) p ≡ 0
-  next-past p h = rw (le-ltb p (length fs) (omega (arith, q .count)))
-
-  head-small : (link : ℕ → ℕ) → ((v : ℕ) → v < n → link v ≤ n) → (p : ℕ) → headLink fs ls link p ≤ n
-  head-small link f p = by-test (ltb p (length fs))
-      (λ e. rw e (by-test (head fs ls p) (λ h. rw h (f p (omega (arith, ltb-true p (length fs) e, q .count)))) (λ h. rw h zero-le)))
-      (λ e. rw e zero-le)
-
-  left-small : (p : ℕ) → headLink fs ls (leftSibling fs ls) p ≤ n
-  left-small = head-small (leftSibling fs ls) (λ v h. rw (left-is fs ls v) (omega (arith, child-is fs ls (parent fs ls v) v .within)))
-
-  child-small : (p : ℕ) → headLink fs ls (lastChild fs ls) p ≤ n
-  unfolding lastChild
-  child-small = head-small (lastChild fs ls) (λ v h. omega (arith, child-is fs ls (suc v) (length fs) .within, q .count))
-
-  next-small : (p : ℕ) → rowLink fs ls (next fs ls) p ≤ n
-  next-small p = by-test (ltb p (length fs)) (λ e. rw e (omega (arith, next-le fs ls p, ltb-true p (length fs) e, q .count))) (λ e. rw e zero-le)
-
   -- a column of marks, and the last days beside it
-  module _ {ws : List ℕ} {f : ℕ → ℕ} {k : ℕ} (w : FilledTo ws f k) (past : (p : ℕ) → k ≤ p → f p ≡ 0) (small : (p : ℕ) → f p ≤ n) where
+  module _ {ws : List ℕ} {f : ℕ → ℕ} {k : ℕ} (w : FilledTo ws f k) (past : (p : ℕ) → k ≤ p → f p ≡ 0) (small : (p : ℕ) → f p ≤ length fs) where
     marked : MarksIn ws
-    marked = record { small = λ p g. omega (arith, held-at w past p, small p, q .few) }
+    marked = record { small = λ p g. omega (arith, held-at w past p, small p, q .count, q .few) }
 
     marks-laid : {e x : List ℕ} {a b : ℕ} → Extends e a b (markWords ys ws) x → Extends e a b (beside ls f) x
     marks-laid i = rw (
-      column-ext capacity (λ p. lastOf ys (getD ws p 0)) (λ p. lastOf ls (f p)) (λ p _. ap (lastOf ys) (held-at w past p) ∙ same-last (f p) q (small p)),
+      column-ext capacity (λ p. lastOf ys (getD ws p 0)) (λ p. lastOf ls (f p)) (λ p _. ap (lastOf ys) (held-at w past p) ∙ same-last (f p) q (omega (arith, small p, q .count))),
       column-only capacity f ws (w .size) (λ p _. held-at w past p),
     ) at i
+
+  -- there is no link past the rows
+  past-heads : (link : ℕ → ℕ) (p : ℕ) → n ≤ p → headLink fs ls link p ≡ 0
+  past-heads link p h = head-past fs ls link p (omega (arith, q .count))
+
+  past-rows : (p : ℕ) → suc n ≤ p → rowLink fs ls (next fs ls) p ≡ 0
+  past-rows p h = row-past fs ls (next fs ls) p (omega (arith, q .count))
 
   last-children : {cs : List ℕ} → FilledTo cs (headLink fs ls (λ v. child fs ls (suc v) n)) n → FilledTo cs (headLink fs ls (lastChild fs ls)) n
   unfolding lastChild
@@ -112,13 +97,13 @@ module _ {xs ys ps qs cs ns : List ℕ} {n : ℕ} (q : ColumnsOf xs ys n) (found
   ls = take n ys
 
   pub left-marks : MarksIn qs
-  left-marks = marked q (found .0 .lefts) (head-past q (leftSibling fs ls)) (left-small q)
+  left-marks = marked q (found .0 .lefts) (past-heads q (leftSibling fs ls)) (left-small fs ls)
 
   pub child-marks : MarksIn cs
-  child-marks = marked q (last-children q (found .0 .children)) (head-past q (lastChild fs ls)) (child-small q)
+  child-marks = marked q (last-children q (found .0 .children)) (past-heads q (lastChild fs ls)) (child-small fs ls)
 
   pub next-marks : MarksIn ns
-  next-marks = marked q (found .1) (next-past q) (next-small q)
+  next-marks = marked q (found .1) (past-rows q) (next-small fs ls)
 
   pub days-asked : RowsOf xs ys n → DaysAsks xs ys n ps
   days-asked rows = record {
@@ -133,10 +118,10 @@ module _ {xs ys ps qs cs ns : List ℕ} {n : ℕ} (q : ColumnsOf xs ys n) (found
   unfolding linkWords
   tree-laid parents left child chain days =
       laid-more (laid-more (laid-more (laid-more
-      (laid-column capacity (headLink fs ls (parent fs ls)) (found .0 .parents .size) (λ p _. held-at (found .0 .parents) (head-past q (parent fs ls)) p) parents)
-      (marks-laid q (found .0 .lefts) (head-past q (leftSibling fs ls)) (left-small q) left))
-      (marks-laid q (last-children q (found .0 .children)) (head-past q (lastChild fs ls)) (child-small q) child))
-      (marks-laid q (found .1) (next-past q) (next-small q) chain))
+      (laid-column capacity (headLink fs ls (parent fs ls)) (found .0 .parents .size) (λ p _. held-at (found .0 .parents) (past-heads q (parent fs ls)) p) parents)
+      (marks-laid q (found .0 .lefts) (past-heads q (leftSibling fs ls)) (left-small fs ls) left))
+      (marks-laid q (last-children q (found .0 .children)) (past-heads q (lastChild fs ls)) (child-small fs ls) child))
+      (marks-laid q (found .1) (past-rows q) (next-small fs ls) chain))
       days
 
 -- ---- the whole block

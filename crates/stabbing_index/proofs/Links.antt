@@ -6,7 +6,7 @@ use Rattle.stabbing.specs.Stored.{nearest}
 use Rattle.stabbing.specs.Index.{headLink, rowLink}
 use Rattle.stabbing.specs.Contracts.{Head, bottom}
 use Rattle.stabbing.proofs.Marks.{below-hit, below-miss}
-use Rattle.stabbing.proofs.Block.{head-link}
+use Rattle.stabbing.proofs.Marking.{head-link}
 use Rattle.stabbing.proofs.Links.{bottom-is, parent-is, child-is, left-is, head-false, next-none, next-some}
 use Rattle.stabbing_index.proofs.Parents.{parent-nearest, left-passed, child-next, child-same}
 use Rattle.stabbing_index.specs.Contracts.{passed, Columns, FilledTo, Linked, Chained, headAt, ClimbAt, Climbed, HeadAt}

@@ -1,0 +1,89 @@
+-- The links of any index that publish leaves, as they are stored: a word of 16 bits each. Assumes nothing.
+use Rattle.basis.proofs.Prelude.{_∙_, _≡_, ap, _*_, _+_, _<_, _≤_, ℕ, List, _++_, false, true, drop, getD, length, length-append, length-drop, take, length-take-le, arith}
+use Rattle.stabbing.specs.Tree.{head, parent, leftSibling, lastChild, next}
+use Rattle.stabbing.specs.Index.{capacity, parentColumn, leftColumn, childColumn, nextColumn, headLink, rowLink, blockOf, rows, numbers, firsts, lasts, Built}
+use Rattle.stabbing.proofs.Marking.{row-link, head-link, head-none, head-past, row-past, parent-small, left-small, child-small, next-small}
+use Rattle.stabbing.proofs.Block.{parent-word, left-word, child-word, next-word, built-length, fs-rows}
+
+-- A column of links of heads: at a head the definition's mark, which is 0 where it has none; 0 at a row that is no head, and past the rows;
+-- every mark at most 1,024
+pub record HeadLinks (ix : List ℕ) (base : ℕ) (link : ℕ → ℕ) : Type 0 where
+  pub heads : (p : ℕ) → p < rows ix → head (firsts ix) (lasts ix) p ≡ true → getD ix (p + base) 0 ≡ link p
+  pub others : (p : ℕ) → p < rows ix → head (firsts ix) (lasts ix) p ≡ false → getD ix (p + base) 0 ≡ 0
+  pub past : (p : ℕ) → rows ix ≤ p → p < capacity → getD ix (p + base) 0 ≡ 0
+  pub marks : (p : ℕ) → p < capacity → getD ix (p + base) 0 ≤ capacity
+
+-- one of links of rows: of every row the definition's mark
+pub record RowLinks (ix : List ℕ) (base : ℕ) (link : ℕ → ℕ) : Type 0 where
+  pub all : (p : ℕ) → p < rows ix → getD ix (p + base) 0 ≡ link p
+  pub past : (p : ℕ) → rows ix ≤ p → p < capacity → getD ix (p + base) 0 ≡ 0
+  pub marks : (p : ℕ) → p < capacity → getD ix (p + base) 0 ≤ capacity
+
+-- the words of a column, and of the four
+abbrev pub columnOf : List ℕ → ℕ → List ℕ
+columnOf ix base = take capacity (drop base ix)
+
+abbrev pub linksOf : List ℕ → List ℕ
+linksOf ix = columnOf ix parentColumn ++ columnOf ix leftColumn ++ columnOf ix childColumn ++ columnOf ix nextColumn
+
+pub record StoredLinks (ix : List ℕ) : Type 0 where
+  pub parents : HeadLinks ix parentColumn (parent (firsts ix) (lasts ix))
+  pub lefts : HeadLinks ix leftColumn (leftSibling (firsts ix) (lasts ix))
+  pub children : HeadLinks ix childColumn (lastChild (firsts ix) (lasts ix))
+  pub nexts : RowLinks ix nextColumn (next (firsts ix) (lasts ix))
+  -- 4,096 words of two bytes
+  pub words : length (linksOf ix) ≡ 4096
+  pub bytes : 2 * length (linksOf ix) ≡ 8192
+
+four-long : (a b c d : List ℕ) → length a ≡ capacity → length b ≡ capacity → length c ≡ capacity → length d ≡ capacity → length (a ++ b ++ c ++ d) ≡ 4096
+four-long a b c d ea eb ec ed = length-append (a ++ b ++ c) d ∙ omega (arith, length-append (a ++ b) c, length-append a b)
+
+module _ (ix : List ℕ) (b : Built ix) where
+  abbrev js : List ℕ
+  js = firsts ix
+
+  abbrev es : List ℕ
+  es = lasts ix
+
+  few : length js ≤ capacity
+  few = omega (arith, fs-rows ix b, b .few)
+
+  -- the words of a column of these rows' block are the index's
+  module _ (base : ℕ) (f : ℕ → ℕ) (word : (p : ℕ) → p < capacity → getD (blockOf (numbers ix) js es) (p + base) 0 ≡ f p) (small : (p : ℕ) → f p ≤ length js) where
+    here : (p : ℕ) → p < capacity → getD ix (p + base) 0 ≡ f p
+    here p h = ap (λ (x : List ℕ). getD x (p + base) 0) (b .block) ∙ word p h
+
+    inside : (p : ℕ) → p < capacity → getD ix (p + base) 0 ≤ capacity
+    inside p h = omega (arith, here p h, small p, few)
+
+  head-links : (base : ℕ) (link : ℕ → ℕ) → ((p : ℕ) → p < capacity → getD (blockOf (numbers ix) js es) (p + base) 0 ≡ headLink js es link p) → ((p : ℕ) → headLink js es link p ≤ length js) → HeadLinks ix base link
+  head-links base link word small = record {
+    heads = λ p h hp. here base (headLink js es link) word small p (omega (arith, b .few)) ∙ head-link js es link p (omega (arith, fs-rows ix b)) hp;
+    others = λ p h hp. here base (headLink js es link) word small p (omega (arith, b .few)) ∙ head-none js es link p (omega (arith, fs-rows ix b)) hp;
+    past = λ p h g. here base (headLink js es link) word small p g ∙ head-past js es link p (omega (arith, fs-rows ix b));
+    marks = inside base (headLink js es link) word small;
+  }
+
+  row-links : (base : ℕ) (link : ℕ → ℕ) → ((p : ℕ) → p < capacity → getD (blockOf (numbers ix) js es) (p + base) 0 ≡ rowLink js es link p) → ((p : ℕ) → rowLink js es link p ≤ length js) → RowLinks ix base link
+  row-links base link word small = record {
+    all = λ p h. here base (rowLink js es link) word small p (omega (arith, b .few)) ∙ row-link js es link p (omega (arith, fs-rows ix b));
+    past = λ p h g. here base (rowLink js es link) word small p g ∙ row-past js es link p (omega (arith, fs-rows ix b));
+    marks = inside base (rowLink js es link) word small;
+  }
+
+  column-long : (base : ℕ) → base ≤ nextColumn → length (columnOf ix base) ≡ capacity
+  column-long base h = length-take-le capacity (drop base ix) (omega (arith, length-drop base ix, built-length ix b))
+
+  links-long : length (linksOf ix) ≡ 4096
+  links-long = four-long (columnOf ix parentColumn) (columnOf ix leftColumn) (columnOf ix childColumn) (columnOf ix nextColumn)
+      (column-long parentColumn (omega arith)) (column-long leftColumn (omega arith)) (column-long childColumn (omega arith)) (column-long nextColumn (omega arith))
+
+  pub stored-links : StoredLinks ix
+  stored-links = record {
+    parents = head-links parentColumn (parent js es) (parent-word (numbers ix) js es few) (parent-small js es);
+    lefts = head-links leftColumn (leftSibling js es) (left-word (numbers ix) js es few) (left-small js es);
+    children = head-links childColumn (lastChild js es) (child-word (numbers ix) js es few) (child-small js es);
+    nexts = row-links nextColumn (next js es) (next-word (numbers ix) js es few) (next-small js es);
+    words = links-long;
+    bytes = ap (λ (n : ℕ). 2 * n) links-long;
+  }
