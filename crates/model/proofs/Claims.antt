@@ -1,7 +1,8 @@
 -- What is claimed of every call of the account, each claim a citation. Assumes nothing.
-use Rattle.basis.proofs.Prelude.{_≡_, refl, _*_, _≤_, ℕ, List, List·Memᴰ, _++_, Bool, true, _↔_, _⊎_, inl, inr, drop, length, arith}
+use Rattle.basis.proofs.Prelude.{_≡_, refl, _*_, _≤_, ℕ, List, List·Memᴰ, _∷_, _++_, Bool, true, _↔_, _⊎_, inl, inr, drop, length, arith}
 use Rattle.model.proofs.Names.{accepted, Spell, listedBefore, orderedBy, answer-order, distinct, ticks, in-sheet, Publish, Ask, Day, Span, Cover, Days, Mask, onDay, onSpan, covers, onAny, filter, listed, comparisonsOf, After, Effect, refused, done, gives, writes, refuse, gave, settle, several, ask, effectOf, stepOf, step, reads}
 use Rattle.model.specs.Effects.{State, Request, Answer}
+use Rattle.spell.proofs.Order.{comes-before, twins-rise}
 use Rattle.model.proofs.Effects.{Comes, settles, Refusing, call-does, reads-every, every, day-does, span-does, cover-does, several-does}
 use Rattle.model.proofs.Filter.{filter-in, in-filter, filter-ordered, filter-distinct}
 use Rattle.model.proofs.Bridge.{comparisons-le}
@@ -134,6 +135,11 @@ module _ (t : Spell → Bool) (p : List Spell) where
   -- in the order; the published list is in the order and has unique numbers in every state that calls lead to (`Runs.antt`)
   pub listed-ordered : orderedBy listedBefore p ≡ true → orderedBy listedBefore (filter t p) ≡ true
   listed-ordered = filter-ordered t answer-order p
+
+  -- of two listed spells with equal published days the one with the lower candidate number comes first
+  pub twins-by-candidate : orderedBy listedBefore p ≡ true → (before after : List Spell) (a b : Spell) → filter t p ≡ before ++ a ∷ after → List·Memᴰ b after
+      → a .first ≡ b .first → a .last ≡ b .last → a .candidate ≤ b .candidate
+  twins-by-candidate sorted before after a b e i f l = twins-rise a b f l (comes-before answer-order before after a b (rw e at (listed-ordered sorted)) i)
 
   -- each number once
   pub listed-once : distinct p ≡ true → distinct (filter t p) ≡ true

@@ -10,7 +10,7 @@ use Rattle.register.specs.Text.{Register, good, bad, readText, writeAll}
 use Rattle.register.specs.Answers.{readingOf, Writes}
 use Rattle.stabbing.specs.Index.{rowsAfter}
 use Rattle.stabbing_index.specs.Build.{publishable, Builds}
-use Rattle.publishing.specs.Rows.{arrangedColumn}
+use Rattle.publishing.specs.Rows.{arrangedColumn, Lays}
 use Rattle.standing.specs.declared.Standing.{Standing}
 use Rattle.standing.specs.Places.{loadedOf}
 use Rattle.standing_list.specs.List.{columnOf, LaidOut}
@@ -32,7 +32,7 @@ use Rattle.service.specs.Places.{serviceOf}
 use Rattle.service.specs.Outcomes.{toldOf, wroteOf}
 use Rattle.service.specs.Service.{Blocks, blocks, indexOf, Valid, Represents, Given, asking, keeping, Met, Publishes, Wrote, Begins}
 use Rattle.service.proofs.Publishing.{rows-ok}
-use Rattle.service.proofs.Arranged.{Holds, holds, short-days, column-is}
+use Rattle.service.proofs.Arranged.{Holds, holds, short-rows, column-is}
 
 -- ---- Nothing is published
 
@@ -82,8 +82,8 @@ begins-read text got st ix r l e =
 laid-take : (f : Spell → ℕ) (l : List Spell) (before after : List ℕ) (n : ℕ) → n ≡ length l → after ≡ columnOf f l before → take n after ≡ map f l
 laid-take f l before after n e a = rw (a, e) (take-at (map f l) (drop (length (map f l)) before) (length l) (length-map l f))
 
-module _ (st : Standing) (w : Wf st) (rule : ℕ) {n : ℕ} {ns fs ls ns′ fs′ ls′ : List ℕ} (laid : LaidOut (map (cut rule) (listOf st)) n ns fs ls ns′ fs′ ls′)
-    {ix ix′ : List ℕ} {r : Bool} (b : Builds (arrangedColumn ns′ fs′ ls′ n ns′) (arrangedColumn ns′ fs′ ls′ n fs′) (arrangedColumn ns′ fs′ ls′ n ls′) n ix r ix′) where
+module _ (st : Standing) (w : Wf st) (rule : ℕ) {n : ℕ} {ns cs fs ls ns′ cs′ fs′ ls′ : List ℕ} (laid : LaidOut (map (cut rule) (listOf st)) n ns cs fs ls ns′ cs′ fs′ ls′)
+    {ix ix′ : List ℕ} {r : Bool} (b : Lays ns′ cs′ fs′ ls′ n ix r ix′) where
   -- the spells with the rule's days
   abbrev l : List Spell
   l = map (cut rule) (listOf st)
@@ -95,13 +95,13 @@ module _ (st : Standing) (w : Wf st) (rule : ℕ) {n : ℕ} {ns fs ls ns′ fs�
   held f before {after} e = holds f l after (laid-take f l before after (length l) refl e)
 
   -- a column of the rows, in the order, is one of the published list
-  column : (f : Spell → ℕ) (before : List ℕ) {after : List ℕ} → after ≡ columnOf f l before → take n (arrangedColumn ns′ fs′ ls′ n after) ≡ map f (publishedOf rule (listOf st))
+  column : (f : Spell → ℕ) (before : List ℕ) {after : List ℕ} → after ≡ columnOf f l before → take n (arrangedColumn ns′ cs′ fs′ ls′ n after) ≡ map f (publishedOf rule (listOf st))
   unfolding publishedOf
   column f before {after} e =
-      let is = column-is l (distinct-cut rule (listOf st) ∙ w .good .unique) (short-days l (each-cut rule cut-sound (listOf st) (w .good .each))) ns′ fs′ ls′ (held (λ s. s .number) ns (laid .number)) (held (λ s. s .first) fs (laid .first)) (held (λ s. s .last) ls (laid .last)) f after (held f before e) in
+      let is = column-is l (distinct-cut rule (listOf st) ∙ w .good .unique) (short-rows l (each-cut rule cut-sound (listOf st) (w .good .each))) ns′ cs′ fs′ ls′ (held (λ s. s .number) ns (laid .number)) (held (λ s. s .candidate) cs (laid .candidate)) (held (λ s. s .first) fs (laid .first)) (held (λ s. s .last) ls (laid .last)) f after (held f before e) in
       rw (laid .count, is) (take-all (length l) (map f (publishedOf rule (listOf st))) (omega (arith, length-map (publishedOf rule (listOf st)) f, published-length rule (listOf st), length-map (listOf st) (cut rule))))
 
-  right : publishable (arrangedColumn ns′ fs′ ls′ n fs′) (arrangedColumn ns′ fs′ ls′ n ls′) n ≡ true
+  right : publishable (arrangedColumn ns′ cs′ fs′ ls′ n fs′) (arrangedColumn ns′ cs′ fs′ ls′ n ls′) n ≡ true
   right = rw (column (λ s. s .first) fs (laid .first), column (λ s. s .last) ls (laid .last), le-leb n 1024 (omega (arith, laid .count, few))) (rows-ok (publishedOf rule (listOf st)) (published-orderly rule Sound cut-sound (listOf st) (w .good)))
 
   pub indexed : ix′ ≡ indexOf (publishedOf rule (listOf st))

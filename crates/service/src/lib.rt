@@ -198,10 +198,11 @@ fn lay(standing: Standing, rule: u16, index: &mut [u16; INDEX])
     ensures { λ _. ⌜ now (index .exit) ≡ indexOf (publishedOf rule (listOf standing)) ⌝ }
 {
     let mut number = [0u16; 1024];
+    let mut candidate = [0u16; 1024];
     let mut first = [0u16; 1024];
     let mut last = [0u16; 1024];
-    let n = standing::columns(standing, rule, &mut number, &mut first, &mut last);
-    publishing::lay(&number, &first, &last, n, index);
+    let n = standing::columns(standing, rule, &mut number, &mut candidate, &mut first, &mut last);
+    publishing::lay(&number, &candidate, &first, &last, n, index);
 }
 
 // The published list becomes the standing list with the rule's days. The index may hold anything beforehand. Check: 14.

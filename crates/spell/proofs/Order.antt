@@ -59,7 +59,7 @@ text-order = by-keys ((λ s. s .first) ∷ (λ s. s .last) ∷ [])
 
 pub answer-order : StrictOrder listedBefore
 unfolding listedBefore
-answer-order = by-keys ((λ s. s .first) ∷ (λ s. s .last) ∷ [])
+answer-order = by-keys ((λ s. s .first) ∷ (λ s. s .last) ∷ (λ s. s .candidate) ∷ [])
 
 -- of two spells one after the other by keys that begin with the days, the earlier begins earlier, or on the same day and lasts no longer
 days-rise : (ks : List (Spell → ℕ)) (a b : Spell) → lexical ((λ s. s .first) ∷ (λ s. s .last) ∷ ks) a b ≡ true
@@ -71,7 +71,14 @@ days-rise ks a b h =
 
 pub listed-days : (a b : Spell) → listedBefore a b ≡ true → (a .first < b .first) ⊎ ((a .first ≡ b .first) × (a .last ≤ b .last))
 unfolding listedBefore
-listed-days = days-rise ((λ s. s .number) ∷ [])
+listed-days = days-rise ((λ s. s .candidate) ∷ (λ s. s .number) ∷ [])
+
+-- of two with equal days that which comes first has no higher candidate number
+pub twins-rise : (a b : Spell) → a .first ≡ b .first → a .last ≡ b .last → listedBefore a b ≡ true → a .candidate ≤ b .candidate
+unfolding listedBefore lexical
+twins-rise a b f l h =
+    let k = key-says (a .first) (b .first) _ h .1 f in
+    key-says (a .candidate) (b .candidate) _ (key-says (a .last) (b .last) _ k .1 l) .0
 
 -- ---- Each spell of a list
 
@@ -113,6 +120,11 @@ module _ {t : Spell → Spell → Bool} (o : StrictOrder t) where
 
   later : (x z : Spell) (l : List Spell) → orderedBy t (x ∷ l) ≡ true → List·Memᴰ z l → t x z ≡ true
   later x z l h = each-member (λ z. t x z ≡ true) l z (ordered-first x l h)
+
+  -- a spell of the list comes before each that follows it
+  pub comes-before : (before after : List Spell) (a b : Spell) → orderedBy t (before ++ a ∷ after) ≡ true → List·Memᴰ b after → t a b ≡ true
+  comes-before [] after a b h i = later a b after h i
+  comes-before (x ∷ before) after a b h i = comes-before before after a b (ordered-tail x (before ++ a ∷ after) h) i
 
   -- two lists, each first spell a spell of the other list, begin with the same
   same-first : (x y : Spell) (l m : List Spell) → orderedBy t (x ∷ l) ≡ true → orderedBy t (y ∷ m) ≡ true

@@ -5,8 +5,7 @@ use Rattle.spell.specs.declared.Spell.{Spell}
 use Rattle.register.specs.Text.{readText}
 use Rattle.model.specs.declared.Call.the-variants.{Publish}
 use Rattle.model.specs.Effects.{settle}
-use Rattle.register.proofs.Claims.{text-again}
-use Rattle.model.proofs.Publishing.{published-standing}
+use Rattle.model.specs.Publishing.{publishedOf}
 use Rattle.model.specs.Model.{begun, refusalIn, effectOf, step}
 use Rattle.service.specs.Service.{Shows, Published, asking}
 use Rattle.replies.proofs.Sending.{sends-bytes, sends-put}
@@ -226,7 +225,7 @@ published text = step (begun (readText text)) (asking (Publish 1) [] [] []) .sta
 pub printed-of : (text : List ℕ) {ix : List ℕ} {next : ℕ} {whole : Bool} → PrintedOn ix next whole → Shows ix (published text) → PrintedOf text next whole
 unfolding begun effectOf settle
 printed-of text s shows l e =
-    let same : published text ≡ l = rw (published, e) (published-standing l (text-again text l e .1 .in-order)) in
+    let same : published text ≡ publishedOf 1 l = rw (published, e) in
     rw same at (s (published text) shows)
 
 -- a refused register has no spells to print

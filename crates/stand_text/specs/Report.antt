@@ -9,6 +9,7 @@ use lib.ListN.{length, take, drop}
 use Rattle.fields.specs.Fields.{numbersText}
 use Rattle.spell.specs.declared.Spell.{Spell}
 use Rattle.register.specs.Text.{good, readText}
+use Rattle.model.specs.Publishing.{publishedOf}
 use Rattle.model.specs.Questions.{onDay, listed, comparisonsOf}
 use Rattle.service.specs.Service.{Shows}
 use Rattle.replies.specs.Sending.{Sends}
@@ -92,6 +93,6 @@ pub record Printed (p : List Spell) (next : ℕ) (whole : Bool) : Type 0 where
 abbrev pub PrintedOn : List ℕ → ℕ → Bool → Type 0
 PrintedOn ix next whole = (p : List Spell) → Shows ix p → Printed p next whole
 
--- of the spells of a register's text, where it is not refused
+-- of the spells of a register's text, published by rule 1, where it is not refused
 abbrev pub PrintedOf : List ℕ → ℕ → Bool → Type 0
-PrintedOf text next whole = (l : List Spell) → readText text ≡ good l → Printed l next whole
+PrintedOf text next whole = (l : List Spell) → readText text ≡ good l → Printed (publishedOf 1 l) next whole

@@ -297,17 +297,18 @@ pub fn write(st: Standing, out: &mut [u8]) -> Written
 
 // ---- What publish reads
 
-// The numbers, first days and, by a rule, last days of the standing spells, in the first places of three columns; returns their count.
+// The numbers, candidates, first days and, by a rule, last days of the standing spells, in the first places of four columns; returns their count.
 pub fn columns(
     st: Standing,
     rule: u16,
     number: &mut [u16; 1024],
+    candidate: &mut [u16; 1024],
     first: &mut [u16; 1024],
     last: &mut [u16; 1024],
 ) -> usize
     requires { ⌜ Wf st ⌝ }
-    ensures { λ r. ⌜ LaidOut (map (cut rule) (listOf st)) r (now (number .entry)) (now (first .entry)) (now (last .entry)) (now (number .exit)) (now (first .exit)) (now (last .exit)) ⌝ }
+    ensures { λ r. ⌜ LaidOut (map (cut rule) (listOf st)) r (now (number .entry)) (now (candidate .entry)) (now (first .entry)) (now (last .entry)) (now (number .exit)) (now (candidate .exit)) (now (first .exit)) (now (last .exit)) ⌝ }
 {
     let spells = st.spells;
-    standing_list::columns(spells, st.count, rule, number, first, last)
+    standing_list::columns(spells, st.count, rule, number, candidate, first, last)
 }

@@ -25,9 +25,10 @@ removing p n a = over (without p (take n a)) a
 abbrev pub columnOf : (Spell → ℕ) → List Spell → List ℕ → List ℕ
 columnOf field l before = over (map field l) before
 
--- the numbers, first days and last days of the list l are laid out
-pub record LaidOut (l : List Spell) (r : ℕ) (numbers firsts lasts numbers′ firsts′ lasts′ : List ℕ) : Type 0 where
+-- the numbers, candidates, first days and last days of the list l are laid out
+pub record LaidOut (l : List Spell) (r : ℕ) (numbers candidates firsts lasts numbers′ candidates′ firsts′ lasts′ : List ℕ) : Type 0 where
   pub count : r ≡ length l
   pub number : numbers′ ≡ columnOf (λ s. s .number) l numbers
+  pub candidate : candidates′ ≡ columnOf (λ s. s .candidate) l candidates
   pub first : firsts′ ≡ columnOf (λ s. s .first) l firsts
   pub last : lasts′ ≡ columnOf (λ s. s .last) l lasts
