@@ -117,6 +117,29 @@ unfolding run settle effectOf ask enterRefusal insertBy publishedOf lastOf sorte
     filter comparisonsOf below keep count head next parent child leftSibling lastChild fitsAt start onPath formula
 rules-in-turn = refl
 
+-- ---- Document 02, W6: twins go by candidate and then by number, and under rule 2 spells are twins by their published days
+
+abbrev twins : List Request
+twins = call (Enter (spell 1 9 1 8 (Reading (ofBits binary32 0))))
+    ∷ call (Enter (spell 2 8 1 9 (Reading (ofBits binary32 0))))
+    ∷ call (Enter (spell 3 7 1 7 (Grade 1)))
+    ∷ call (Enter (spell 4 8 1 7 (Grade 1)))
+    ∷ call (Publish 1)
+    ∷ call (Ask (Day 7))
+    ∷ call (Publish 2)
+    ∷ call (Ask (Day 7))
+    ∷ []
+
+pub twins-in-turn : answers twins
+    ≡ replicate 5 (plain 0)
+    ++ ((0 ∷ 4 ∷ 3 ∷ 3 ∷ 4 ∷ 1 ∷ 2 ∷ 99 ∷ 99 ∷ [])
+    ∷ plain 0
+    ∷ (0 ∷ 4 ∷ 3 ∷ 3 ∷ 2 ∷ 4 ∷ 1 ∷ 99 ∷ 99 ∷ [])
+    ∷ [])
+unfolding run settle effectOf ask enterRefusal insertBy publishedOf lastOf sortedBy listedBefore remember earlierOf stands isNan toBits ofBits
+    filter comparisonsOf below keep count head next parent child leftSibling lastChild fitsAt start onPath formula
+twins-in-turn = refl
+
 -- ---- Refusals, each at the state that the calls before it left
 
 abbrev one : Spell

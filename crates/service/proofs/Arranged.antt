@@ -90,8 +90,8 @@ module _ (l : List Spell) (unique : distinct l ≡ true) (short : (p : ℕ) → 
   agree p q h k =
       by-major (rowKeys cs fs ls n) ns p q
       ∙ rw (key-at p h, key-at q k, by-number p q h k) (
-        pair-decides (paired (row l p .first) (row l p .last)) (row l p .candidate) (paired (row l q .first) (row l q .last)) (row l q .candidate) _ (short p h .1) (short q k .1)
-        ∙ pair-decides (row l p .first) (row l p .last) (row l q .first) (row l q .last) _ (short p h .0) (short q k .0)
+      pair-decides (paired (row l p .first) (row l p .last)) (row l p .candidate) (paired (row l q .first) (row l q .last)) (row l q .candidate) _ (short p h .1) (short q k .1)
+      ∙ pair-decides (row l p .first) (row l p .last) (row l q .first) (row l q .last) _ (short p h .0) (short q k .0)
       )
 
   rows-are : map (row l) (rowOrder ns cs fs ls n) ≡ sortedBy listedBefore l

@@ -201,7 +201,14 @@ fn lay(standing: Standing, rule: u16, index: &mut [u16; INDEX])
     let mut candidate = [0u16; 1024];
     let mut first = [0u16; 1024];
     let mut last = [0u16; 1024];
-    let n = standing::columns(standing, rule, &mut number, &mut candidate, &mut first, &mut last);
+    let n = standing::columns(
+        standing,
+        rule,
+        &mut number,
+        &mut candidate,
+        &mut first,
+        &mut last,
+    );
     publishing::lay(&number, &candidate, &first, &last, n, index);
 }
 

@@ -3,9 +3,14 @@
 use crate::call::{Refusal, Spell, Urgency};
 use crate::limits::{LARGEST_GRADE, LARGEST_READING, LAST_DAY};
 
-/// The key of the order: first day, then last day, then spell number.
+/// The key of the order of register texts and of the standing list: first day, then last day, then spell number.
 pub fn order(spell: &Spell) -> (u16, u16, u16) {
     (spell.first, spell.last, spell.number)
+}
+
+/// The key of the order of answers: where the days are equal, the candidate, and the spell number only after that.
+pub fn answer_order(spell: &Spell) -> (u16, u16, u16, u16) {
+    (spell.first, spell.last, spell.candidate, spell.number)
 }
 
 pub fn find(spells: &[Spell], number: u16) -> Option<&Spell> {

@@ -2,7 +2,7 @@
 
 use crate::account::Answered;
 use crate::call::{Answer, Question, Refusal, Spell, Urgency};
-use crate::entry::{check, check_day, find, order};
+use crate::entry::{answer_order, check, check_day, find};
 use crate::tree::Tree;
 use std::cell::OnceCell;
 
@@ -17,7 +17,7 @@ pub struct Published {
 impl Published {
     pub fn of(standing: &[Spell], rule: u16) -> Published {
         let mut spells: Vec<Spell> = standing.iter().map(|spell| published_by(rule, spell)).collect();
-        spells.sort_by_key(order);
+        spells.sort_by_key(answer_order);
         Published { spells, tree: OnceCell::new() }
     }
 

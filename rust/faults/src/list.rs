@@ -80,7 +80,19 @@ pub const FAULTS: &[Fault] = faults! {
             let last = if rule == 2 { spell.last.min(spell.first + 6) } else { spell.last };
             Spell { last, ..*spell }";
     BOTH published "spells that are cut keep their old places":
-        "spells.sort_by_key(order)" => "spells.sort_by_key(|_| 0)";
+        "spells.sort_by_key(answer_order)" => "spells.sort_by_key(|_| 0)";
+    BOTH published "twins go by number":
+        "spells.sort_by_key(answer_order)" => "spells.sort_by_key(crate::entry::order)";
+    BOTH published "twins of one candidate go by falling numbers":
+        "spells.sort_by_key(answer_order)"
+        => "spells.sort_by_key(|spell| (spell.first, spell.last, spell.candidate, u16::MAX - spell.number))";
+    BOTH published "the candidate comes before the last day":
+        "spells.sort_by_key(answer_order)"
+        => "spells.sort_by_key(|spell| (spell.first, spell.candidate, spell.last, spell.number))";
+    BOTH published "spells are twins by the days as entered":
+        "spells.sort_by_key(answer_order)" => r"
+            let entered = |spell: &Spell| crate::entry::find(standing, spell.number).map(answer_order);
+            spells.sort_by_key(entered)";
     BOTH account "taking back leaves the past as it is":
         "self.past.remove(0)" => "self.past[0].clone()";
     BOTH account "one spell less may stand":

@@ -55,8 +55,10 @@ impl Generator {
         }
     }
 
+    /// A spell of any candidate, or of one of three, so that there are twins of one candidate and of several.
     pub(crate) fn spell_on(&mut self, number: u16, first: u16, last: u16) -> Spell {
-        let candidate = self.rng.range(1, 65_535) as u16;
+        let most = self.rng.pick(&[3, 65_535]);
+        let candidate = self.rng.range(1, most) as u16;
         Spell { number: number.max(1), candidate, first, last, urgency: self.good_urgency() }
     }
 

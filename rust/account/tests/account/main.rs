@@ -5,6 +5,7 @@ mod examples;
 mod masks;
 mod rules;
 mod texts;
+mod twins;
 mod wire;
 
 use account::account::Account;
