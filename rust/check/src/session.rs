@@ -65,6 +65,15 @@ fn rules() -> Lines {
     .concat()
 }
 
+/// Spells with equal days, some of them under rule 2 alone, of several candidates.
+fn twins() -> Lines {
+    lines(
+        "read 0, enter 41 9 5 9 G 1, enter 42 8 5 9 G 1, enter 43 8 5 9 G 1, enter 44 9 5 20 C 00000000, \
+        enter 45 7 5 30 C 00000000, enter 46 7 6 20 G 2, publish 1, day 7, span 5 30, cover 42, days 6 25, write, publish 2, \
+        day 7, span 5 30, cover 44, days 6 25, amend 41 7 5 9 G 1, publish 1, day 7, write",
+    )
+}
+
 fn malformed() -> Lines {
     let ended = |line: &[u8]| [line, b"\n"].concat();
     let short = MALFORMED.split(|&byte| byte == b'|').map(ended);
@@ -148,6 +157,7 @@ pub fn conversation() -> Conversation {
         checks(),
         questions(),
         rules(),
+        twins(),
         malformed(),
         too_long(),
         taking_back(),
