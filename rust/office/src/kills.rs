@@ -47,15 +47,19 @@ pub fn check(program: &Program, kills: usize, seed: u64) -> Result<String, Strin
         });
         // the connection may end while they are sent
         let _ = client.send(&requests);
-        let mut answered = 0;
-        while let Ok(Some(answer)) = client.answer() {
+        let (mut answered, mut wrong) = (0, None);
+        while let (None, Ok(Some(answer))) = (&wrong, client.answer()) {
             let expected = known.step(&calls[answered]);
             if answer != expected {
-                return Err(format!("kill {kill}: {} for {}", bytes(&answer), bytes(&expected)));
+                wrong = Some(format!("kill {kill}: {} for {}", bytes(&answer), bytes(&expected)));
             }
             answered += 1;
         }
+        // a difference is told after the service has ended, so that none is left behind
         killed.join().map_err(|_| "the killer failed".to_string())??;
+        if let Some(wrong) = wrong {
+            return Err(wrong);
+        }
         unanswered += calls.len() - answered;
         known = found(program, &place, known, &calls[answered..]).map_err(|why| format!("kill {kill}: {why}"))?;
     }
