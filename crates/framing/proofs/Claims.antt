@@ -44,6 +44,6 @@ stream-fresh s r c = spoken-fresh s c ∙ ap (converse opening) (heard-stream r)
 
 -- begun on a text of n bytes, whose answer comes first
 pub stream-begun : {bs : Blocks} {line payload piece : List ℕ} {pieces : List (List ℕ)} {qs : List Sent} {replies : List (List ℕ)} (n : ℕ) (text out out′ : List ℕ) (x : Answered)
-    → Restarted 65536 n text out x bs out′ → Heard opened line payload piece 0 pieces qs → Spoken (x .service) bs (x .room) qs replies
+    → Restarted (roomOf 65536) n text out x bs out′ → Heard opened line payload piece 0 pieces qs → Spoken (x .service) bs (x .room) qs replies
     → (drop (x .place) out′ ∷ replies) ≡ converseOn n text (cut (flatten (piece ∷ pieces)))
 stream-begun n text out out′ x d r c = spoken-begun n text out out′ x d c ∙ ap (λ (qs : List Sent). converseOn n text qs) (heard-stream r)

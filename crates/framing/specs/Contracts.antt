@@ -1,10 +1,9 @@
 -- The contracts of the private functions. Assumes nothing.
 use Prim.Native.Nat.{ℕ, _≤_}
 use mathlib.Core.Path.{_≡_}
-use mathlib.Core.Bool.{cond}
 use mathlib.Core.List.{List, []}
-use lib.Dec.{leb}
 use lib.ListN.{length, take, drop}
+pub use Rattle.wire.specs.Contracts.{least}
 use Rattle.framing.specs.declared.Framed.{Framed}
 use Rattle.framing.specs.declared.Taken.{Taken}
 use Rattle.framing.specs.declared.Taken.the-variants.{Whole as LineWhole, Part as LinePart}
@@ -43,7 +42,3 @@ pub record TakesText (n m wanted : ℕ) (arrived : List ℕ) (from : ℕ) (paylo
   pub within : Within r (length arrived)
   pub line : lineIn r ≡ n
   pub rest : Kept (textIn r) payload payload′
-
--- the less of two numbers
-abbrev pub least : ℕ → ℕ → ℕ
-least a b = cond (leb a b) a b

@@ -1,102 +1,127 @@
 -- A request carried out on the service of a host's words is carried out on the words. Assumes nothing.
-use Rattle.basis.proofs.Prelude.{_∙_, _≡_, ap, refl, sym, _<_, _≤_, ℕ, List, [], _++_, drop, length, drop-at, arith, le-leb, lt-leb}
+use Rattle.basis.proofs.Prelude.{_∙_, _≡_, ap, refl, sym, _<_, _≤_, ℕ, List, Bool, cond, false, true, leb, length, arith, le-leb, lt-leb}
 use Rattle.buffer.specs.Buffer.{over}
 use Rattle.model.specs.Model.{State}
 use Rattle.model.specs.Journal.{journal}
 use Rattle.requests.specs.declared.Request.{Request}
-use Rattle.requests.specs.Requests.{askedOf, daysOf}
-use Rattle.requests.specs.Parsing.{Parses}
+use Rattle.requests.specs.Requests.{Asked, askedOf, daysOf}
 use Rattle.service.specs.declared.Service.{Service}
 use Rattle.service.specs.Packed.{unpacked}
 use Rattle.service.specs.Service.{Blocks, Represents, Given}
 use Rattle.wire.specs.declared.Answered.{Answered}
+use Rattle.wire.specs.declared.Looked.the-variants.{Done, Wants}
+use Rattle.wire.specs.declared.Wanted.{Wanted}
 use Rattle.wire.specs.Conversation.{turnOf}
-use Rattle.wire.specs.Answering.{conv, roomOf, Served}
+use Rattle.wire.specs.Answering.{conv, roomOf, Answers, askedIn, Looks}
+use Rattle.wire.proofs.Serving.{looked-served, carried-served}
 use Rattle.phayaklit.specs.Host.{Laid}
 use Rattle.host_wire.specs.declared.Carried.{Carried}
 use Rattle.host_wire.specs.Words.{wordOf, wordIn, powerOf, changedAt}
-use Rattle.host_wire.specs.Carrying.{eventsOf, answeredOf, Carries, HeldBack, Requested}
-use Rattle.host_wire.proofs.Words.{word-parsed, power-none, power-keeps, changed-journal}
+use Rattle.host_wire.specs.Carrying.{eventsOf, answeredOf, heldAt, Carries, HeldBack, Requested}
+use Rattle.host_wire.specs.Contracts.{CarriesOf, HeldOf, RequestedOf}
+use Rattle.host_wire.proofs.Words.{word-parsed, power-none, power-keeps, power-onlyReads, changed-journal}
 
--- ---- A line that is parsed
+-- ---- What leaves the service as it is
 
-module _ {line days : List ℕ} {q : Request} {days′ : List ℕ} (e : length days ≡ 32768) (p : Parses line days q days′) where
-  pub parsed-word : wordIn q ≡ wordOf (askedOf 32768 line)
-  parsed-word = ap wordIn (p .request) ∙ word-parsed (askedOf (length days) line) ∙ ap (λ (n : ℕ). wordOf (askedOf n line)) e
-
-  pub parsed-power : {word power : ℕ} → word ≡ wordIn q → power ≡ powerOf word → power ≡ powerOf (wordOf (askedOf 32768 line))
-  parsed-power w k = k ∙ ap powerOf (w ∙ parsed-word)
-
-  pub parsed-places : days′ ≡ over (daysOf 32768 line) days
-  parsed-places = p .places ∙ ap (λ (n : ℕ). over (daysOf n line) days) e
-
--- parsed twice, the days stand where they stood
-over-twice : (ds days : List ℕ) → over ds (over ds days) ≡ over ds days
-over-twice ds days = ap (λ (l : List ℕ). ds ++ l) (drop-at ds (drop (length ds) days) (length ds) refl)
-
-module _ {sv : Service} {bs bs′ : Blocks} {room : ℕ} {line payload days numbers text out days′ numbers′ text′ out′ : List ℕ} {r : Answered} where
-  -- so a request whose days are read already is answered as one whose are not
-  pub parsed-served : {read : List ℕ} → read ≡ over (daysOf 32768 line) days
-      → Served sv bs room line payload read numbers text out r bs′ days′ numbers′ text′ out′
-      → Served sv bs room line payload days numbers text out r bs′ days′ numbers′ text′ out′
-  parsed-served e s = record { answers = s .answers; kept = s .kept ∙ ap (over (daysOf 32768 line)) e ∙ over-twice (daysOf 32768 line) days }
-
-  -- the service that a request leaves as it is need not be taken from its answer
-  pub looked : powerOf (wordOf (askedOf 32768 line)) ≡ 0 → Given sv bs
-      → Served sv bs room line payload days numbers text out r bs′ days′ numbers′ text′ out′
-      → Served sv bs room line payload days numbers text out (record { service = sv; room = r .room; place = r .place }) bs′ days′ numbers′ text′ out′
-  looked none g s =
-      let t = s .answers .turned in
-      let same : (m : State) → turnOf (askedOf 32768 line) payload (conv m (roomOf room)) .next .state ≡ m = λ m. power-keeps m payload (roomOf room) (askedOf 32768 line) none in
-      record {
-        answers = record {
-          turned = record {
-            given = record { valid = g .valid; published = t .given .published };
-            room = t .room;
-            taken = λ m rep. record {
-              sends = t .taken m rep .sends;
-              after = rw (same m) (record { valid = rep .valid; standing = rep .standing; past = rep .past; shows = rw (same m) at (t .taken m rep .after .shows) });
-              room = t .taken m rep .room;
-            };
-          };
-          lists = s .answers .lists;
+-- its service need not be taken from the answer
+pub unchanged : {sv : Service} {bs bs′ : Blocks} {room : ℕ} (q : Asked) {payload numbers text out numbers′ text′ out′ : List ℕ} {r : Answered}
+    → powerOf (wordOf q) ≡ 0 → Given sv bs → Answers sv bs room q payload numbers text out r bs′ numbers′ text′ out′
+    → Answers sv bs room q payload numbers text out (record { service = sv; room = r .room; place = r .place }) bs′ numbers′ text′ out′
+unchanged {room = room} q {payload} none g a =
+    let t = a .turned in
+    let same : (m : State) → turnOf q payload (conv m room) .next .state ≡ m = λ m. power-keeps m payload room q none in
+    record {
+      turned = record {
+        given = record { valid = g .valid; published = t .given .published };
+        room = t .room;
+        taken = λ m rep. record {
+          sends = t .taken m rep .sends;
+          after = rw (same m) (record { valid = rep .valid; standing = rep .standing; past = rep .past; shows = rw (same m) at (t .taken m rep .after .shows) });
+          room = t .taken m rep .room;
         };
-        kept = s .kept;
-      }
+      };
+      lists = a .lists;
+    }
 
--- ---- A request that is carried out
+-- ---- What is wanted of it
 
-module _ {words words′ : List ℕ} {bs bs′ : Blocks} {room : ℕ} {line payload days numbers text out days′ numbers′ text′ out′ : List ℕ} {r : Carried}
-    (s : Served (unpacked words) bs room line payload days numbers text out (answeredOf words′ r) bs′ days′ numbers′ text′ out′)
-    (w : r .word ≡ wordOf (askedOf 32768 line)) where
-  pub carries-look : powerOf (wordOf (askedOf 32768 line)) ≡ 0 → r .changed ≡ 0 → words′ ≡ words
-      → Carries words bs room line payload days numbers text out r words′ bs′ days′ numbers′ text′ out′
-  carries-look none c same = record {
-    served = s;
+module _ (q : Asked) {words words′ : List ℕ} {bs bs′ : Blocks} {room : ℕ} {payload numbers text out numbers′ text′ out′ : List ℕ} {r : Carried}
+    (a : Answers (unpacked words) bs (roomOf room) q payload numbers text out (answeredOf words′ r) bs′ numbers′ text′ out′) (w : r .word ≡ wordOf q) where
+  pub carries-read : powerOf (wordOf q) ≡ 0 → r .changed ≡ 0 → words′ ≡ words → CarriesOf q words bs room payload numbers text out r words′ bs′ numbers′ text′ out′
+  carries-read none c same = record {
+    answers = a;
     word = w;
-    changed = λ m rep. c ∙ ap length (sym (power-none m payload (roomOf room) (askedOf 32768 line) none));
+    changed = λ m rep. c ∙ ap length (sym (power-none m payload (roomOf room) q none));
     laid = λ l. rw same l;
     kept = λ _. same;
   }
 
-  pub carries-change : (power : ℕ) → power ≡ powerOf (wordOf (askedOf 32768 line)) → (power ≡ 0 → ⊥) → r .changed ≡ changedAt power out′ (r .place) → Laid words′
-      → Carries words bs room line payload days numbers text out r words′ bs′ days′ numbers′ text′ out′
+  pub carries-change : (power : ℕ) → power ≡ powerOf (wordOf q) → (power ≡ 0 → ⊥) → r .changed ≡ changedAt power out′ (r .place) → Laid words′
+      → CarriesOf q words bs room payload numbers text out r words′ bs′ numbers′ text′ out′
   carries-change power is some c l = record {
-    served = s;
+    answers = a;
     word = w;
-    changed = λ m rep. c ∙ ap (λ (k : ℕ). changedAt k out′ (r .place)) is ∙ changed-journal m payload (roomOf room) (askedOf 32768 line) (λ none. some (is ∙ none)) (s .answers .turned .taken m rep .sends);
+    changed = λ m rep. c ∙ ap (λ (k : ℕ). changedAt k out′ (r .place)) is ∙ changed-journal m payload (roomOf room) q (λ none. some (is ∙ none)) (a .turned .taken m rep .sends);
     laid = λ _. l;
     kept = λ none. absurd (some (is ∙ none));
   }
 
--- ---- What is allowed
+module _ (q : Asked) {words words′ : List ℕ} {bs bs′ : Blocks} {room allowed : ℕ} (payload : List ℕ) {numbers text out numbers′ text′ out′ : List ℕ} {r : Carried}
+    {power : ℕ} (is : power ≡ powerOf (wordOf q)) where
+  pub within-allowed : power ≤ allowed → CarriesOf q words bs room payload numbers text out r words′ bs′ numbers′ text′ out′
+      → RequestedOf q words bs room allowed payload numbers text out r words′ bs′ numbers′ text′ out′
+  within-allowed h c = rw (le-leb (powerOf (wordOf q)) allowed (omega (arith, h, is))) c
 
-module _ {words words′ : List ℕ} {bs bs′ : Blocks} {room allowed : ℕ} {line : List ℕ} (payload : List ℕ) {days numbers text out days′ numbers′ text′ out′ : List ℕ} {r : Carried}
-    {power : ℕ} (is : power ≡ powerOf (wordOf (askedOf 32768 line))) where
-  pub within-allowed : power ≤ allowed → Carries words bs room line payload days numbers text out r words′ bs′ days′ numbers′ text′ out′
-      → Requested words bs room allowed line payload days numbers text out r words′ bs′ days′ numbers′ text′ out′
-  within-allowed h c = rw (le-leb (powerOf (wordOf (askedOf 32768 line))) allowed (omega (arith, h, is))) c
+  pub beyond-allowed : allowed < power → HeldOf q words bs room numbers text out r words′ bs′ numbers′ text′ out′
+      → RequestedOf q words bs room allowed payload numbers text out r words′ bs′ numbers′ text′ out′
+  beyond-allowed h c = rw (lt-leb (powerOf (wordOf q)) allowed (omega (arith, h, is))) c
 
-  pub beyond-allowed : allowed < power → HeldBack words bs room line days numbers text out r words′ bs′ days′ numbers′ text′ out′
+-- ---- A request's line
+
+-- what a look answers is carried out
+pub done-requested : (words : List ℕ) {bs : Blocks} {room : ℕ} (allowed : ℕ) (line payload days : List ℕ) {numbers text out days′ numbers′ out′ : List ℕ} {q : Request} {later place word : ℕ}
+    → Given (unpacked words) bs → Looks bs room line days numbers text out (Done q later place) days′ numbers′ out′ → word ≡ wordIn q
+    → Requested words bs room allowed line payload days numbers text out (record { word = word; changed = 0; room = later; place = place }) words bs days′ numbers′ text out′
+done-requested words {room = room} allowed line payload days g l w =
+    let none : powerOf (wordOf (askedOf 32768 line)) ≡ 0 = power-onlyReads (askedOf 32768 line) (l .at .1) in
+    rw (le-leb (powerOf (wordOf (askedOf 32768 line))) allowed (omega (arith, none))) (record {
+      served = looked-served payload l (unpacked words) g;
+      word = w ∙ ap wordIn (l .at .0) ∙ word-parsed (askedOf 32768 line);
+      changed = λ m rep. ap length (sym (power-none m payload (roomOf room) (askedOf 32768 line) none));
+      laid = λ h. h;
+      kept = λ _. refl;
+    })
+
+-- and what is wanted after it
+module _ {bs : Blocks} {room : ℕ} {line days numbers text out days′ seen put : List ℕ} {w : Wanted} (l : Looks bs room line days numbers text out (Wants w) days′ seen put)
+    (words payload : List ℕ) (r : Carried) (words′ : List ℕ) (bs′ : Blocks) (numbers′ text′ out′ : List ℕ) where
+  carries-line : CarriesOf (askedIn w days′) words bs room payload seen text put r words′ bs′ numbers′ text′ out′
+      → Carries words bs room line payload days numbers text out r words′ bs′ days′ numbers′ text′ out′
+  carries-line c = record {
+    served = carried-served payload l (c .answers);
+    word = rw (l .at .0) (c .word);
+    changed = rw (l .at .0) (c .changed);
+    laid = c .laid;
+    kept = rw (l .at .0) (c .kept);
+  }
+
+  held-line : HeldOf (askedIn w days′) words bs room seen text put r words′ bs′ numbers′ text′ out′
+      → HeldBack words bs room line days numbers text out r words′ bs′ days′ numbers′ text′ out′
+  held-line h = record {
+    told = rw (l .at .0) (h .told);
+    words-kept = h .words-kept;
+    blocks-kept = h .blocks-kept;
+    days-kept = l .kept;
+    numbers-kept = h .numbers-kept ∙ l .at .1;
+    text-kept = h .text-kept;
+    out-kept = h .out-kept ∙ l .at .2;
+  }
+
+  pub wanted-requested : (allowed : ℕ) → RequestedOf (askedIn w days′) words bs room allowed payload seen text put r words′ bs′ numbers′ text′ out′
       → Requested words bs room allowed line payload days numbers text out r words′ bs′ days′ numbers′ text′ out′
-  beyond-allowed h c = rw (lt-leb (powerOf (wordOf (askedOf 32768 line))) allowed (omega (arith, h, is))) c
+  wanted-requested allowed c = go (leb (powerOf (wordOf (askedOf 32768 line))) allowed) (rw (← l .at .0) at c)
+    where
+      go : (b : Bool) → cond b (CarriesOf (askedOf 32768 line) words bs room payload seen text put r words′ bs′ numbers′ text′ out′) (HeldOf (askedOf 32768 line) words bs room seen text put r words′ bs′ numbers′ text′ out′)
+          → cond b (Carries words bs room line payload days numbers text out r words′ bs′ days′ numbers′ text′ out′) (HeldBack words bs room line days numbers text out r words′ bs′ days′ numbers′ text′ out′)
+      go true x = carries-line (rw (l .at .0) at x)
+      go false x = held-line (rw (l .at .0) at x)

@@ -14,7 +14,7 @@ use Rattle.requests.specs.Parsing.{requestOf}
 use Rattle.replies.specs.Replies.{okText, refusedText, shapeOf, shapeText, callText}
 use Rattle.wire.specs.Conversation.{turnOf, callOf, registerOf}
 use Rattle.replies.specs.Sending.{Sends}
-use Rattle.wire.specs.Answering.{conv}
+use Rattle.wire.specs.Answering.{conv, onlyReads}
 use Rattle.host_wire.specs.Words.{questionWord, callWord, wordOf, wordIn, powerOf, changedAt}
 use Rattle.host_wire.specs.Carrying.{eventsOf}
 
@@ -51,6 +51,14 @@ power-reads c e = call-power c ∙ ap (λ (b : Bool). cond b 0 1) e
 
 power-changes : (c : Call) → reads c ≡ false → powerOf (callWord c) ≡ 1
 power-changes c e = call-power c ∙ ap (λ (b : Bool). cond b 0 1) e
+
+-- and so a request's that does
+pub power-onlyReads : (q : Asked) → onlyReads q ≡ true → powerOf (wordOf q) ≡ 0
+unfolding powerOf
+power-onlyReads (asksCall c ds) e = power-reads c e
+power-onlyReads (asksRoom n) e = refl
+power-onlyReads (asksRead n) e = absurd (false≢true e)
+power-onlyReads malformed e = refl
 
 -- an accepted one that does not is answered `ok`
 accepted-ok : (c : Call) (a : Answer) → reads c ≡ false → shapeText (shapeOf c) a ≡ okText

@@ -38,9 +38,13 @@ pub record Carries (words : List ℕ) (bs : Blocks) (room : ℕ) (line payload d
   pub laid : Laid words → Laid words′
   pub kept : powerOf (wordOf (askedOf 32768 line)) ≡ 0 → words′ ≡ words
 
+-- what a host is told of a request that is held back
+abbrev pub heldAt : ℕ → ℕ → Carried
+heldAt word room = record { word = word; changed = 0; room = room; place = 131072 }
+
 -- One that is not: all is as it was, but that its days are read
 pub record HeldBack (words : List ℕ) (bs : Blocks) (room : ℕ) (line days numbers text out : List ℕ) (r : Carried) (words′ : List ℕ) (bs′ : Blocks) (days′ numbers′ text′ out′ : List ℕ) : Type 0 where
-  pub told : r ≡ record { word = wordOf (askedOf 32768 line); changed = 0; room = room; place = 131072 }
+  pub told : r ≡ heldAt (wordOf (askedOf 32768 line)) room
   pub words-kept : words′ ≡ words
   pub blocks-kept : bs′ ≡ bs
   pub days-kept : days′ ≡ over (daysOf 32768 line) days

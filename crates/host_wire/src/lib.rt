@@ -1,14 +1,16 @@
 // A request from bytes to bytes for other software, on a host's words: what it asks is answered, and the host is told which word it was
 // and whether it changed the state.
 ghost use mathlib.Core.Path.{_≡_};
+ghost use Prim.Native.Nat.{ℕ};
+ghost use mathlib.Core.List.{List};
 ghost use Rattle.fields.specs.Fields.{isAt};
-ghost use Rattle.requests.specs.Requests.{askedOf};
 ghost use Rattle.service.specs.Packed.{unpacked};
 ghost use Rattle.service.specs.Service.{blocks, Given};
-ghost use Rattle.wire.specs.Answering.{Served};
+ghost use Rattle.wire.specs.Answering.{roomOf, Answers, askedIn};
 ghost use Rattle.phayaklit.specs.Host.{Laid};
 ghost use Rattle.host_wire.specs.Words.{questionWord, callWord, wordIn, wordOf, powerOf, changedAt};
-ghost use Rattle.host_wire.specs.Carrying.{answeredOf, Requested};
+ghost use Rattle.host_wire.specs.Carrying.{answeredOf, heldAt, Requested};
+ghost use Rattle.host_wire.specs.Contracts.{RequestedOf};
 use model::Call;
 use model::Question;
 use replies::OUT;
@@ -16,7 +18,9 @@ use requests::Request;
 use service::SERVICE;
 use stabbing::INDEX;
 use wire::DAYS;
+use wire::Looked;
 use wire::ROOM;
+use wire::Wanted;
 
 // What a host is told: the word's number, 1 where the state was changed, the room of the conversation's later calls, and the place of
 // the lent list where the answer begins.
@@ -67,6 +71,16 @@ fn word_of(request: Request) -> u32
     }
 }
 
+// The word of what is wanted of the service.
+fn wanted_word(wanted: Wanted) -> u32
+    ensures { λ r. ⌜ ((days : List ℕ) → r ≡ wordOf (askedIn wanted days)) ⌝ }
+{
+    match wanted {
+        Wanted::Call(call, _) => call_word(call),
+        Wanted::Read(_) => 2,
+    }
+}
+
 // What a word may do: 0 nothing to the state, 1 change it, 2 replace it.
 fn power_of(word: u32) -> u32
     ensures { λ r. ⌜ r ≡ powerOf word ⌝ }
@@ -96,32 +110,44 @@ fn changed_at(power: u32, out: &[u8], place: usize) -> u32
     0
 }
 
-// ---- A request
+// ---- What is wanted of the service
 
-// One that leaves the service as it is: its words are not written.
-fn look(
+// One that does more than is allowed: the host is told its word.
+fn held_back(word: u32, room: usize) -> Carried
+    ensures { λ r. ⌜ r ≡ heldAt word room ⌝ }
+{
+    Carried {
+        word,
+        changed: 0,
+        room,
+        place: OUT,
+    }
+}
+
+// What leaves the service as it is: its words are not written.
+fn read(
     words: &[u16; SERVICE],
     index: &mut [u16; INDEX],
     room: usize,
     word: u32,
-    line: &[u8],
+    wanted: Wanted,
     payload: &[u8],
-    days: &mut [u16; DAYS],
+    days: &[u16; DAYS],
     numbers: &mut [u16; ROOM],
     text: &mut [u8; ROOM],
     out: &mut [u8; OUT],
 ) -> Carried
     requires { ⌜ Given (unpacked (now words)) (blocks (now index)) ⌝ }
-    requires { ⌜ powerOf (wordOf (askedOf 32768 (now line))) ≡ 0 ⌝ }
-    ensures { λ r. ⌜ Served (unpacked (now (words .entry))) (blocks (now (index .entry))) room (now (line .entry)) (now (payload .entry)) (now (days .entry)) (now (numbers .entry)) (now (text .entry)) (now (out .entry)) (answeredOf (now (words .entry)) r) (blocks (now (index .exit))) (now (days .exit)) (now (numbers .exit)) (now (text .exit)) (now (out .exit)) ⌝ }
+    requires { ⌜ powerOf (wordOf (askedIn wanted (now days))) ≡ 0 ⌝ }
+    ensures { λ r. ⌜ Answers (unpacked (now (words .entry))) (blocks (now (index .entry))) (roomOf room) (askedIn wanted (now (days .entry))) (now (payload .entry)) (now (numbers .entry)) (now (text .entry)) (now (out .entry)) (answeredOf (now (words .entry)) r) (blocks (now (index .exit))) (now (numbers .exit)) (now (text .exit)) (now (out .exit)) ⌝ }
     ensures { λ r. ⌜ (r .word ≡ word) × (r .changed ≡ 0) ⌝ }
 {
     let service = service::unpack(words);
-    let r = wire::answer(
+    let r = wire::carry(
         service,
         index,
         room,
-        line,
+        wanted,
         payload,
         days,
         numbers,
@@ -136,31 +162,31 @@ fn look(
     }
 }
 
-// One that may change it.
+// What may change it.
 fn change(
     words: &mut [u16; SERVICE],
     index: &mut [u16; INDEX],
     room: usize,
     word: u32,
     power: u32,
-    line: &[u8],
+    wanted: Wanted,
     payload: &[u8],
-    days: &mut [u16; DAYS],
+    days: &[u16; DAYS],
     numbers: &mut [u16; ROOM],
     text: &mut [u8; ROOM],
     out: &mut [u8; OUT],
 ) -> Carried
     requires { ⌜ Given (unpacked (now words)) (blocks (now index)) ⌝ }
-    ensures { λ r. ⌜ Served (unpacked (now (words .entry))) (blocks (now (index .entry))) room (now (line .entry)) (now (payload .entry)) (now (days .entry)) (now (numbers .entry)) (now (text .entry)) (now (out .entry)) (answeredOf (now (words .exit)) r) (blocks (now (index .exit))) (now (days .exit)) (now (numbers .exit)) (now (text .exit)) (now (out .exit)) ⌝ }
+    ensures { λ r. ⌜ Answers (unpacked (now (words .entry))) (blocks (now (index .entry))) (roomOf room) (askedIn wanted (now (days .entry))) (now (payload .entry)) (now (numbers .entry)) (now (text .entry)) (now (out .entry)) (answeredOf (now (words .exit)) r) (blocks (now (index .exit))) (now (numbers .exit)) (now (text .exit)) (now (out .exit)) ⌝ }
     ensures { λ r. ⌜ Laid (now (words .exit)) ⌝ }
     ensures { λ r. ⌜ (r .word ≡ word) × (r .changed ≡ changedAt power (now (out .exit)) (r .place)) ⌝ }
 {
     let service = service::unpack(words);
-    let r = wire::answer(
+    let r = wire::carry(
         service,
         index,
         room,
-        line,
+        wanted,
         payload,
         days,
         numbers,
@@ -178,6 +204,58 @@ fn change(
         place,
     }
 }
+
+// What is wanted of the service, where its word does no more than is allowed.
+fn carry(
+    words: &mut [u16; SERVICE],
+    index: &mut [u16; INDEX],
+    room: usize,
+    allowed: u32,
+    wanted: Wanted,
+    payload: &[u8],
+    days: &[u16; DAYS],
+    numbers: &mut [u16; ROOM],
+    text: &mut [u8; ROOM],
+    out: &mut [u8; OUT],
+) -> Carried
+    requires { ⌜ Given (unpacked (now words)) (blocks (now index)) ⌝ }
+    ensures { λ r. ⌜ RequestedOf (askedIn wanted (now (days .entry))) (now (words .entry)) (blocks (now (index .entry))) room allowed (now (payload .entry)) (now (numbers .entry)) (now (text .entry)) (now (out .entry)) r (now (words .exit)) (blocks (now (index .exit))) (now (numbers .exit)) (now (text .exit)) (now (out .exit)) ⌝ }
+{
+    let word = wanted_word(wanted);
+    let power = power_of(word);
+    if power > allowed {
+        return held_back(word, room);
+    }
+    if power == 0 {
+        return read(
+            words,
+            index,
+            room,
+            word,
+            wanted,
+            payload,
+            days,
+            numbers,
+            text,
+            out,
+        );
+    }
+    change(
+        words,
+        index,
+        room,
+        word,
+        power,
+        wanted,
+        payload,
+        days,
+        numbers,
+        text,
+        out,
+    )
+}
+
+// ---- A request
 
 // Carries a request out whose word does no more than is allowed: 0 nothing to the state, 1 a change, 2 a reading too. One that does more
 // leaves everything as it was, its days aside, and the host is told its word: it answers then itself, or asks again. The answer stands
@@ -198,42 +276,28 @@ pub extern "C" fn phayaklit_request(
     requires { ⌜ Given (unpacked (now words)) (blocks (now index)) ⌝ }
     ensures { λ r. ⌜ Requested (now (words .entry)) (blocks (now (index .entry))) room allowed (now (line .entry)) (now (payload .entry)) (now (days .entry)) (now (numbers .entry)) (now (text .entry)) (now (out .entry)) r (now (words .exit)) (blocks (now (index .exit))) (now (days .exit)) (now (numbers .exit)) (now (text .exit)) (now (out .exit)) ⌝ }
 {
-    let request = requests::parse(line, days);
-    let word = word_of(request);
-    let power = power_of(word);
-    if power > allowed {
-        return Carried {
-            word,
-            changed: 0,
-            room,
-            place: OUT,
-        };
-    }
-    if power == 0 {
-        return look(
+    let looked = wire::look(index, room, line, days, numbers, text, out);
+    match looked {
+        Looked::Done(request, later, place) => {
+            let word = word_of(request);
+            Carried {
+                word,
+                changed: 0,
+                room: later,
+                place,
+            }
+        }
+        Looked::Wants(wanted) => carry(
             words,
             index,
             room,
-            word,
-            line,
+            allowed,
+            wanted,
             payload,
             days,
             numbers,
             text,
             out,
-        );
+        ),
     }
-    change(
-        words,
-        index,
-        room,
-        word,
-        power,
-        line,
-        payload,
-        days,
-        numbers,
-        text,
-        out,
-    )
 }

@@ -5,13 +5,15 @@ use mathlib.Core.Bool.{true}
 use mathlib.Core.List.{List, _++_}
 use lib.ListN.{take, drop}
 use Rattle.service.specs.declared.Service.{Service}
-use Rattle.service.specs.Service.{Blocks, Given}
+use Rattle.service.specs.Service.{Blocks}
 use Rattle.wire.specs.declared.Answered.{Answered}
-use Rattle.wire.specs.Answering.{Served}
+use Rattle.wire.specs.declared.Looked.the-variants.{Wants}
+use Rattle.wire.specs.declared.Wanted.{Wanted}
+use Rattle.wire.specs.Answering.{Served, Looks}
 use Rattle.framing.specs.Stream.{begun}
 use Rattle.framing.specs.Advancing.{done, next, sentOf}
 use Rattle.serve.specs.declared.Incoming.{Incoming}
-use Rattle.serve.specs.declared.Session.{Session}
+use Rattle.serve.specs.declared.Seen.{Seen}
 
 -- the bytes from a place up to another
 abbrev pub between : List ℕ → ℕ → ℕ → List ℕ
@@ -26,16 +28,17 @@ pub record Takes (arrived : List ℕ) (start end : ℕ) (r : Incoming) (arrived�
   pub bytes : List ℕ
   pub came : r .whole ≡ true → done (sentOf (r .line) (r .payload) line′ payload′) (between arrived′ (r .start) (r .end)) ≡ next begun (between arrived start end ++ bytes)
 
--- what is said of a request that was served, and of its answer
-abbrev pub requestIn : Session → Incoming
+-- what is said of a request that was taken
+abbrev pub requestIn : Seen → Incoming
 requestIn r = record { line = r .line; payload = r .payload; whole = r .whole; start = r .start; end = r .end }
 
-abbrev pub answeredIn : Session → Answered
-answeredIn r = record { service = r .service; room = r .room; place = r .place }
-
--- Serving one takes a request, and answers it where it is whole
-pub record ServesOne (sv : Service) (bs : Blocks) (room : ℕ) (arrived : List ℕ) (start end : ℕ) (days numbers text out : List ℕ) (r : Session) (bs′ : Blocks) (arrived′ line′ payload′ days′ numbers′ text′ out′ : List ℕ) : Type 0 where
-  pub given : Given (r .service) bs′
+-- Seeing takes a request, and looks at its line where it is whole
+pub record Sees (bs : Blocks) (room : ℕ) (arrived : List ℕ) (start end : ℕ) (days numbers text out : List ℕ) (r : Seen) (arrived′ line′ payload′ days′ numbers′ out′ : List ℕ) : Type 0 where
   pub takes : Takes arrived start end (requestIn r) arrived′ line′ payload′
-  pub serves : r .whole ≡ true
-      → Served sv bs room (take (r .line) line′) (take (r .payload) payload′) days numbers text out (answeredIn r) bs′ days′ numbers′ text′ out′
+  pub looks : r .whole ≡ true → Looks bs room (take (r .line) line′) days numbers text out (r .looked) days′ numbers′ out′
+
+-- What is wanted is carried out: whatever line was looked at, with whatever lists, its request is served
+abbrev pub Finishes : Service → Blocks → ℕ → Wanted → List ℕ → List ℕ → List ℕ → List ℕ → List ℕ → Answered → Blocks → List ℕ → List ℕ → List ℕ → Type 0
+Finishes sv bs room w payload days numbers text out r bs′ numbers′ text′ out′ =
+    (line before places put : List ℕ) → Looks bs room line before places text put (Wants w) days numbers out
+    → Served sv bs room line payload before places text put r bs′ days numbers′ text′ out′

@@ -3,9 +3,9 @@
 ghost use Prim.Native.Nat.{_≤_};
 ghost use lib.ListN.{length, take};
 ghost use Rattle.framing.specs.Advancing.{Advances};
-ghost use Rattle.service.specs.Service.{blocks, Given};
-ghost use Rattle.wire.specs.Answering.{Served};
-ghost use Rattle.serve.specs.Serving.{Takes, ServesOne};
+ghost use Rattle.service.specs.Service.{blocks, Published, Given};
+ghost use Rattle.wire.specs.Answering.{Looks};
+ghost use Rattle.serve.specs.Serving.{Takes, Sees, Finishes};
 use framing::Frame;
 use framing::Framed;
 use framing::LINE;
@@ -15,11 +15,14 @@ use libc::STDERR_FILENO;
 use libc::STDIN_FILENO;
 use libc::STDOUT_FILENO;
 use replies::OUT;
+use requests::Request;
 use service::Service;
 use stabbing::INDEX;
 use wire::Answered;
 use wire::DAYS;
+use wire::Looked;
 use wire::ROOM;
+use wire::Wanted;
 
 const DASH: u8 = 45;
 
@@ -134,29 +137,96 @@ fn send(out: &[u8; OUT], at: usize) -> bool {
     write_from(STDOUT_FILENO, out, at, b"serve: standard output")
 }
 
-// Carries a request out: the first n bytes of the line, and the first m of what follows it.
-fn reply(
-    service: Service,
-    index: &mut [u16; INDEX],
+// A look at the first n bytes of the line.
+fn look(
+    index: &[u16; INDEX],
     room: usize,
     line: &[u8],
     n: usize,
+    days: &mut [u16; DAYS],
+    numbers: &mut [u16; ROOM],
+    text: &[u8; ROOM],
+    out: &mut [u8; OUT],
+) -> Looked
+    requires { ⌜ (Published (now index)) × (n ≤ length (now line)) ⌝ }
+    ensures { λ r. ⌜ Looks (blocks (now (index .entry))) room (take n (now (line .entry))) (now (days .entry)) (now (numbers .entry)) (now (text .entry)) (now (out .entry)) r (now (days .exit)) (now (numbers .exit)) (now (out .exit)) ⌝ }
+{
+    wire::look(index, room, &line[..n], days, numbers, text, out)
+}
+
+// The request that was taken, and what a look at it gave; where the input ended before it, nothing.
+struct Seen {
+    line: usize,
+    payload: usize,
+    whole: bool,
+    start: usize,
+    end: usize,
+    looked: Looked,
+}
+
+// Takes the next request and looks at it: what wants no service is answered. One that the input's end cuts short is not looked at.
+fn see(
+    index: &[u16; INDEX],
+    room: usize,
+    arrived: &mut [u8; ARRIVED],
+    start: usize,
+    end: usize,
+    line: &mut [u8; LINE],
+    payload: &mut [u8; TEXT],
+    days: &mut [u16; DAYS],
+    numbers: &mut [u16; ROOM],
+    text: &[u8; ROOM],
+    out: &mut [u8; OUT],
+) -> Seen
+    requires { ⌜ (Published (now index)) × (end ≤ 65536) ⌝ }
+    ensures { λ r. ⌜ Sees (blocks (now (index .entry))) room (now (arrived .entry)) start end (now (days .entry)) (now (numbers .entry)) (now (text .entry)) (now (out .entry)) r (now (arrived .exit)) (now (line .exit)) (now (payload .exit)) (now (days .exit)) (now (numbers .exit)) (now (out .exit)) ⌝ }
+{
+    let q = next(arrived, start, end, line, payload);
+    if !q.whole {
+        let looked = Looked::Done(Request::Malformed, room, OUT);
+        return Seen {
+            line: q.line,
+            payload: q.payload,
+            whole: q.whole,
+            start: q.start,
+            end: q.end,
+            looked,
+        };
+    }
+    let looked = look(index, room, line, q.line, days, numbers, text, out);
+    Seen {
+        line: q.line,
+        payload: q.payload,
+        whole: q.whole,
+        start: q.start,
+        end: q.end,
+        looked,
+    }
+}
+
+// Carries out what a request wants of the service, with the first m bytes of what follows its line.
+fn carry(
+    service: Service,
+    index: &mut [u16; INDEX],
+    room: usize,
+    wanted: Wanted,
     payload: &[u8],
     m: usize,
-    days: &mut [u16; DAYS],
+    days: &[u16; DAYS],
     numbers: &mut [u16; ROOM],
     text: &mut [u8; ROOM],
     out: &mut [u8; OUT],
 ) -> Answered
     requires { ⌜ Given service (blocks (now index)) ⌝ }
-    requires { ⌜ (n ≤ length (now line)) × (m ≤ length (now payload)) ⌝ }
-    ensures { λ r. ⌜ Served service (blocks (now (index .entry))) room (take n (now (line .entry))) (take m (now (payload .entry))) (now (days .entry)) (now (numbers .entry)) (now (text .entry)) (now (out .entry)) r (blocks (now (index .exit))) (now (days .exit)) (now (numbers .exit)) (now (text .exit)) (now (out .exit)) ⌝ }
+    requires { ⌜ m ≤ length (now payload) ⌝ }
+    ensures { λ r. ⌜ Given (r .service) (blocks (now (index .exit))) ⌝ }
+    ensures { λ r. ⌜ Finishes service (blocks (now (index .entry))) room wanted (take m (now (payload .entry))) (now (days .entry)) (now (numbers .entry)) (now (text .entry)) (now (out .entry)) r (blocks (now (index .exit))) (now (numbers .exit)) (now (text .exit)) (now (out .exit)) ⌝ }
 {
-    wire::answer(
+    wire::carry(
         service,
         index,
         room,
-        &line[..n],
+        wanted,
         &payload[..m],
         days,
         numbers,
@@ -165,122 +235,99 @@ fn reply(
     )
 }
 
-// The service and the room after a request, the place from which on its answer stands, the request as it was taken, and whether there is
-// more to serve.
-struct Session {
-    service: Service,
-    room: usize,
-    place: usize,
-    line: usize,
-    payload: usize,
-    whole: bool,
-    start: usize,
-    end: usize,
-    open: bool,
-}
-
-// Serves one request. One that the input's end cuts short is not carried out.
-fn serve_one(
+// Serves requests until the input ends or the output is closed. A proved loop has to end, so its turns are counted down, from a
+// number that no service uses up.
+fn converse(
     service: Service,
     index: &mut [u16; INDEX],
-    room: usize,
     arrived: &mut [u8; ARRIVED],
-    start: usize,
-    end: usize,
     line: &mut [u8; LINE],
-    payload: &mut [u8; ROOM],
+    payload: &mut [u8; TEXT],
     days: &mut [u16; DAYS],
     numbers: &mut [u16; ROOM],
     text: &mut [u8; ROOM],
     out: &mut [u8; OUT],
-) -> Session
-    requires { ⌜ Given service (blocks (now index)) ⌝ }
-    requires { ⌜ end ≤ 65536 ⌝ }
-    ensures { λ r. ⌜ ServesOne service (blocks (now (index .entry))) room (now (arrived .entry)) start end (now (days .entry)) (now (numbers .entry)) (now (text .entry)) (now (out .entry)) r (blocks (now (index .exit))) (now (arrived .exit)) (now (line .exit)) (now (payload .exit)) (now (days .exit)) (now (numbers .exit)) (now (text .exit)) (now (out .exit)) ⌝ }
-{
-    let q = next(arrived, start, end, line, payload);
-    if !q.whole {
-        return Session {
-            service,
-            room,
-            place: 0,
-            line: q.line,
-            payload: q.payload,
-            whole: q.whole,
-            start: q.start,
-            end: q.end,
-            open: false,
-        };
-    }
-    let a = reply(
-        service,
-        index,
-        room,
-        line,
-        q.line,
-        payload,
-        q.payload,
-        days,
-        numbers,
-        text,
-        out,
-    );
-    let open = send(out, a.place);
-    let after = a.service;
-    Session {
-        service: after,
-        room: a.room,
-        place: a.place,
-        line: q.line,
-        payload: q.payload,
-        whole: q.whole,
-        start: q.start,
-        end: q.end,
-        open,
-    }
-}
-
-// Serves requests until the input ends or the output is closed. A proved loop has to end, so its turns are counted down, from a
-// number that no service uses up.
-fn serve(service: Service, index: &mut [u16; INDEX])
+)
     requires { ⌜ Given service (blocks (now index)) ⌝ }
 {
-    let mut arrived = [0u8; ARRIVED];
-    let mut line = [0u8; LINE];
-    let mut payload = [0u8; ROOM];
-    let mut days = [0u16; DAYS];
-    let mut numbers = [0u16; ROOM];
-    let mut text = [0u8; ROOM];
-    let mut out = [0u8; OUT];
     let mut s = service;
     let mut room = ROOM;
     let mut start = 0;
     let mut end = 0;
     let mut turns = u64::MAX;
     while turns > 0 {
-        let r = serve_one(
-            s,
+        let q = see(
             index,
             room,
-            &mut arrived,
+            arrived,
             start,
             end,
-            &mut line,
-            &mut payload,
-            &mut days,
-            &mut numbers,
-            &mut text,
-            &mut out,
+            line,
+            payload,
+            days,
+            numbers,
+            text,
+            out,
         );
-        if !r.open {
+        if !q.whole {
             return;
         }
-        s = r.service;
-        room = r.room;
-        start = r.start;
-        end = r.end;
+        let mut place = 0;
+        let looked = q.looked;
+        match looked {
+            Looked::Done(_, later, at) => {
+                room = later;
+                place = at;
+            }
+            Looked::Wants(wanted) => {
+                let a = carry(
+                    s,
+                    index,
+                    room,
+                    wanted,
+                    payload,
+                    q.payload,
+                    days,
+                    numbers,
+                    text,
+                    out,
+                );
+                s = a.service;
+                room = a.room;
+                place = a.place;
+            }
+        }
+        if !send(out, place) {
+            return;
+        }
+        start = q.start;
+        end = q.end;
         turns -= 1;
     }
+}
+
+// Lends a conversation its lists.
+fn serve(service: Service, index: &mut [u16; INDEX])
+    requires { ⌜ Given service (blocks (now index)) ⌝ }
+{
+    let mut arrived = [0u8; ARRIVED];
+    let mut line = [0u8; LINE];
+    let mut payload = [0u8; TEXT];
+    let mut days = [0u16; DAYS];
+    let mut numbers = [0u16; ROOM];
+    let mut text = [0u8; ROOM];
+    let mut out = [0u8; OUT];
+    converse(
+        service,
+        index,
+        &mut arrived,
+        &mut line,
+        &mut payload,
+        &mut days,
+        &mut numbers,
+        &mut text,
+        &mut out,
+    );
 }
 
 // ---- The beginning

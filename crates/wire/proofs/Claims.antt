@@ -29,9 +29,9 @@ spoken-fresh s c = spoken-converse opening s (room-same 65536 (omega arith)) c
 
 -- BEGUN ON A TEXT of n bytes: what `restart` ensures is enough, and its answer comes first
 pub spoken-begun : {bs : Blocks} {qs : List Sent} {replies : List (List ℕ)} (n : ℕ) (text out out′ : List ℕ) (r : Answered)
-    → Restarted 65536 n text out r bs out′ → Spoken (r .service) bs (r .room) qs replies
+    → Restarted (roomOf 65536) n text out r bs out′ → Spoken (r .service) bs (r .room) qs replies
     → (drop (r .place) out′ ∷ replies) ≡ converseOn n text qs
 unfolding turnOf
 spoken-begun n text out out′ r d c =
-    let t = d .taken fresh in
+    let t = rw (room-same 65536 (omega arith)) at (d .taken fresh) in
     rw (sends-bytes (t .sends), spoken-converse (turnOf (asksRead n) text opening .next) (t .after) (room-same (r .room) (omega (arith, t .room)) ∙ t .room) c)

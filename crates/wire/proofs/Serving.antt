@@ -1,14 +1,12 @@
--- What is answered of a parsed line is answered of its bytes, and a room that can be lent. Assumes nothing.
-use Rattle.basis.proofs.Prelude.{_∙_, _≡_, ap, subst, _<_, _≤_, ℕ, List, length, decLe, arith, le-leb, lt-leb}
+-- A request is served by a look, and by what is done where that tells what it wants; and a room that can be lent. Assumes nothing.
+use Rattle.basis.proofs.Prelude.{_≡_, _<_, _≤_, ℕ, List, decLe, arith, le-leb, lt-leb}
 use Rattle.service.specs.declared.Service.{Service}
-use Rattle.service.specs.Service.{Blocks}
+use Rattle.service.specs.Service.{Blocks, Given}
 use Rattle.requests.specs.declared.Request.{Request}
-use Rattle.requests.specs.Requests.{Asked, askedOf, daysOf}
-use Rattle.buffer.specs.Buffer.{over}
-use Rattle.requests.specs.Parsing.{askedFrom, Parses}
-use Rattle.requests.proofs.Asking.{parsed-asked}
 use Rattle.wire.specs.declared.Answered.{Answered}
-use Rattle.wire.specs.Answering.{Answers, roomOf, Served}
+use Rattle.wire.specs.declared.Looked.the-variants.{Done, Wants}
+use Rattle.wire.specs.declared.Wanted.{Wanted}
+use Rattle.wire.specs.Answering.{Answers, roomOf, Served, askedIn, beside, Looks}
 
 -- ---- the room that counts
 module _ (n : ℕ) where
@@ -26,14 +24,14 @@ module _ (n : ℕ) where
     | no m ↦ omega (arith, room-largest (omega arith))
   ]
 
--- ---- a request's bytes
-pub served : (sv : Service) (bs : Blocks) (room : ℕ) (line payload days numbers text out : List ℕ) (q : Request) (r : Answered) (bs′ : Blocks) (days′ numbers′ text′ out′ : List ℕ)
-    → length days ≡ 32768 → Parses line days q days′
-    → Answers sv bs (roomOf room) (askedFrom q days′) payload numbers text out r bs′ numbers′ text′ out′
-    → Served sv bs room line payload days numbers text out r bs′ days′ numbers′ text′ out′
-served sv bs room line payload days numbers text out q r bs′ days′ numbers′ text′ out′ e p a =
-    let same : askedFrom q days′ ≡ askedOf 32768 line = parsed-asked line days q days′ p ∙ ap (λ (n : ℕ). askedOf n line) e in
-    record {
-      answers = subst (λ (x : Asked). Answers sv bs (roomOf room) x payload numbers text out r bs′ numbers′ text′ out′) same a;
-      kept = p .places ∙ ap (λ (n : ℕ). over (daysOf n line) days) e;
-    }
+-- ---- a request's bytes: a look, and what is done where that tells what is wanted
+module _ {bs : Blocks} {room : ℕ} {line days numbers text out days′ seen put : List ℕ} (payload : List ℕ) where
+  pub looked-served : {q : Request} {later place : ℕ} → Looks bs room line days numbers text out (Done q later place) days′ seen put
+      → (sv : Service) → Given sv bs → Served sv bs room line payload days numbers text out (beside sv later place) bs days′ seen text put
+  looked-served l sv g = record { answers = l .at .2 sv g payload; kept = l .kept }
+
+  pub carried-served : {w : Wanted} {sv : Service} {r : Answered} {bs′ : Blocks} {numbers′ text′ out′ : List ℕ}
+      → Looks bs room line days numbers text out (Wants w) days′ seen put
+      → Answers sv bs (roomOf room) (askedIn w days′) payload seen text put r bs′ numbers′ text′ out′
+      → Served sv bs room line payload days numbers text out r bs′ days′ numbers′ text′ out′
+  carried-served l a = record { answers = rw (← l .at .0, l .at .1, l .at .2) at a; kept = l .kept }

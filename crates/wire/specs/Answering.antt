@@ -1,17 +1,24 @@
 -- The postcondition of a request. Assumes nothing.
 use Prim.Native.Nat.{ℕ, _≤_}
 use mathlib.Core.Path.{_≡_}
-use mathlib.Core.Bool.{cond}
+use mathlib.Core.Bool.{Bool, true, false, cond}
 use mathlib.Core.List.{List, _++_}
 use lib.Dec.{leb}
 use lib.ListN.{take, drop}
 use Rattle.model.specs.declared.Call.{Call}
+use Rattle.model.specs.Journal.{reads}
 use Rattle.model.specs.Model.{State, Request, step}
 use Rattle.service.specs.declared.Service.{Service}
 use Rattle.service.specs.Service.{Blocks, Represents, Given}
 use Rattle.replies.specs.Sending.{Sends}
 use Rattle.wire.specs.declared.Answered.{Answered}
+use Rattle.wire.specs.declared.Looked.{Looked}
+use Rattle.wire.specs.declared.Looked.the-variants.{Done, Wants}
+use Rattle.wire.specs.declared.Wanted.{Wanted}
+use Rattle.wire.specs.declared.Wanted.the-variants.{Call as WantedCall, Read as WantedRead}
 use Rattle.wire.specs.Conversation.{Conv, Turn, turnOf}
+use Rattle.requests.specs.declared.Request.{Request as RequestIn}
+use Rattle.requests.specs.Parsing.{requestOf}
 use Rattle.requests.specs.Requests.{Asked, asksCall, asksRoom, asksRead, malformed, askedOf, daysOf}
 use Rattle.buffer.specs.Buffer.{over}
 
@@ -57,6 +64,10 @@ pub record Answers (sv : Service) (bs : Blocks) (room : ℕ) (q : Asked) (payloa
   pub turned : Turned sv bs (λ m. turnOf q payload (conv m room)) out r bs′ out′
   pub lists : (m : State) → Represents sv bs m → (numbers′ ≡ numbersBy q m room numbers text) × (text′ ≡ textBy q m room numbers text)
 
+-- the same whatever bytes follow its line: a call's answer does not depend on them
+abbrev pub Carries : Service → Blocks → ℕ → Asked → List ℕ → List ℕ → List ℕ → Answered → Blocks → List ℕ → List ℕ → List ℕ → Type 0
+Carries sv bs room q numbers text out r bs′ numbers′ text′ out′ = (payload : List ℕ) → Answers sv bs room q payload numbers text out r bs′ numbers′ text′ out′
+
 -- a room above 65,536 counts as 65,536
 unfoldable pub roomOf : ℕ → ℕ
 roomOf n = cond (leb n 65536) n 65536
@@ -64,4 +75,34 @@ roomOf n = cond (leb n 65536) n 65536
 -- the same of a request's bytes, with every place of the list lent for days
 pub record Served (sv : Service) (bs : Blocks) (room : ℕ) (line payload days numbers text out : List ℕ) (r : Answered) (bs′ : Blocks) (days′ numbers′ text′ out′ : List ℕ) : Type 0 where
   pub answers : Answers sv bs (roomOf room) (askedOf 32768 line) payload numbers text out r bs′ numbers′ text′ out′
+  pub kept : days′ ≡ over (daysOf 32768 line) days
+
+-- ---- A look at a request, which wants no service or is told
+
+-- what is asked of a service, the days of a call in the first places of a list
+abbrev pub askedIn : Wanted → List ℕ → Asked
+askedIn (WantedCall c k) days = asksCall c (take k days)
+askedIn (WantedRead n) days = asksRead n
+
+-- a request that only reads
+abbrev pub onlyReads : Asked → Bool
+onlyReads (asksCall c ds) = reads c
+onlyReads (asksRoom n) = true
+onlyReads (asksRead n) = false
+onlyReads malformed = true
+
+-- an answer beside a service that is as it was
+abbrev pub beside : Service → ℕ → ℕ → Answered
+beside sv room place = record { service = sv; room = room; place = place }
+
+-- A request w that asks q, its days in a list. One that only reads may be answered, whatever service stands beside the blocks, and that is
+-- as it was. Of another it is told what it wants, and nothing is written.
+abbrev pub LooksAt : Blocks → ℕ → RequestIn → Asked → List ℕ → List ℕ → List ℕ → List ℕ → Looked → List ℕ → List ℕ → Type 0
+LooksAt bs room w q days numbers text out (Done v later place) numbers′ out′ =
+    (v ≡ w) × (onlyReads q ≡ true) × ((sv : Service) → Given sv bs → Carries sv bs room q numbers text out (beside sv later place) bs numbers′ text out′)
+LooksAt bs room w q days numbers text out (Wants x) numbers′ out′ = (q ≡ askedIn x days) × (numbers′ ≡ numbers) × (out′ ≡ out)
+
+-- the same of a request's line, with every place of the list lent for days
+pub record Looks (bs : Blocks) (room : ℕ) (line days numbers text out : List ℕ) (r : Looked) (days′ numbers′ out′ : List ℕ) : Type 0 where
+  pub at : LooksAt bs (roomOf room) (requestOf (askedOf 32768 line)) (askedOf 32768 line) days′ numbers text out r numbers′ out′
   pub kept : days′ ≡ over (daysOf 32768 line) days

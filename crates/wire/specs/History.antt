@@ -9,7 +9,8 @@ use Rattle.wire.specs.Conversation.{Sent}
 use Rattle.wire.specs.Answering.{Served}
 
 -- The service sv with the blocks bs and a room is sent qs, which are answered by these bytes. Of each answer no more is known than
--- the contract of `answer`: its `requires` implies its `ensures`. The bytes are those of the lent list from the returned place on.
+-- what the contracts of `look` and `carry` give: on a service and blocks that the calls gave it is `Served`, by a look alone, or by what is
+-- carried out after it. The bytes are those of the lent list from the returned place on.
 -- The next request is answered on the service that this one returned, with the blocks and the room that it left.
 pub data Spoken : Service → Blocks → ℕ → List Sent → List (List ℕ) → Type 0 where
   none : {sv : Service} {bs : Blocks} {room : ℕ} → Spoken sv bs room [] []

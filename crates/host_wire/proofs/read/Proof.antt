@@ -1,0 +1,20 @@
+-- `host_wire::read` meets its contract. Assumes nothing.
+use Rattle.basis.proofs.Prelude.{refl, needs}
+use Rattle.wire.specs.Answering.{askedIn}
+use Rattle.host_wire.proofs.Carrying.{unchanged}
+use Rattle.host_wire.proofs.read.Statement.{statement}
+use Rattle.host_wire.proofs.read.Tie as tie
+
+carry-requires : tie.Need-carry-requires
+carry-requires c κs =
+    let taken = c .before .before .before .before in
+    rw (taken .unpack .ensures) (taken .before .before .pre .0)
+
+returns : tie.Need-returns
+returns c =
+    let taken = c .before .before .before .before .before in
+    let start = taken .before .before in
+    (unchanged (askedIn (start .args .wanted) (start .args .days .now)) (start .pre .1) (start .pre .0) (rw (taken .unpack .ensures) at (c .carry .ensures)), (refl, refl))
+
+pub read-spec : {M : Type 1} → statement M
+read-spec = tie.close (tie.spec (λ c κs. search needs) carry-requires returns)

@@ -1,0 +1,16 @@
+-- `serve::carry` meets its contract. Assumes nothing.
+use Rattle.basis.proofs.Prelude.{sym, length-take-le, needs}
+use Rattle.wire.proofs.Serving.{carried-served}
+use Rattle.serve.proofs.carry.Statement.{statement}
+use Rattle.serve.proofs.carry.Tie as tie
+
+slice-aggregate-carry : tie.Need-slice-aggregate-carry
+slice-aggregate-carry c =
+    let start = c .before .before .before in
+    sym (length-take-le (start .args .m) (start .args .payload .now) (start .pre .1))
+
+returns : tie.Need-returns
+returns c = (c .carry .ensures .turned .given, λ line before places put looks. carried-served _ looks (c .carry .ensures))
+
+pub carry-spec : {M : Type 1} → statement M
+carry-spec = tie.close (tie.spec slice-aggregate-carry (λ c κs. search needs) returns)

@@ -1,0 +1,20 @@
+-- `serve::see` meets its contract. Assumes nothing.
+use Rattle.basis.proofs.Prelude.{_∙_, sym, false≢true, arith, needs, not-true}
+use Rattle.serve.proofs.see.Statement.{statement}
+use Rattle.serve.proofs.see.Tie as tie
+
+returns : tie.Need-returns
+returns c = record { takes = c .before .before .next .ensures; looks = λ e. absurd (false≢true (sym (not-true _ (c .if1 .taken)) ∙ e)) }
+
+look-requires : tie.Need-look-requires
+look-requires c κs =
+    let framed = c .before .before .before .before .before .before .before in
+    (framed .before .before .before .before .pre .0, omega (arith, framed .next .ensures .line-in))
+
+returns-2 : tie.Need-returns-2
+returns-2 c =
+    let framed = c .before .before .before .before .before .before .before .before in
+    record { takes = framed .next .ensures; looks = λ _. c .look .ensures }
+
+pub see-spec : {M : Type 1} → statement M
+see-spec = tie.close (tie.spec (λ c κs. search needs) returns look-requires returns-2)

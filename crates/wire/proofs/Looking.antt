@@ -1,0 +1,89 @@
+-- A look at a request: what is answered on the blocks alone is answered beside any service. Assumes nothing.
+use Rattle.basis.proofs.Prelude.{_∙_, _≡_, ap, refl, subst, sym, _<_, _≤_, ℕ, List, _++_, drop, length, take, take-all, take-append-drop, decLe, arith, le-leb, lt-leb}
+use Rattle.buffer.specs.Buffer.{over}
+use Rattle.model.specs.declared.Call.the-variants.{Ask}
+use Rattle.model.specs.declared.Question.{Question}
+use Rattle.standing.proofs.Calls.{fresh-is}
+use Rattle.service.specs.declared.Service.{Service}
+use Rattle.service.specs.declared.Outcome.{Outcome}
+use Rattle.service.specs.Places.{freshService}
+use Rattle.service.specs.Service.{Blocks, blocks, Published, Given, asking, keeping, answerOf, Asked as AskedOf}
+use Rattle.requests.specs.declared.Request.{Request}
+use Rattle.requests.specs.declared.Request.the-variants.{Call as RequestCall, Room as RequestRoom, Malformed as RequestMalformed}
+use Rattle.requests.specs.Requests.{Asked, asksCall, asksRoom, malformed, askedOf, daysOf}
+use Rattle.requests.specs.Parsing.{requestOf, askedFrom, Parses}
+use Rattle.requests.proofs.Asking.{parsed-asked}
+use Rattle.replies.specs.Replies.{okText, malformedText, callText}
+use Rattle.replies.specs.Sending.{Sends, Fits}
+use Rattle.wire.specs.declared.Looked.{Looked}
+use Rattle.wire.specs.declared.Looked.the-variants.{Done}
+use Rattle.wire.specs.Answering.{beside, LooksAt, Looks, roomOf}
+use Rattle.wire.specs.Contracts.{AskTurn, least}
+use Rattle.wire.proofs.Replying.{fits, called}
+use Rattle.wire.proofs.Turns.{turn-call, turn-room, turn-malformed}
+
+-- ---- a question
+
+-- an index that the calls gave stands beside a fresh service
+fresh-given : {ix : List ℕ} → Published ix → Given freshService (blocks ix)
+fresh-given p = record { valid = record { standing = fresh-is .wf }; published = p }
+
+module _ {ix : List ℕ} {w : Question} {days numbers : List ℕ} {o : Outcome} {numbers′ : List ℕ} (text : List ℕ) (a : AskedOf (blocks ix) w days numbers o numbers′) where
+  pub asked-fits : Published ix → Fits (answerOf o numbers′ text)
+  asked-fits p = fits freshService (blocks ix) (fresh-given p) (asking (Ask w) days numbers text) (keeping freshService o) (blocks ix) numbers′ text (a .met freshService text (fresh-given p))
+
+  pub ask-turned : {room : ℕ} {out out′ : List ℕ} {place : ℕ} → room ≤ 65536 → length numbers ≡ room → length text ≡ room → Sends (callText (Ask w) (answerOf o numbers′ text)) out place out′
+      → AskTurn (blocks ix) w days numbers text room out place numbers′ out′
+  ask-turned {room} top en et s sv g = called sv (blocks ix) (Ask w) days numbers text room top en et (keeping sv o) (blocks ix) numbers′ text _ _ _ (a .met sv text g) s
+
+-- ---- a request that is parsed
+module _ (days : List ℕ) {bs : Blocks} {room : ℕ} {numbers text out out′ : List ℕ} {place : ℕ} where
+  pub looks-question : {w : Question} (k : ℕ) {ns : List ℕ} → AskTurn bs w (take k days) (take room numbers) (take room text) room out place ns out′
+      → LooksAt bs room (RequestCall (Ask w) k) (asksCall (Ask w) (take k days)) days numbers text out (Done (RequestCall (Ask w) k) room place) (ns ++ drop room numbers) out′
+  looks-question {w} k {ns} t = (
+    refl,
+    refl,
+    λ sv g payload. rw (take-append-drop room text) at
+        (turn-call sv bs room payload numbers text out out′ (Ask w) (take k days) ns (take room text) (beside sv room place) (t sv g)),
+  )
+
+  pub looks-room : {n : ℕ} → n ≤ 65536 → Sends okText out place out′
+      → LooksAt bs room (RequestRoom n) (asksRoom n) days numbers text out (Done (RequestRoom n) n place) numbers out′
+  looks-room {n} top s = (refl, refl, λ sv g payload. turn-room sv bs room payload numbers text out out′ g place n top s)
+
+  pub looks-malformed : room ≤ 65536 → Sends malformedText out place out′
+      → LooksAt bs room RequestMalformed malformed days numbers text out (Done RequestMalformed room place) numbers out′
+  looks-malformed top s = (refl, refl, λ sv g payload. turn-malformed sv bs room payload numbers text out out′ g place top s)
+
+-- ---- and its line
+pub looks : {bs : Blocks} {room : ℕ} {line days numbers text out : List ℕ} {q : Request} {r : Looked} {days′ numbers′ out′ : List ℕ} → length days ≡ 32768 → Parses line days q days′
+    → LooksAt bs (roomOf room) q (askedFrom q days′) days′ numbers text out r numbers′ out′ → Looks bs room line days numbers text out r days′ numbers′ out′
+looks {bs} {room} {line} {days} {numbers} {text} {out} {q} {r} {days′} {numbers′} {out′} e p l =
+    let asks : askedFrom q days′ ≡ askedOf 32768 line = parsed-asked line days q days′ p ∙ ap (λ (n : ℕ). askedOf n line) e in
+    let is : q ≡ requestOf (askedOf 32768 line) = p .request ∙ ap (λ (n : ℕ). requestOf (askedOf n line)) e in
+    record {
+      at = subst (λ (a : Asked). LooksAt bs (roomOf room) (requestOf (askedOf 32768 line)) a days′ numbers text out r numbers′ out′) asks
+          (subst (λ (w : Request). LooksAt bs (roomOf room) w (askedFrom q days′) days′ numbers text out r numbers′ out′) is l);
+      kept = p .places ∙ ap (λ (n : ℕ). over (daysOf n line) days) e;
+    }
+
+-- ---- so many days
+module _ (k n : ℕ) where
+  pub least-left : k ≤ n → k ≡ least k n
+  least-left h = rw (le-leb k n h)
+
+  pub least-right : n < k → n ≡ least k n
+  least-right h = rw (lt-leb k n h)
+
+  pub least-fits : least k n ≤ n
+  least-fits = elim (decLe k n) [
+    | yes h ↦ omega (arith, least-left h)
+    | no h ↦ omega (arith, least-right (omega arith))
+  ]
+
+-- all places of a list are as many as there are
+pub take-least : (k n : ℕ) (days : List ℕ) → length days ≡ n → take (least k n) days ≡ take k days
+take-least k n days e = elim (decLe k n) [
+  | yes h ↦ rw (← least-left k n h)
+  | no h ↦ rw (← least-right k n (omega arith)) (take-all n days (omega (arith, e)) ∙ sym (take-all k days (omega (arith, e))))
+]

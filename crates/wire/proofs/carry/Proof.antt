@@ -1,0 +1,44 @@
+-- `wire::carry` meets its contract. Assumes nothing.
+use Rattle.basis.proofs.Prelude.{arith, needs}
+use Rattle.wire.proofs.Serving.{room-fits}
+use Rattle.wire.proofs.Turns.{turn-read}
+use Rattle.wire.proofs.Looking.{least-fits, take-least}
+use Rattle.wire.proofs.carry.Statement.{statement}
+use Rattle.wire.proofs.carry.Tie as tie
+
+carry-call-requires : tie.Need-carry-call-requires
+carry-call-requires c κs =
+    let counted = c .before .before .before .before .before in
+    let clamped = counted .before in
+    let known = clamped .before .before in
+    let start = known .before .before .before in
+    let few = least-fits (known .wanted .given .0 .1 .0) 32768 in
+    (start .pre, ((rw (clamped .room-of .ensures) (room-fits (start .args .room)), omega (arith, counted .count-of .ensures, few, c .before .before .before .carry-call-arg2 .given)), (omega (arith, c .before .before .carry-call-arg3 .given), omega (arith, c .before .carry-call-arg4 .given))))
+
+-- a call
+returns : tie.Need-returns
+returns c =
+    let counted = c .before .before .before .before .before .before in
+    let clamped = counted .before in
+    let known = clamped .before .before in
+    let a = known .before .before .before .args in
+    let all = take-least (known .wanted .given .0 .1 .0) 32768 (a .days .now) (omega (arith, c .before .before .before .before .carry-call-arg2 .given)) in
+    rw (known .wanted .given .1) (rw (clamped .room-of .ensures, counted .count-of .ensures, all) at (c .carry-call .ensures (a .payload .now)))
+
+-- a reading
+returns-2 : tie.Need-returns-2
+returns-2 c =
+    let known = c .before .before .before .before in
+    let a = known .before .before .before .args in
+    rw (known .wanted2 .given .1)
+    (turn-read (a .service) _ _ (a .payload .now) (a .numbers .now) (a .text .now) (a .out .now) _ (known .wanted2 .given .0 .0) (c .restart .result) (room-fits (a .room)) (c .restart .ensures))
+
+pub carry-spec : {M : Type 1} → statement M
+carry-spec =
+    tie.close
+    (tie.spec
+    (λ c. search needs) (λ c κs. search needs) (λ c κs. search needs)
+    carry-call-requires
+    (λ c. search needs) (λ c κs. search needs)
+    returns
+    returns-2)
