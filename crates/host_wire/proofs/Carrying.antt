@@ -19,29 +19,44 @@ use Rattle.host_wire.specs.declared.Carried.{Carried}
 use Rattle.host_wire.specs.Words.{wordOf, wordIn, powerOf, changedAt}
 use Rattle.host_wire.specs.Carrying.{eventsOf, answeredOf, heldAt, Carries, HeldBack, Requested}
 use Rattle.host_wire.specs.Contracts.{CarriesOf, HeldOf, RequestedOf}
-use Rattle.host_wire.proofs.Words.{word-parsed, power-none, power-keeps, power-onlyReads, changed-journal}
+use Rattle.host_wire.proofs.Words.{word-parsed, power-none, power-keeps, power-onlyReads, length-none, unkept, changed-journal}
 
 -- ---- What leaves the service as it is
 
--- its service need not be taken from the answer
+-- the state after a request is the one before
+abbrev Stays : Service → Blocks → ℕ → Asked → List ℕ → Type 0
+Stays sv bs room q payload = (m : State) → Represents sv bs m → turnOf q payload (conv m room) .next .state ≡ m
+
+-- then its service need not be taken from the answer
 pub unchanged : {sv : Service} {bs bs′ : Blocks} {room : ℕ} (q : Asked) {payload numbers text out numbers′ text′ out′ : List ℕ} {r : Answered}
-    → powerOf (wordOf q) ≡ 0 → Given sv bs → Answers sv bs room q payload numbers text out r bs′ numbers′ text′ out′
+    → Stays sv bs room q payload → Given sv bs → Answers sv bs room q payload numbers text out r bs′ numbers′ text′ out′
     → Answers sv bs room q payload numbers text out (record { service = sv; room = r .room; place = r .place }) bs′ numbers′ text′ out′
-unchanged {room = room} q {payload} none g a =
+unchanged q same g a =
     let t = a .turned in
-    let same : (m : State) → turnOf q payload (conv m room) .next .state ≡ m = λ m. power-keeps m payload room q none in
     record {
       turned = record {
         given = record { valid = g .valid; published = t .given .published };
         room = t .room;
         taken = λ m rep. record {
           sends = t .taken m rep .sends;
-          after = rw (same m) (record { valid = rep .valid; standing = rep .standing; past = rep .past; shows = rw (same m) at (t .taken m rep .after .shows) });
+          after = rw (same m rep) (record { valid = rep .valid; standing = rep .standing; past = rep .past; shows = rw (same m rep) at (t .taken m rep .after .shows) });
           room = t .taken m rep .room;
         };
       };
       lists = a .lists;
     }
+
+-- so it is where the word only reads
+pub stays-read : (sv : Service) (bs : Blocks) (room : ℕ) (q : Asked) (payload : List ℕ) → powerOf (wordOf q) ≡ 0 → Stays sv bs room q payload
+stays-read sv bs room q payload none m rep = power-keeps m payload room q none
+
+-- and where it changes, and the answer's first byte says that it did not
+pub stays-refused : {sv : Service} {bs bs′ : Blocks} {room : ℕ} (q : Asked) {payload numbers text out numbers′ text′ out′ : List ℕ} {r : Answered} (power : ℕ) → power ≡ powerOf (wordOf q) → 1 ≤ power
+    → changedAt power out′ (r .place) ≡ 0 → Answers sv bs room q payload numbers text out r bs′ numbers′ text′ out′ → Stays sv bs room q payload
+stays-refused {room = room} q {payload} {out′ = out′} {r = r} power is some none a m rep =
+    let told : changedAt (powerOf (wordOf q)) out′ (r .place) ≡ length (journal m (eventsOf q payload room))
+    = changed-journal m payload room q (λ e. absurd (omega (arith, some, is, e))) (a .turned .taken m rep .sends) in
+    unkept m payload room q (length-none (journal m (eventsOf q payload room)) (sym told ∙ ap (λ (k : ℕ). changedAt k out′ (r .place)) (sym is) ∙ none))
 
 -- ---- What is wanted of it
 
@@ -56,13 +71,13 @@ module _ (q : Asked) {words words′ : List ℕ} {bs bs′ : Blocks} {room : ℕ
     kept = λ _. same;
   }
 
-  pub carries-change : (power : ℕ) → power ≡ powerOf (wordOf q) → (power ≡ 0 → ⊥) → r .changed ≡ changedAt power out′ (r .place) → Laid words′
+  pub carries-change : (power : ℕ) → power ≡ powerOf (wordOf q) → (power ≡ 0 → ⊥) → r .changed ≡ changedAt power out′ (r .place) → (Laid words → Laid words′)
       → CarriesOf q words bs room payload numbers text out r words′ bs′ numbers′ text′ out′
   carries-change power is some c l = record {
     answers = a;
     word = w;
     changed = λ m rep. c ∙ ap (λ (k : ℕ). changedAt k out′ (r .place)) is ∙ changed-journal m payload (roomOf room) q (λ none. some (is ∙ none)) (a .turned .taken m rep .sends);
-    laid = λ _. l;
+    laid = l;
     kept = λ none. absurd (some (is ∙ none));
   }
 

@@ -73,6 +73,10 @@ accepted-ok (Ask w) a e = absurd (false≢true (sym e))
 
 -- ---- Requests
 
+pub length-none : {A : Type 0} (l : List A) → length l ≡ 0 → l ≡ []
+length-none [] e = refl
+length-none (x ∷ l) e = absurd (omega (arith, e))
+
 module _ (m : State) (payload : List ℕ) (room : ℕ) where
   -- the state after a request is that after its event
   pub turn-left : (q : Asked) → turnOf q payload (conv m room) .next .state ≡ left m (eventsOf q payload room)
@@ -94,10 +98,14 @@ module _ (m : State) (payload : List ℕ) (room : ℕ) where
   power-none (asksRead n) none = absurd (omega (arith, none))
   power-none malformed none = refl
 
-  -- so the state is as it was
-  pub power-keeps : (q : Asked) → powerOf (wordOf q) ≡ 0 → turnOf q payload (conv m room) .next .state ≡ m
+  -- of which a journal keeps nothing, the state is as it was
+  pub unkept : (q : Asked) → journal m (eventsOf q payload room) ≡ [] → turnOf q payload (conv m room) .next .state ≡ m
   unfolding left
-  power-keeps q none = turn-left q ∙ sym (journal-left m (eventsOf q payload room)) ∙ ap (left m) (power-none q none)
+  unkept q none = turn-left q ∙ sym (journal-left m (eventsOf q payload room)) ∙ ap (left m) none
+
+  -- so of one whose word leaves it
+  pub power-keeps : (q : Asked) → powerOf (wordOf q) ≡ 0 → turnOf q payload (conv m room) .next .state ≡ m
+  power-keeps q none = unkept q (power-none q none)
 
 -- ---- The first byte of an answer
 

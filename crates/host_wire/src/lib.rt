@@ -1,7 +1,7 @@
 // A request from bytes to bytes for other software, on a host's words: what it asks is answered, and the host is told which word it was
 // and whether it changed the state.
 ghost use mathlib.Core.Path.{_≡_};
-ghost use Prim.Native.Nat.{ℕ};
+ghost use Prim.Native.Nat.{ℕ, _≤_};
 ghost use mathlib.Core.List.{List};
 ghost use Rattle.fields.specs.Fields.{isAt};
 ghost use Rattle.service.specs.Packed.{unpacked};
@@ -162,7 +162,7 @@ fn read(
     }
 }
 
-// What may change it.
+// What may change it: its words are written where it did.
 fn change(
     words: &mut [u16; SERVICE],
     index: &mut [u16; INDEX],
@@ -177,8 +177,9 @@ fn change(
     out: &mut [u8; OUT],
 ) -> Carried
     requires { ⌜ Given (unpacked (now words)) (blocks (now index)) ⌝ }
+    requires { ⌜ (power ≡ powerOf (wordOf (askedIn wanted (now days)))) × (1 ≤ power) ⌝ }
     ensures { λ r. ⌜ Answers (unpacked (now (words .entry))) (blocks (now (index .entry))) (roomOf room) (askedIn wanted (now (days .entry))) (now (payload .entry)) (now (numbers .entry)) (now (text .entry)) (now (out .entry)) (answeredOf (now (words .exit)) r) (blocks (now (index .exit))) (now (numbers .exit)) (now (text .exit)) (now (out .exit)) ⌝ }
-    ensures { λ r. ⌜ Laid (now (words .exit)) ⌝ }
+    ensures { λ r. ⌜ (Laid (now (words .entry)) → Laid (now (words .exit))) ⌝ }
     ensures { λ r. ⌜ (r .word ≡ word) × (r .changed ≡ changedAt power (now (out .exit)) (r .place)) ⌝ }
 {
     let service = service::unpack(words);
@@ -193,14 +194,23 @@ fn change(
         text,
         out,
     );
-    let after = r.service;
-    service::pack(after, words);
     let place = r.place;
     let changed = changed_at(power, out, place);
+    let room = r.room;
+    if changed == 0 {
+        return Carried {
+            word,
+            changed,
+            room,
+            place,
+        };
+    }
+    let after = r.service;
+    service::pack(after, words);
     Carried {
         word,
         changed,
-        room: r.room,
+        room,
         place,
     }
 }

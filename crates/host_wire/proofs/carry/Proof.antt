@@ -1,5 +1,5 @@
 -- `host_wire::carry` meets its contract. Assumes nothing.
-use Rattle.basis.proofs.Prelude.{_∙_, _≡_, ap, refl, sym, needs}
+use Rattle.basis.proofs.Prelude.{_∙_, _≡_, ap, refl, sym, arith, needs}
 use Rattle.wire.specs.Answering.{askedIn}
 use Rattle.host_wire.specs.Words.{wordOf, powerOf}
 use Rattle.host_wire.specs.Carrying.{heldAt}
@@ -43,6 +43,14 @@ returns-2 c =
     let done = c .read .ensures in
     within-allowed q (a .payload .now) is (chosen .before .if1 .left) (carries-read q (done .0) (done .1 .0 ∙ w) (sym is ∙ chosen .if2 .taken) (done .1 .1) refl)
 
+change-requires : tie.Need-change-requires
+change-requires c κs =
+    let chosen = c .before .before .before .before .before in
+    let known = chosen .before .before in
+    let named = known .before in
+    let start = named .before .before in
+    (start .pre, (known .power-of .ensures ∙ ap powerOf (named .wanted-word .ensures (start .args .days .now)), omega (arith, chosen .if2 .left)))
+
 returns-3 : tie.Need-returns-3
 returns-3 c =
     let chosen = c .before .before .before .before .before .before in
@@ -64,5 +72,5 @@ carry-spec =
     returns
     read-requires
     returns-2
-    (λ c κs. search needs)
+    change-requires
     returns-3)

@@ -1,20 +1,33 @@
 -- `host_wire::change` meets its contract. Assumes nothing.
-use Rattle.basis.proofs.Prelude.{refl, needs}
+use Rattle.basis.proofs.Prelude.{_∙_, sym, refl, needs}
 use Rattle.phayaklit.proofs.Host.{laid}
+use Rattle.wire.specs.Answering.{askedIn}
+use Rattle.host_wire.proofs.Carrying.{unchanged, stays-refused}
 use Rattle.host_wire.proofs.change.Statement.{statement}
 use Rattle.host_wire.proofs.change.Tie as tie
 
 carry-requires : tie.Need-carry-requires
 carry-requires c κs =
     let taken = c .before .before .before .before in
-    rw (taken .unpack .ensures) (taken .before .before .before .pre)
+    rw (taken .unpack .ensures) (taken .before .before .before .pre .0)
 
+-- nothing was changed, and the words stay
 returns : tie.Need-returns
 returns c =
-    let packed = c .before .before .before in
-    let answered = packed .before .before .before in
+    let told = c .before in
+    let answered = told .before .before .before in
     let taken = answered .before .before .before .before .before in
-    (rw (packed .pack .ensures .back) (rw (taken .unpack .ensures) at (answered .carry .ensures)), (laid _ _ (packed .pack .ensures), (refl, c .changed-at .ensures)))
+    let start = taken .before .before .before in
+    let q = askedIn (start .args .wanted) (start .args .days .now) in
+    let a = rw (taken .unpack .ensures) at (answered .carry .ensures) in
+    (unchanged q (stays-refused q (start .args .power) (start .pre .1 .0) (start .pre .1 .1) (sym (told .changed-at .ensures) ∙ c .if1 .taken) a) (start .pre .0) a, ((λ l. l), (refl, told .changed-at .ensures)))
+
+returns-2 : tie.Need-returns-2
+returns-2 c =
+    let told = c .before .before .before .before in
+    let answered = told .before .before .before in
+    let taken = answered .before .before .before .before .before in
+    (rw (c .pack .ensures .back) (rw (taken .unpack .ensures) at (answered .carry .ensures)), ((λ _. laid _ _ (c .pack .ensures)), (refl, told .changed-at .ensures)))
 
 pub change-spec : {M : Type 1} → statement M
-change-spec = tie.close (tie.spec (λ c κs. search needs) carry-requires (λ c κs. search needs) (λ c κs. search needs) returns)
+change-spec = tie.close (tie.spec (λ c κs. search needs) carry-requires (λ c κs. search needs) returns (λ c κs. search needs) returns-2)

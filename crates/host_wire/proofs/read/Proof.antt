@@ -1,7 +1,7 @@
 -- `host_wire::read` meets its contract. Assumes nothing.
 use Rattle.basis.proofs.Prelude.{refl, needs}
 use Rattle.wire.specs.Answering.{askedIn}
-use Rattle.host_wire.proofs.Carrying.{unchanged}
+use Rattle.host_wire.proofs.Carrying.{unchanged, stays-read}
 use Rattle.host_wire.proofs.read.Statement.{statement}
 use Rattle.host_wire.proofs.read.Tie as tie
 
@@ -14,7 +14,8 @@ returns : tie.Need-returns
 returns c =
     let taken = c .before .before .before .before .before in
     let start = taken .before .before in
-    (unchanged (askedIn (start .args .wanted) (start .args .days .now)) (start .pre .1) (start .pre .0) (rw (taken .unpack .ensures) at (c .carry .ensures)), (refl, refl))
+    let q = askedIn (start .args .wanted) (start .args .days .now) in
+    (unchanged q (stays-read _ _ _ q (start .args .payload .now) (start .pre .1)) (start .pre .0) (rw (taken .unpack .ensures) at (c .carry .ensures)), (refl, refl))
 
 pub read-spec : {M : Type 1} → statement M
 read-spec = tie.close (tie.spec (λ c κs. search needs) carry-requires returns)
