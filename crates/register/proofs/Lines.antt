@@ -55,7 +55,7 @@ pub step : {A B : Type 0} (r : Found A) (f : A → List ℕ → Found B) (b : B)
 step (found a rest) f b t e = record { value = a; after = rest; read = refl; on = e }
 step unreadable f b t e = absurd (never e)
 
-write-letter : (s : List ℕ) (l : ℕ) (rest : List ℕ) → readLetter s ≡ found l rest → (s ≡ l ∷ 9 ∷ rest) × ((eqb l 71 ≡ false) → l ≡ 67)
+pub write-letter : (s : List ℕ) (l : ℕ) (rest : List ℕ) → readLetter s ≡ found l rest → (s ≡ l ∷ 9 ∷ rest) × ((eqb l 71 ≡ false) → l ≡ 67)
 unfolding readLetter
 write-letter [] l rest e = absurd (never e)
 write-letter (b ∷ s) l rest e =

@@ -1,0 +1,132 @@
+-- What is kept of any text can stand, and a good text is kept whole with nothing said. Assumes nothing.
+use Rattle.basis.proofs.Prelude.{_∙_, _≡_, ap, refl, subst, sym, _<_, _≤_, suc, zero, ℕ, List, [], _++_, _∷_, append-nil, append-snoc, Bool, cond, false, false≢true, true, eqb, ltb, length, length-append, arith, eq-eqb, eqb-true, lt-ltb, ltb-true, by-cases, by-test, clash}
+use Rattle.spell.specs.declared.Spell.{Spell}
+use Rattle.spell.specs.Entry.{refusalOf}
+use Rattle.spell.specs.Listing.{stands, distinct, Each, Sound, Good}
+use Rattle.spell.proofs.Entered.{past}
+use Rattle.spell.proofs.Listing.{distinct-fresh, distinct-more}
+use Rattle.fields.specs.Fields.{Found, found, unreadable, readDecimal}
+use Rattle.fields.proofs.Bytes.{never}
+use Rattle.register.specs.Text.{readLine, lineText, textOnto}
+use Rattle.register.proofs.Lines.{read-line, write-line}
+use Rattle.repairing.specs.Repair.{linesOf, afterLine, verdict, keeping, keptAfter, verdictsAfter, remarksFrom, keptOf, remarksOf}
+use Rattle.repairing.proofs.Lines.{lines-none, lines-first, line-ends}
+
+-- ---- A line that is kept
+
+-- it passes 1 to 5, 6 and 8
+pub record Passes (kept : List Spell) (s : Spell) : Type 0 where
+  pub entered : refusalOf s ≡ 0
+  pub new : stands kept (s .number) ≡ false
+  pub room : length kept < 1024
+
+pub verdict-none : (kept : List Spell) (s : Spell) (rest : List ℕ) → Passes kept s → verdict kept (found s rest) ≡ 0
+unfolding verdict
+verdict-none kept s rest p = rw (eq-eqb (refusalOf s) 0 (p .entered), p .new, lt-ltb (length kept) 1024 (p .room))
+
+pub passes : (kept : List Spell) (s : Spell) (rest : List ℕ) → verdict kept (found s rest) ≡ 0 → Passes kept s
+unfolding verdict
+passes kept s rest e = by-test (eqb (refusalOf s) 0)
+    (λ r.
+    let p = past (stands kept (s .number)) 5 (cond (ltb (length kept) 1024) 0 8) (rw r at e) in
+    record { entered = eqb-true (refusalOf s) 0 r; new = p .0; room = ltb-true (length kept) 1024 (roomy (ltb (length kept) 1024) (p .1)) })
+    (λ r. absurd (clash (eq-eqb (refusalOf s) 0 (rw r at e)) r))
+  where
+    roomy : (b : Bool) → cond {A = ℕ} b 0 8 ≡ 0 → b ≡ true
+    roomy true e = refl
+    roomy false e = absurd (omega arith)
+
+pub keeps-it : (kept : List Spell) (s : Spell) (rest : List ℕ) → Passes kept s → keeping kept (found s rest) ≡ kept ++ (s ∷ [])
+unfolding keeping
+keeps-it kept s rest p = rw (verdict-none kept s rest p)
+
+-- the first line of a text, and the others
+module _ (kept : List Spell) (t : List ℕ) (f : Found Spell) (h : 0 < length t) (e : readLine t ≡ f) where
+  pub kept-first : keptAfter kept (linesOf t) ≡ keptAfter (keeping kept f) (linesOf (afterLine t))
+  unfolding keptAfter
+  kept-first = ap (keptAfter kept) (lines-first t h) ∙ ap (λ (g : Found Spell). keptAfter (keeping kept g) (linesOf (afterLine t))) e
+
+  pub verdicts-first : verdictsAfter kept (linesOf t) ≡ verdict kept f ∷ verdictsAfter (keeping kept f) (linesOf (afterLine t))
+  unfolding verdictsAfter
+  verdicts-first = ap (verdictsAfter kept) (lines-first t h) ∙ ap (λ (g : Found Spell). verdict kept g ∷ verdictsAfter (keeping kept g) (linesOf (afterLine t))) e
+
+-- ---- What is kept can stand
+
+pub record Kept (l : List Spell) : Type 0 where
+  pub each : Each Sound l
+  pub unique : distinct l ≡ true
+  pub few : length l ≤ 1024
+
+each-more : (l : List Spell) (s : Spell) → Each Sound l → Sound s → Each Sound (l ++ (s ∷ []))
+unfolding Each
+each-more [] s e p = (p, tt)
+each-more (x ∷ l) s e p = (e .0, each-more l s (e .1) p)
+
+pub kept-none : Kept []
+unfolding Each distinct
+kept-none = record { each = tt; unique = refl; few = omega arith }
+
+kept-more : (l : List Spell) (t : List ℕ) (s : Spell) (rest : List ℕ) → readLine t ≡ found s rest → Passes l s → Kept l → Kept (l ++ (s ∷ []))
+kept-more l t s rest e p k = record {
+  each = each-more l s (k .each) (write-line t s rest e (p .entered) .0);
+  unique = distinct-more l s (k .unique) (p .new);
+  few = omega (arith, length-append l (s ∷ []), p .room);
+}
+
+kept-line : (l : List Spell) (t : List ℕ) → Kept l → Kept (keeping l (readLine t))
+unfolding keeping
+kept-line l t k = go (readLine t) refl
+  where
+    go : (f : Found Spell) → readLine t ≡ f → Kept (keeping l f)
+    go unreadable e = k
+    go (found s rest) e = by-cases Kept (eqb (verdict l (found s rest)) 0)
+        (λ v. kept-more l t s rest e (passes l s rest (eqb-true (verdict l (found s rest)) 0 v)) k)
+        (λ v. k)
+
+pub kept-after : (l : List Spell) (lines : List (List ℕ)) → Kept l → Kept (keptAfter l lines)
+unfolding keptAfter
+kept-after l [] k = k
+kept-after l (t ∷ lines) k = kept-after (keeping l (readLine t)) lines (kept-line l t k)
+
+pub kept-good : (t : List ℕ) → Kept (keptOf t)
+kept-good t = kept-after [] (linesOf t) kept-none
+
+-- ---- A good text is kept whole
+
+-- the lines of t, after what is kept of those before, keep and say what those of u do after s
+record On (kept : List Spell) (t : List ℕ) (s : Spell) (u : List ℕ) : Type 0 where
+  keeps : keptAfter kept (linesOf t) ≡ keptAfter (kept ++ (s ∷ [])) (linesOf u)
+  says : (n : ℕ) → remarksFrom n (verdictsAfter kept (linesOf t)) ≡ remarksFrom (suc n) (verdictsAfter (kept ++ (s ∷ [])) (linesOf u))
+
+there : (t : List ℕ) (s : Spell) (rest : List ℕ) → readLine t ≡ found s rest → 0 < length t
+unfolding readLine readDecimal
+there [] s rest e = absurd (never e)
+there (b ∷ t) s rest e = omega arith
+
+line-kept : (kept : List Spell) (t : List ℕ) (s : Spell) (rest : List ℕ) → readLine t ≡ found s rest → Passes kept s → On kept t s rest
+unfolding remarksFrom
+line-kept kept t s rest e p =
+    let v = verdict-none kept s rest p in
+    let h = there t s rest e in
+    let k = keeps-it kept s rest p in
+    record {
+      keeps = kept-first kept t (found s rest) h e ∙ rw (k, line-ends t s rest e);
+      says = λ n. ap (remarksFrom n) (verdicts-first kept t (found s rest) h e) ∙ rw (v, k, line-ends t s rest e);
+    }
+
+record Whole (before m : List Spell) : Type 0 where
+  keeps : keptAfter before (linesOf (textOnto m [])) ≡ before ++ m
+  says : (n : ℕ) → remarksFrom n (verdictsAfter before (linesOf (textOnto m []))) ≡ []
+
+whole : (m before : List Spell) → Each Sound m → distinct (before ++ m) ≡ true → length (before ++ m) ≤ 1024 → Whole before m
+unfolding textOnto Each keptAfter verdictsAfter remarksFrom
+whole [] before e d h = record { keeps = rw lines-none (sym (append-nil before)); says = λ n. rw lines-none }
+whole (x ∷ m) before e d h =
+    let room : length before < 1024 = omega (arith, length-append before (x ∷ m)) in
+    let p : Passes before x = record { entered = e .0 .entered; new = distinct-fresh before x m d; room = room } in
+    let on = line-kept before (lineText x (textOnto m [])) x (textOnto m []) (read-line x (textOnto m []) (e .0)) p in
+    let later = whole m (before ++ (x ∷ [])) (e .1) (rw append-snoc d) (rw append-snoc h) in
+    record { keeps = on .keeps ∙ later .keeps ∙ append-snoc before x m; says = λ n. on .says n ∙ later .says (suc n) }
+
+pub good-kept : (l : List Spell) → Good l → (keptOf (textOnto l []) ≡ l) × (remarksOf (textOnto l []) ≡ [])
+good-kept l g = let w = whole l [] (g .each) (g .unique) (g .few) in (w .keeps, w .says 1)

@@ -1,0 +1,6 @@
+pub mod Lines
+pub mod Keeping
+pub mod Displaced
+pub mod Remarks
+pub mod Claims
+pub mod Cases
