@@ -1,6 +1,6 @@
+pub mod Cases
 pub mod Lines
 pub mod Keeping
 pub mod Displaced
 pub mod Remarks
 pub mod Claims
-pub mod Cases
