@@ -59,7 +59,7 @@ either-false : (a : Bool) → a ≡ a || false
 either-false true = refl
 either-false false = refl
 
-marked-more : (seen : List Bool) (n k : ℕ) (t : Bool) → n < length seen → getD seen k false ≡ t → getD (set seen n true) k false ≡ t || eqb n k
+pub marked-more : (seen : List Bool) (n k : ℕ) (t : Bool) → n < length seen → getD seen k false ≡ t → getD (set seen n true) k false ≡ t || eqb n k
 marked-more seen n k t h m = elim (which (eqb n k)) [
   | inl e ↦ rw (e, ← eqb-true n k e) (getD-set-same seen n true false h ∙ either-true t)
   | inr e ↦ rw e (getD-set-other seen n k true false (λ z. eqb-false n k e (sym z)) ∙ m ∙ either-false t)

@@ -1,5 +1,5 @@
 -- What is kept of any text can stand, and a good text is kept whole with nothing said. Assumes nothing.
-use Rattle.basis.proofs.Prelude.{_∙_, _≡_, ap, refl, subst, sym, _<_, _≤_, suc, zero, ℕ, List, [], _++_, _∷_, append-nil, append-snoc, Bool, cond, false, false≢true, true, eqb, ltb, length, length-append, arith, eq-eqb, eqb-true, lt-ltb, ltb-true, by-cases, by-test, clash}
+use Rattle.basis.proofs.Prelude.{_∙_, _≡_, ap, refl, subst, sym, _<_, _≤_, suc, zero, ℕ, List, [], _++_, _∷_, append-nil, append-snoc, Bool, cond, false, false≢true, true, eqb, ltb, length, length-append, arith, eq-eqb, eqb-true, lt-ltb, ltb-true, ne-eqb, by-cases, by-test, clash}
 use Rattle.spell.specs.declared.Spell.{Spell}
 use Rattle.spell.specs.Entry.{refusalOf}
 use Rattle.spell.specs.Listing.{stands, distinct, Each, Sound, Good}
@@ -39,6 +39,12 @@ passes kept s rest e = by-test (eqb (refusalOf s) 0)
 pub keeps-it : (kept : List Spell) (s : Spell) (rest : List ℕ) → Passes kept s → keeping kept (found s rest) ≡ kept ++ (s ∷ [])
 unfolding keeping
 keeps-it kept s rest p = rw (verdict-none kept s rest p)
+
+-- a line that meets a number
+pub drops-it : (kept : List Spell) (f : Found Spell) → (verdict kept f ≡ 0 → ⊥) → keeping kept f ≡ kept
+unfolding keeping
+drops-it kept unreadable z = refl
+drops-it kept (found s rest) z = rw (ne-eqb (verdict kept (found s rest)) 0 z)
 
 -- the first line of a text, and the others
 module _ (kept : List Spell) (t : List ℕ) (f : Found Spell) (h : 0 < length t) (e : readLine t ≡ f) where

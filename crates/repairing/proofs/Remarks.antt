@@ -46,6 +46,11 @@ all-lines n kept (t ∷ lines) =
     (λ e. let k : length (keeping kept f) ≡ 1 + length kept = rw e at (keeping-length kept f) in omega arith)
     (λ e. let k : length (keeping kept f) ≡ 0 + length kept = rw e at (keeping-length kept f) in omega arith)
 
+pub verdicts-length : (kept : List Spell) (lines : List (List ℕ)) → length (verdictsAfter kept lines) ≡ length lines
+unfolding verdictsAfter
+verdicts-length kept [] = refl
+verdicts-length kept (t ∷ lines) = ap suc (verdicts-length (keeping kept (readLine t)) lines)
+
 pub each-line : (t : List ℕ) → length (keptOf t) + length (remarksOf t) ≡ length (linesOf t)
 each-line t = all-lines 1 [] (linesOf t) ∙ zero-add (length (linesOf t))
 

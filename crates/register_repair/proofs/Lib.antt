@@ -1,0 +1,5 @@
+pub mod Passing
+pub mod Judging
+pub mod Sifting
+pub mod Saying
+pub mod Whole

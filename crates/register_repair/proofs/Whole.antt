@@ -1,0 +1,98 @@
+-- The answer of a repair, at each way out. Assumes nothing.
+use Rattle.basis.proofs.Prelude.{_∙_, _≡_, ap, refl, sym, _*_, _+_, _-_, _<_, _≤_, ℕ, List, Bool, _&&_, cond, false, true, leb, drop, length, length-append, length-drop, take, length-take-le, take-at, arith, eq-eqb, le-leb, leb-true, lt-leb, ne-eqb, by-test}
+use Rattle.buffer.specs.Buffer.{over}
+use Rattle.orders.specs.Orders.{sortedBy}
+use Rattle.orders.proofs.Sorting.{sorted-length}
+use Rattle.spell.specs.declared.Spell.{Spell}
+use Rattle.spell.specs.Order.{earlierOf}
+use Rattle.register.specs.declared.Written.{Written}
+use Rattle.register.specs.Text.{writeAll}
+use Rattle.register.specs.Answers.{Writes}
+use Rattle.repairing.specs.declared.Repaired.{Repaired}
+use Rattle.repairing.specs.Repair.{linesOf, keptOf, putOf, repairedText, remarksFrom, placesOf, remarksOf, displacedIn}
+use Rattle.repairing.specs.Answers.{fitting, repairRefusal, repairRefused, repairGiven, Repairs}
+use Rattle.repairing.proofs.Remarks.{each-line, verdicts-length, places-length}
+use Rattle.register_repair.specs.declared.Sifted.{Sifted}
+use Rattle.register_repair.specs.Contracts.{Sifts}
+
+-- ---- What a refusal leaves, and what is given
+
+module _ {t out remarks : List ℕ} where
+  refuses : (k : ℕ) → (k ≡ 0 → ⊥) → repairRefusal t (length out) (length remarks) ≡ k → Repairs t out remarks (repairRefused k) out remarks
+  refuses k z e =
+      let no = ne-eqb (repairRefusal t (length out) (length remarks)) 0 (λ n. z (sym e ∙ n)) in
+      record { answer = rw (no, e); text = rw no; said = rw no }
+
+  pub too-long : {r : Repaired} → r ≡ repairRefused 12 → 65536 < length t → Repairs t out remarks r out remarks
+  unfolding repairRefusal
+  too-long e h = rw e (refuses 12 (λ z. omega arith) (rw (lt-leb (length t) 65536 h)))
+
+  module _ (short : length t ≤ 65536) where
+    unfitting : {r : Repaired} → r ≡ repairRefused 11 → fitting t (length out) (length remarks) ≡ false → Repairs t out remarks r out remarks
+    unfolding repairRefusal
+    unfitting e f = rw e (refuses 11 (λ z. omega arith) (rw (le-leb (length t) 65536 short, f)))
+
+    pub remarks-short : {r : Repaired} → r ≡ repairRefused 11 → length remarks < length (placesOf (remarksOf t)) → Repairs t out remarks r out remarks
+    unfolding fitting
+    remarks-short e h = unfitting e (rw (lt-leb (length (placesOf (remarksOf t))) (length remarks) h) (neither (leb (length (repairedText t)) (length out))))
+      where
+        neither : (b : Bool) → b && false ≡ false
+        neither true = refl
+        neither false = refl
+
+    -- the text was written, or is too long for its list
+    module _ {w : Written} {out′ : List ℕ} (wrote : Writes (repairedText t) out w out′) where
+      pub text-short : {r : Repaired} → r ≡ repairRefused 11 → (w .refusal ≡ 0 → ⊥) → Repairs t out remarks r out′ remarks
+      unfolding fitting
+      text-short e z = by-test (leb (length (repairedText t)) (length out))
+          (λ f. absurd (z (ap (λ (w : Written). w .refusal) (wrote .answer) ∙ rw f)))
+          (λ f. rw (rw f at (wrote .places)) (unfitting e (rw f)))
+
+      pub given : {remarks′ : List ℕ} {dropped displaced : ℕ} → w .refusal ≡ 0 → length (placesOf (remarksOf t)) ≤ length remarks
+          → remarks′ ≡ over (placesOf (remarksOf t)) remarks → dropped ≡ length (remarksOf t) → displaced ≡ displacedIn (keptOf t)
+          → Repairs t out remarks (record { refusal = 0; line = 0; length = w .length; dropped = dropped; displaced = displaced }) out′ remarks′
+      unfolding repairRefusal fitting
+      given {remarks′} {dropped} {displaced} z room said d p = by-test (leb (length (repairedText t)) (length out))
+          (λ f.
+          let yes : repairRefusal t (length out) (length remarks) ≡ 0 = rw (le-leb (length t) 65536 short, f, le-leb (length (placesOf (remarksOf t))) (length remarks) room) in
+          let long : w .length ≡ length (repairedText t) = ap (λ (w : Written). w .length) (wrote .answer) ∙ rw f in
+          let test = eq-eqb (repairRefusal t (length out) (length remarks)) 0 yes in
+          record { answer = rw (test, long, d, p); text = rw test (wrote .places ∙ rw f); said = rw test said })
+          (λ f. absurd (eleven (w .refusal) (ap (λ (w : Written). w .refusal) (wrote .answer) ∙ rw f) z))
+        where
+          eleven : (k : ℕ) → k ≡ 11 → k ≡ 0 → ⊥
+          eleven k e z = omega arith
+
+-- a list is as long as before
+pub put-sized : (t out : List ℕ) {out′ : List ℕ} → length t ≤ length out → out′ ≡ over t out → length out′ ≡ length out
+put-sized t out h e = ap length e ∙ length-append t (drop (length t) out) ∙ omega (arith, length-drop (length t) out)
+
+pub out-sized : (t : List ℕ) {out out′ : List ℕ} {w : Written} → Writes t out w out′ → length out′ ≡ length out
+out-sized t {out} wrote = by-test (leb (length t) (length out))
+    (λ f. put-sized t out (leb-true (length t) (length out) f) (wrote .places ∙ rw f))
+    (λ f. ap length (wrote .places) ∙ rw f)
+
+-- ---- What sifting leaves to count
+
+module _ {text before met : List ℕ} {r : Sifted} (s : Sifts text before r met) (long : length (r .spells) ≡ 1024) (wide : length text ≤ length before) where
+  kept-count : length (keptOf text) ≡ r .count
+  kept-count = ap length (sym (s .kept)) ∙ length-take-le (r .count) (r .spells) (omega (arith, s .few))
+
+  line-count : length (linesOf text) ≡ r .lines
+  line-count = sym (verdicts-length _ (linesOf text)) ∙ ap length (sym (s .said)) ∙ length-take-le (r .lines) met (omega (arith, s .many, s .sized))
+
+  -- each line is kept or dropped
+  pub drop-count : r .count + length (remarksOf text) ≡ r .lines
+  drop-count = omega (arith, each-line text, kept-count, line-count)
+
+  -- two places for each
+  pub place-count : length (placesOf (remarksOf text)) ≡ 2 * (r .lines - r .count)
+  place-count = places-length (remarksOf text) ∙ omega (arith, drop-count)
+
+  pub all-remarks : placesOf (remarksFrom 1 (take (r .lines) met)) ≡ placesOf (remarksOf text)
+  all-remarks = ap (λ (l : List ℕ). placesOf (remarksFrom 1 l)) (s .said)
+
+  pub ordered-text : {a : List Spell} → a ≡ over (sortedBy earlierOf (take (r .count) (r .spells))) (r .spells) → writeAll (take (r .count) a) ≡ repairedText text
+  ordered-text e =
+      let first : take (r .count) (over (putOf text) (r .spells)) ≡ putOf text = take-at (putOf text) (drop (length (putOf text)) (r .spells)) (r .count) (sorted-length earlierOf (keptOf text) ∙ kept-count) in
+      ap writeAll (ap (take (r .count)) (e ∙ rw (s .kept)) ∙ first)

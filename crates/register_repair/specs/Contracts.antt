@@ -1,0 +1,44 @@
+-- What the parts of the repair ask and give. Assumes nothing.
+use Prim.Native.Nat.{ℕ, _<_, _≤_}
+use mathlib.Core.Path.{_≡_}
+use mathlib.Core.Bool.{Bool, false}
+use mathlib.Core.List.{List, []}
+use lib.ListN.{length, getD, take, drop}
+use Rattle.spell.specs.declared.Spell.{Spell}
+use Rattle.spell.specs.Listing.{stands}
+use Rattle.fields.specs.Fields.{found}
+use Rattle.register.specs.Text.{readLine}
+use Rattle.repairing.specs.Repair.{linesOf, afterLine, verdict, verdictsAfter, keptOf}
+use Rattle.register_repair.specs.declared.Judged.{Judged}
+use Rattle.register_repair.specs.declared.Sifted.{Sifted}
+
+-- the line at `at` ends before the place r
+pub record Past (text : List ℕ) (at r : ℕ) : Type 0 where
+  pub rest : drop r text ≡ afterLine (drop at text)
+  pub inside : r ≤ length text
+  pub further : at < length text → at < r
+
+-- the numbers of the kept spells are marked
+pub record Marks (seen : List Bool) (kept : List Spell) : Type 0 where
+  pub wide : length seen ≡ 65536
+  pub marked : (k : ℕ) → k < 65536 → getD seen k false ≡ stands kept k
+
+-- the line at `at` is read as s
+pub record Reads (text : List ℕ) (at : ℕ) (s : Spell) : Type 0 where
+  pub rest : List ℕ
+  pub line : readLine (drop at text) ≡ found s rest
+
+-- what the line at `at` meets, after whatever kept spells that are so many and marked so; where it meets nothing, its spell, and that there is
+-- room for it
+pub record Judges (text : List ℕ) (at : ℕ) (seen : List Bool) (count : ℕ) (r : Judged) : Type 0 where
+  pub met : (kept : List Spell) → Marks seen kept → length kept ≡ count → r .number ≡ verdict kept (readLine (drop at text))
+  pub spell : r .number ≡ 0 → Reads text at (r .spell)
+  pub room : r .number ≡ 0 → count < 1024
+
+-- the kept spells as they stood, and what each line met
+pub record Sifts (text before : List ℕ) (r : Sifted) (met : List ℕ) : Type 0 where
+  pub sized : length met ≡ length before
+  pub few : r .count ≤ 1024
+  pub kept : take (r .count) (r .spells) ≡ keptOf text
+  pub many : r .lines ≤ length text
+  pub said : take (r .lines) met ≡ verdictsAfter [] (linesOf text)
