@@ -1,6 +1,7 @@
 -- The published list: in the order of the answers, each number once, each spell with the days of the rule. Assumes nothing.
-use Rattle.basis.proofs.Prelude.{_∙_, _≡_, ap, refl, _≤_, ℕ, List, List·Memᴰ, List·Memᴰ·cases-cons, List·Memᴰ·head, List·Memᴰ·not-nil, List·Memᴰ·tail, [], _∷_, map, inl, inr, Bool, false, not, true, length, length-map, arith, not-true, both}
-use Rattle.model.proofs.Names.{sortedBy, sorted-length, cut, as-entered, Spell, listedBefore, stands, distinct, Each, Orderly, OrderlyBy, neither, StrictOrder, answer-order, publishedOf}
+use Rattle.basis.proofs.Prelude.{_∙_, _≡_, ap, refl, _≤_, ℕ, List, List·Memᴰ, List·Memᴰ·cases-cons, List·Memᴰ·head, List·Memᴰ·not-nil, List·Memᴰ·tail, [], _∷_, map, inl, inr, Bool, false, not, true, _↔_, length, length-map, arith, not-true, both}
+use Rattle.model.proofs.Names.{sortedBy, sorted-length, cut, as-entered, Spell, listedBefore, orderedBy, stands, distinct, Each, Orderly, OrderlyBy, neither, StrictOrder, answer-order, asym, ordered-tail, ordered-first, publishedOf}
+use Rattle.orders.specs.Orders.{insertBy}
 use Rattle.model.proofs.Edits.{stands-insert, orderly-none, orderly-insert, in-insert}
 
 module _ (t : Spell → Spell → Bool) where
@@ -18,6 +19,17 @@ module _ {t : Spell → Spell → Bool} (o : StrictOrder t) where
       let p = both (not (stands l (x .number))) (distinct l) d in
       orderly-insert o P x (sortedBy t l) (sorted-orderly P l (e .1) (p .1) (omega arith)) (e .0)
       (stands-sorted t l (x .number) (not-true (stands l (x .number)) (p .0))) (omega (arith, sorted-length t l))
+
+  front : (x : Spell) (l : List Spell) → Each (λ z. t x z ≡ true) l → insertBy t x l ≡ x ∷ l
+  unfolding insertBy Each
+  front x [] e = refl
+  front x (y ∷ l) e = rw (asym o x y (e .0))
+
+  -- a list in the order is its own sorted form
+  pub sorted-kept : (l : List Spell) → orderedBy t l ≡ true → sortedBy t l ≡ l
+  unfolding sortedBy
+  sorted-kept [] h = refl
+  sorted-kept (x ∷ l) h = ap (insertBy t x) (sorted-kept l (ordered-tail o x l h)) ∙ front x l (ordered-first o x l h)
 
 -- ---- The rule's days
 
@@ -64,20 +76,21 @@ published-entered l = ap (sortedBy listedBefore) (as-entered-all l)
 -- ---- Which spells are published
 
 module _ (t : Spell → Spell → Bool) where
-  sorted-in : (l : List Spell) (x : Spell) → List·Memᴰ x (sortedBy t l) → List·Memᴰ x l
+  -- a sorted list has the same spells
+  pub sorted-has : (l : List Spell) (x : Spell) → List·Memᴰ x (sortedBy t l) ↔ List·Memᴰ x l
   unfolding sortedBy
-  sorted-in [] x i = i
-  sorted-in (y ∷ l) x i = elim (in-insert t y (sortedBy t l) x .0 i) [ inl e ↦ List·Memᴰ·head e | inr j ↦ List·Memᴰ·tail (sorted-in l x j) ]
-
-  in-sorted : (l : List Spell) (x : Spell) → List·Memᴰ x l → List·Memᴰ x (sortedBy t l)
-  unfolding sortedBy
-  in-sorted [] x i = i
-  in-sorted (y ∷ l) x i = in-insert t y (sortedBy t l) x .1 (elim (List·Memᴰ·cases-cons i) [ inl e ↦ inl e | inr j ↦ inr (in-sorted l x j) ])
+  sorted-has [] x = (λ i. i, λ i. i)
+  sorted-has (y ∷ l) x =
+      let h = sorted-has l x in
+      let p = in-insert t y (sortedBy t l) x in (
+        λ i. elim (p .0 i) [ inl e ↦ List·Memᴰ·head e | inr j ↦ List·Memᴰ·tail (h .0 j) ],
+        λ i. elim (List·Memᴰ·cases-cons i) [ inl e ↦ p .1 (inl e) | inr j ↦ p .1 (inr (h .1 j)) ],
+      )
 
 -- EACH SPELL that stands is published with the days that the rule gives it
 pub published-all : (rule : ℕ) (l : List Spell) (s : Spell) → List·Memᴰ s l → List·Memᴰ (cut rule s) (publishedOf rule l)
 unfolding publishedOf
-published-all rule l s i = in-sorted listedBefore (map (cut rule) l) (cut rule s) (in-cut l i)
+published-all rule l s i = sorted-has listedBefore (map (cut rule) l) (cut rule s) .1 (in-cut l i)
   where
     in-cut : (l : List Spell) → List·Memᴰ s l → List·Memᴰ (cut rule s) (map (cut rule) l)
     in-cut [] i = absurd (List·Memᴰ·not-nil i)
@@ -87,7 +100,7 @@ published-all rule l s i = in-sorted listedBefore (map (cut rule) l) (cut rule s
 pub published-only : (rule : ℕ) (P : Spell → Type 0) (l : List Spell) → ((s : Spell) → List·Memᴰ s l → P (cut rule s))
     → (x : Spell) → List·Memᴰ x (publishedOf rule l) → P x
 unfolding publishedOf
-published-only rule P l h x i = from-cut l h (sorted-in listedBefore (map (cut rule) l) x i)
+published-only rule P l h x i = from-cut l h (sorted-has listedBefore (map (cut rule) l) x .0 i)
   where
     from-cut : (l : List Spell) → ((s : Spell) → List·Memᴰ s l → P (cut rule s)) → List·Memᴰ x (map (cut rule) l) → P x
     from-cut [] h i = absurd (List·Memᴰ·not-nil i)

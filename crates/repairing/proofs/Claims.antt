@@ -8,8 +8,7 @@ use Rattle.spell.proofs.Order.{text-order}
 use Rattle.register.specs.Text.{readText, good, writeAll}
 use Rattle.register.proofs.Claims.{list-again, text-again, fits}
 use Rattle.model.specs.Questions.{rising}
-use Rattle.model.proofs.Edits.{in-insert}
-use Rattle.model.proofs.Publishing.{sorted-orderly, sorted-kept}
+use Rattle.model.proofs.Publishing.{sorted-orderly, sorted-kept, sorted-has}
 use Rattle.repairing.specs.Repair.{linesOf, keptOf, putOf, repairedText, remarksOf, displacedIn}
 use Rattle.repairing.proofs.Keeping.{kept-good, good-kept}
 use Rattle.repairing.proofs.Displaced.{none-displaced, displaced-exactly}
@@ -24,18 +23,8 @@ pub reads-accepted : (t : List ℕ) → readText (repairedText t) ≡ good (putO
 reads-accepted t = list-again (putOf t) (put-good t)
 
 -- put into the order: the same spells
-sorted-has : (s : Spell) (l : List Spell) → List·Memᴰ s (sortedBy earlierOf l) ↔ List·Memᴰ s l
-unfolding sortedBy
-sorted-has s [] = (λ i. i, λ i. i)
-sorted-has s (x ∷ l) =
-    let h = sorted-has s l in
-    let p = in-insert earlierOf x (sortedBy earlierOf l) s in (
-      λ i. elim (p .0 i) [ inl e ↦ List·Memᴰ·head e | inr j ↦ List·Memᴰ·tail (h .0 j) ],
-      λ i. elim (List·Memᴰ·cases-cons i) [ inl e ↦ p .1 (inl e) | inr j ↦ p .1 (inr (h .1 j)) ],
-    )
-
 pub same-spells : (t : List ℕ) (s : Spell) → List·Memᴰ s (putOf t) ↔ List·Memᴰ s (keptOf t)
-same-spells t s = sorted-has s (keptOf t)
+same-spells t s = sorted-has earlierOf (keptOf t) s
 
 -- A GOOD REGISTER passes through unaltered with nothing said, and no line is displaced
 pub record Unaltered (t : List ℕ) (l : List Spell) : Type 0 where
