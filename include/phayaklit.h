@@ -47,9 +47,9 @@
  *   the one that nobody asks, and then has it asked (examples/swap.c). Which calls write which block is said at each: a block
  *   that a call takes as `const` is only read.
  * - A list is a pointer and its number of places, which are all there. The pointer is not null, for a list of no places
- *   too, and is aligned to 2 bytes where the places are words.
+ *   too, and is aligned to 2 bytes where the places are words, and to 4 where they have 32 bits.
  * - The blocks and lists of one call do not overlap, except that two that are only read may.
- * - A call has PHAYAKLIT_STACK_BYTES of stack.
+ * - A call has PHAYAKLIT_STACK_BYTES of stack, and phayaklit_repair PHAYAKLIT_REPAIR_STACK_BYTES.
  *
  * WHERE IT IS NOT KEPT nothing is promised. A block may be made up, torn (written during a call, or copied or saved in the
  * middle of one), damaged, or of another version of this library. With such a block a call may not come back. It may read or
@@ -80,16 +80,19 @@ extern "C" {
 #define PHAYAKLIT_SERVICE_WORDS 7746
 #define PHAYAKLIT_INDEX_WORDS 83779
 
-/* More stack than any call takes. */
+/* More stack than any call takes, but for phayaklit_repair, and more than that one takes. */
 #define PHAYAKLIT_STACK_BYTES 262144
+#define PHAYAKLIT_REPAIR_STACK_BYTES 524288
 
 /* Limits: the standing spells, the lists in the past, the calendar's last day, the bytes of a register that is read, and the
- * bytes that the largest register takes when it is written. A list of PHAYAKLIT_SPELLS places is never too short. */
+ * bytes that the largest register takes when it is written. A list of PHAYAKLIT_SPELLS places is never too short, nor is one of
+ * PHAYAKLIT_REMARKS for what a repair says of dropped lines. */
 #define PHAYAKLIT_SPELLS 1024
 #define PHAYAKLIT_PAST 64
 #define PHAYAKLIT_LAST_DAY 4000
 #define PHAYAKLIT_READ_BYTES 65536
 #define PHAYAKLIT_WRITE_BYTES 33792
+#define PHAYAKLIT_REMARKS 131072
 
 /* The numbers of refusals. */
 enum phayaklit_refusal {
@@ -141,6 +144,16 @@ typedef struct phayaklit_opened {
     uint16_t refusal;
     uint16_t line;
 } phayaklit_opened;
+
+/* What a repair answers: the refusal's number, with line 0, or 0; the length of the repaired text; how many lines were dropped; how many
+ * kept lines now stand after a line that followed them. */
+typedef struct phayaklit_repaired {
+    uint16_t refusal;
+    uint16_t line;
+    size_t length;
+    size_t dropped;
+    size_t displaced;
+} phayaklit_repaired;
 
 /* A refusal's trade word; "accepted" for 0, and "unknown refusal" for a number that no call returns. */
 static inline const char *phayaklit_refusal_word(uint16_t refusal) {
@@ -225,6 +238,17 @@ phayaklit_reply phayaklit_days(const uint16_t *index, const uint16_t *days, size
 /* The spells that contain at least one of the ticked days: bit i of the mask, bit 0 the lowest, ticks the day base + i. `ticked` is how
  * many days are ticked. No looks are reported. An empty mask lists nobody, whatever its base. Refusals: 3, 11. */
 phayaklit_reply phayaklit_mask(const uint16_t *index, uint16_t base, uint64_t mask, uint16_t *numbers, size_t numbers_length);
+
+/* ---- A register that came through a bad line. This function is in an archive of its own: link target/staticlib/libhost_repair.a too,
+ * which `bin/archive host_repair` proves and writes. It uses no block, and may be called at any time beside any other call. */
+
+/* Makes a good register of a damaged text. From the top, a line is kept that passes 12, 1 to 5, 6 and 8, the last two against the lines that
+ * are kept, and every other one is dropped; a last line without LF is dropped as 12. The kept lines go in the order to the first places of
+ * `text`. For each dropped line, rising, its line, counted from 1, and the number that it met go to the next two places of `remarks`. Later
+ * places keep what they hold. A good register comes out as it was, and nothing is said. Refusals: 12 for a text above 65,536 bytes, then 11
+ * where `text` or `remarks` is too short; both lists are then as they were. */
+phayaklit_repaired phayaklit_repair(const uint8_t *damaged, size_t damaged_length, uint8_t *text, size_t text_length,
+                                    uint32_t *remarks, size_t remarks_length);
 
 #ifdef __cplusplus
 }

@@ -20,14 +20,20 @@ pub const VERSION: u32 = 3;
 pub const SERVICE_WORDS: usize = 7746;
 pub const INDEX_WORDS: usize = 83_779;
 
-/// More stack than any call takes.
+/// More stack than any call takes, but for `repair`.
 pub const STACK_BYTES: usize = 262_144;
+
+/// More stack than `repair` takes.
+pub const REPAIR_STACK_BYTES: usize = 524_288;
 
 /// The most spells that stand: a list of so many places is never too short.
 pub const SPELLS: usize = 1024;
 
 /// The bytes that the largest register takes when it is written.
 pub const WRITE_BYTES: usize = 33_792;
+
+/// The places that the remarks of any text take: a list of so many is never too short.
+pub const REMARKS: usize = 131_072;
 
 /// Why a call is refused, by its number in the refusal table. A refused call changes nothing.
 #[derive(Clone, Copy, PartialEq, Eq, Debug)]
@@ -218,6 +224,28 @@ pub fn read<'a>(text: &[u8], service: &'a mut [u16], index: &'a mut [u16]) -> Re
     Ok((service, index, read))
 }
 
+/// What a repair gives beside the text and the remarks: the length of the text, how many lines were dropped, and how many kept lines now
+/// stand after a line that followed them.
+#[derive(Clone, Copy, PartialEq, Eq, Debug, Default)]
+pub struct Repaired {
+    pub length: usize,
+    pub dropped: usize,
+    pub displaced: usize,
+}
+
+/// A good register of a damaged text, into the first places of `text`, and for each dropped line its line and the number that it met into the
+/// first places of `remarks`. A refusal has line 0 and leaves both lists as they were.
+///
+/// The function is in an archive of its own, which a host that calls it links too: libhost_repair.a, by `-l static=host_repair` or a line
+/// `cargo:rustc-link-lib=static=host_repair` of its build script.
+pub fn repair(damaged: &[u8], text: &mut [u8], remarks: &mut [u32]) -> Result<Repaired, Misread> {
+    let (into, room) = (text.as_mut_ptr(), text.len());
+    let (said, places) = (remarks.as_mut_ptr(), remarks.len());
+    let repaired = unsafe { ffi::phayaklit_repair(damaged.as_ptr(), damaged.len(), into, room, said, places) };
+    let ffi::Repaired { refusal, line, length, dropped, displaced } = repaired;
+    accepted(refusal).map(|()| Repaired { length, dropped, displaced }).map_err(|refusal| Misread { refusal, line })
+}
+
 impl<'a> Service<'a> {
     /// Puts a spell in.
     pub fn enter(&mut self, spell: Spell) -> Result<(), Refusal> {
@@ -360,12 +388,23 @@ mod ffi {
         pub line: u16,
     }
 
+    #[repr(C)]
+    pub struct Repaired {
+        pub refusal: u16,
+        pub line: u16,
+        pub length: usize,
+        pub dropped: usize,
+        pub displaced: usize,
+    }
+
     const _: () = {
         assert!(offset_of!(Entry, number) == 0 && offset_of!(Entry, candidate) == 2 && offset_of!(Entry, first) == 4);
         assert!(offset_of!(Entry, last) == 6 && offset_of!(Entry, kind) == 8 && offset_of!(Entry, value) == 12);
         assert!(offset_of!(Reply, refusal) == 0 && offset_of!(Reply, count) == 8);
         assert!(offset_of!(Reply, looks) == 16 && offset_of!(Reply, length) == 24 && offset_of!(Reply, ticked) == 32);
         assert!(offset_of!(Opened, refusal) == 0 && offset_of!(Opened, line) == 2);
+        assert!(offset_of!(Repaired, refusal) == 0 && offset_of!(Repaired, line) == 2 && offset_of!(Repaired, length) == 8);
+        assert!(offset_of!(Repaired, dropped) == 16 && offset_of!(Repaired, displaced) == 24 && size_of::<Repaired>() == 32);
         assert!(size_of::<Entry>() == 16 && size_of::<Reply>() == 40 && size_of::<Opened>() == 4);
     };
 
@@ -392,5 +431,16 @@ mod ffi {
             length: usize,
         ) -> Reply;
         pub fn phayaklit_mask(index: *const u16, base: u16, mask: u64, numbers: *mut u16, length: usize) -> Reply;
+    }
+
+    unsafe extern "C" {
+        pub fn phayaklit_repair(
+            damaged: *const u8,
+            damaged_length: usize,
+            text: *mut u8,
+            text_length: usize,
+            remarks: *mut u32,
+            remarks_length: usize,
+        ) -> Repaired;
     }
 }

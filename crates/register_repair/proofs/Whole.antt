@@ -1,5 +1,5 @@
 -- The answer of a repair, at each way out. Assumes nothing.
-use Rattle.basis.proofs.Prelude.{_∙_, _≡_, ap, refl, sym, _*_, _+_, _-_, _<_, _≤_, ℕ, List, Bool, _&&_, cond, false, true, leb, drop, length, length-append, length-drop, take, length-take-le, take-at, arith, eq-eqb, le-leb, leb-true, lt-leb, ne-eqb, by-test}
+use Rattle.basis.proofs.Prelude.{_∙_, _≡_, ap, refl, sym, _*_, _+_, _-_, _<_, _≤_, ℕ, List, Bool, _&&_, cond, false, true, leb, drop, length, take, length-take-le, take-at, arith, eq-eqb, le-leb, leb-true, lt-leb, ne-eqb, by-test}
 use Rattle.buffer.specs.Buffer.{over}
 use Rattle.orders.specs.Orders.{sortedBy}
 use Rattle.orders.proofs.Sorting.{sorted-length}
@@ -11,7 +11,7 @@ use Rattle.register.specs.Answers.{Writes}
 use Rattle.repairing.specs.declared.Repaired.{Repaired}
 use Rattle.repairing.specs.Repair.{linesOf, keptOf, putOf, repairedText, remarksFrom, placesOf, remarksOf, displacedIn}
 use Rattle.repairing.specs.Answers.{fitting, repairRefusal, repairRefused, repairGiven, Repairs}
-use Rattle.repairing.proofs.Remarks.{each-line, verdicts-length, places-length}
+use Rattle.repairing.proofs.Remarks.{each-line, verdicts-length, places-length, put-sized}
 use Rattle.register_repair.specs.declared.Sifted.{Sifted}
 use Rattle.register_repair.specs.Contracts.{Sifts}
 
@@ -64,9 +64,6 @@ module _ {t out remarks : List ℕ} where
           eleven k e z = omega arith
 
 -- a list is as long as before
-pub put-sized : (t out : List ℕ) {out′ : List ℕ} → length t ≤ length out → out′ ≡ over t out → length out′ ≡ length out
-put-sized t out h e = ap length e ∙ length-append t (drop (length t) out) ∙ omega (arith, length-drop (length t) out)
-
 pub out-sized : (t : List ℕ) {out out′ : List ℕ} {w : Written} → Writes t out w out′ → length out′ ≡ length out
 out-sized t {out} wrote = by-test (leb (length t) (length out))
     (λ f. put-sized t out (leb-true (length t) (length out) f) (wrote .places ∙ rw f))

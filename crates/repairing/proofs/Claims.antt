@@ -1,5 +1,5 @@
 -- What repairing a register is for. Assumes nothing.
-use Rattle.basis.proofs.Prelude.{_∙_, _≡_, ap, refl, sym, _+_, _≤_, ℕ, List, List·Memᴰ, List·Memᴰ·cases-cons, List·Memᴰ·head, List·Memᴰ·tail, [], _∷_, map, true, _↔_, _⊎_, inl, inr, length, arith}
+use Rattle.basis.proofs.Prelude.{_∙_, _≡_, ap, refl, sym, _+_, _*_, _≤_, ℕ, List, List·Memᴰ, List·Memᴰ·cases-cons, List·Memᴰ·head, List·Memᴰ·tail, [], _∷_, map, true, _↔_, _⊎_, inl, inr, eqb, leb, length, arith, le-leb, leb-true, by-test}
 use Rattle.orders.specs.Orders.{sortedBy}
 use Rattle.spell.specs.declared.Spell.{Spell}
 use Rattle.spell.specs.Order.{earlierOf, ordered}
@@ -9,10 +9,13 @@ use Rattle.register.specs.Text.{readText, good, writeAll}
 use Rattle.register.proofs.Claims.{list-again, text-again, fits}
 use Rattle.model.specs.Questions.{rising}
 use Rattle.model.proofs.Publishing.{sorted-orderly, sorted-kept, sorted-has}
-use Rattle.repairing.specs.Repair.{linesOf, keptOf, putOf, repairedText, remarksOf, displacedIn}
+use Rattle.buffer.specs.Buffer.{over}
+use Rattle.repairing.specs.declared.Repaired.{Repaired}
+use Rattle.repairing.specs.Repair.{linesOf, keptOf, putOf, repairedText, remarksOf, placesOf, displacedIn}
+use Rattle.repairing.specs.Answers.{fitting, repairRefusal, repairRefused, repairGiven, Repairs}
 use Rattle.repairing.proofs.Keeping.{kept-good, good-kept}
 use Rattle.repairing.proofs.Displaced.{none-displaced, displaced-exactly}
-use Rattle.repairing.proofs.Remarks.{remarks-rise, each-line}
+use Rattle.repairing.proofs.Remarks.{remarks-rise, each-line, places-length, put-sized}
 
 -- what is put into the order can stand
 pub put-good : (t : List ℕ) → Good (putOf t)
@@ -65,3 +68,60 @@ displaced-none-exactly t = displaced-exactly (keptOf t) (kept-good t .unique)
 -- what comes out is never longer than this
 pub text-fits : (t : List ℕ) → length (repairedText t) ≤ 33792
 text-fits t = fits (putOf t) (put-good t)
+
+-- ---- The lent lists
+
+-- what is given lies inside the lists, which are as long as before
+pub record Inside (out remarks : List ℕ) (r : Repaired) (out′ remarks′ : List ℕ) : Type 0 where
+  pub text : r .length ≤ length out
+  pub said : 2 * r .dropped ≤ length remarks
+  pub text-sized : length out′ ≡ length out
+  pub said-sized : length remarks′ ≡ length remarks
+
+module _ {t out remarks out′ remarks′ : List ℕ} {r : Repaired} (a : Repairs t out remarks r out′ remarks′) where
+  -- A REFUSAL leaves both lists as they were, and gives 0 for line, length and counts
+  pub refused-keeps : (r .refusal ≡ 0 → ⊥) → (out′ ≡ out) × (remarks′ ≡ remarks) × (r ≡ repairRefused (r .refusal))
+  refused-keeps z = by-test (eqb (repairRefusal t (length out) (length remarks)) 0)
+      (λ e. absurd (z (ap (λ (r : Repaired). r .refusal) (a .answer) ∙ rw e)))
+      (λ e.
+      let is : r ≡ repairRefused (repairRefusal t (length out) (length remarks)) = a .answer ∙ rw e in
+      (a .text ∙ rw e, a .said ∙ rw e, is ∙ ap repairRefused (sym (ap (λ (r : Repaired). r .refusal) is))))
+
+  -- what is given lies inside
+  pub within : Inside out remarks r out′ remarks′
+  unfolding repairRefusal fitting
+  within = by-test (leb (length t) 65536)
+      (λ h. by-test (leb (length (repairedText t)) (length out))
+      (λ f. by-test (leb (length (placesOf (remarksOf t))) (length remarks))
+      (λ g.
+      let is : r ≡ repairGiven t = a .answer ∙ rw (h, f, g) in
+      let fit = leb-true (length (repairedText t)) (length out) f in
+      let room = leb-true (length (placesOf (remarksOf t))) (length remarks) g in
+      record {
+        text = omega (arith, ap (λ (r : Repaired). r .length) is);
+        said = omega (arith, ap (λ (r : Repaired). r .dropped) is, places-length (remarksOf t));
+        text-sized = put-sized (repairedText t) out fit (a .text ∙ rw (h, f, g));
+        said-sized = put-sized (placesOf (remarksOf t)) remarks room (a .said ∙ rw (h, f, g));
+      })
+      (λ g. nothing 11 (a .answer ∙ rw (h, f, g)) (a .text ∙ rw (h, f, g)) (a .said ∙ rw (h, f, g))))
+      (λ f. nothing 11 (a .answer ∙ rw (h, f)) (a .text ∙ rw (h, f)) (a .said ∙ rw (h, f))))
+      (λ h. nothing 12 (a .answer ∙ rw h) (a .text ∙ rw h) (a .said ∙ rw h))
+    where
+      nothing : (k : ℕ) → r ≡ repairRefused k → out′ ≡ out → remarks′ ≡ remarks → Inside out remarks r out′ remarks′
+      nothing k is o m = record {
+        text = omega (arith, ap (λ (r : Repaired). r .length) is);
+        said = omega (arith, ap (λ (r : Repaired). r .dropped) is);
+        text-sized = ap length o;
+        said-sized = ap length m;
+      }
+
+  -- GIVEN ROOM, a good register stands in the first places as it came, and nothing is said
+  pub passes-through : (l : List Spell) → readText t ≡ good l → length t ≤ length out
+      → (out′ ≡ over t out) × (remarks′ ≡ remarks) × (r ≡ record { refusal = 0; line = 0; length = length t; dropped = 0; displaced = 0 })
+  unfolding repairRefusal fitting placesOf
+  passes-through l e room =
+      let u = unaltered t l e in
+      let short : leb (length t) 65536 ≡ true = le-leb (length t) 65536 (omega (arith, text-again t l e, ap length (text-again t l e .0), fits l (text-again t l e .1))) in
+      let fit : leb (length t) (length out) ≡ true = le-leb (length t) (length out) room in
+      let none : leb 0 (length remarks) ≡ true = le-leb 0 (length remarks) (omega arith) in
+      (a .text ∙ rw (short, u .text, fit, u .silent, none), a .said ∙ rw (short, u .text, fit, u .silent, none), a .answer ∙ rw (short, u .text, fit, u .silent, none, u .in-place))

@@ -3,7 +3,8 @@ use Rattle.basis.proofs.Prelude.{_∙_, _≡_, ap, subst, sym, _+_, _-_, _*_, _
 use Rattle.buffer.specs.Buffer.{over}
 use Rattle.register.specs.Answers.{Writes}
 use Rattle.repairing.specs.Repair.{placesOf, remarksOf, repairedText, displacedIn}
-use Rattle.register_repair.proofs.Whole.{too-long, remarks-short, text-short, given, put-sized, out-sized, drop-count, place-count, all-remarks, ordered-text}
+use Rattle.repairing.proofs.Remarks.{put-sized}
+use Rattle.register_repair.proofs.Whole.{too-long, remarks-short, text-short, given, out-sized, drop-count, place-count, all-remarks, ordered-text}
 use Rattle.register_repair.proofs.repair.Statement.{statement}
 use Rattle.register_repair.proofs.repair.Tie as tie
 
