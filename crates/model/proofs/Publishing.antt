@@ -1,7 +1,6 @@
 -- The published list: in the order of the answers, each number once, each spell with the days of the rule. Assumes nothing.
 use Rattle.basis.proofs.Prelude.{_∙_, _≡_, ap, refl, _≤_, ℕ, List, List·Memᴰ, List·Memᴰ·cases-cons, List·Memᴰ·head, List·Memᴰ·not-nil, List·Memᴰ·tail, [], _∷_, map, inl, inr, Bool, false, not, true, _↔_, length, length-map, arith, not-true, both}
-use Rattle.model.proofs.Names.{sortedBy, sorted-length, cut, as-entered, Spell, listedBefore, orderedBy, stands, distinct, Each, Orderly, OrderlyBy, neither, StrictOrder, answer-order, asym, ordered-tail, ordered-first, publishedOf}
-use Rattle.orders.specs.Orders.{insertBy}
+use Rattle.model.proofs.Names.{sortedBy, sorted-length, cut, as-entered, Spell, listedBefore, stands, distinct, Each, Orderly, OrderlyBy, neither, StrictOrder, answer-order, publishedOf}
 use Rattle.model.proofs.Edits.{stands-insert, orderly-none, orderly-insert, in-insert}
 
 module _ (t : Spell → Spell → Bool) where
@@ -19,17 +18,6 @@ module _ {t : Spell → Spell → Bool} (o : StrictOrder t) where
       let p = both (not (stands l (x .number))) (distinct l) d in
       orderly-insert o P x (sortedBy t l) (sorted-orderly P l (e .1) (p .1) (omega arith)) (e .0)
       (stands-sorted t l (x .number) (not-true (stands l (x .number)) (p .0))) (omega (arith, sorted-length t l))
-
-  front : (x : Spell) (l : List Spell) → Each (λ z. t x z ≡ true) l → insertBy t x l ≡ x ∷ l
-  unfolding insertBy Each
-  front x [] e = refl
-  front x (y ∷ l) e = rw (asym o x y (e .0))
-
-  -- a list in the order is its own sorted form
-  pub sorted-kept : (l : List Spell) → orderedBy t l ≡ true → sortedBy t l ≡ l
-  unfolding sortedBy
-  sorted-kept [] h = refl
-  sorted-kept (x ∷ l) h = ap (insertBy t x) (sorted-kept l (ordered-tail o x l h)) ∙ front x l (ordered-first o x l h)
 
 -- ---- The rule's days
 

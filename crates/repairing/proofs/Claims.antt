@@ -1,14 +1,15 @@
 -- What repairing a register is for. Assumes nothing.
-use Rattle.basis.proofs.Prelude.{_∙_, _≡_, ap, refl, sym, _+_, _*_, _≤_, ℕ, List, List·Memᴰ, List·Memᴰ·cases-cons, List·Memᴰ·head, List·Memᴰ·tail, [], _∷_, map, true, _↔_, _⊎_, inl, inr, eqb, leb, length, arith, le-leb, leb-true, by-test}
-use Rattle.orders.specs.Orders.{sortedBy}
+use Rattle.basis.proofs.Prelude.{_∙_, _≡_, ap, refl, sym, _+_, _*_, _≤_, ℕ, List, List·Memᴰ, [], _∷_, map, true, _↔_, eqb, leb, length, arith, le-leb, leb-true, both, by-test}
+use Rattle.orders.specs.Orders.{sortedBy, inOrderBy}
+use Rattle.orders.proofs.Sorting.{in-order-sorted}
 use Rattle.spell.specs.declared.Spell.{Spell}
-use Rattle.spell.specs.Order.{earlierOf, ordered}
+use Rattle.spell.specs.Order.{earlierOf, ordered, orderedBy}
 use Rattle.spell.specs.Listing.{Good, Sound}
-use Rattle.spell.proofs.Order.{text-order}
+use Rattle.spell.proofs.Order.{text-order, asym}
 use Rattle.register.specs.Text.{readText, good, writeAll}
 use Rattle.register.proofs.Claims.{list-again, text-again, fits}
 use Rattle.model.specs.Questions.{rising}
-use Rattle.model.proofs.Publishing.{sorted-orderly, sorted-kept, sorted-has}
+use Rattle.model.proofs.Publishing.{sorted-orderly, sorted-has}
 use Rattle.buffer.specs.Buffer.{over}
 use Rattle.repairing.specs.declared.Repaired.{Repaired}
 use Rattle.repairing.specs.Repair.{linesOf, keptOf, putOf, repairedText, remarksOf, placesOf, displacedIn}
@@ -29,6 +30,13 @@ reads-accepted t = list-again (putOf t) (put-good t)
 pub same-spells : (t : List ℕ) (s : Spell) → List·Memᴰ s (putOf t) ↔ List·Memᴰ s (keptOf t)
 same-spells t s = sorted-has earlierOf (keptOf t) s
 
+-- no spell of a list in the order comes before the one that it follows
+in-order : (l : List Spell) → ordered l ≡ true → inOrderBy earlierOf l ≡ true
+unfolding orderedBy inOrderBy
+in-order [] h = refl
+in-order (x ∷ []) h = refl
+in-order (x ∷ y ∷ l) h = let p = both (earlierOf x y) (ordered (y ∷ l)) h in rw (asym text-order x y (p .0)) (in-order (y ∷ l) (p .1))
+
 -- A GOOD REGISTER passes through unaltered with nothing said, and no line is displaced
 pub record Unaltered (t : List ℕ) (l : List Spell) : Type 0 where
   pub text : repairedText t ≡ t
@@ -43,7 +51,7 @@ unaltered t l e =
     let k = good-kept l g in
     let kept : keptOf t ≡ l = ap keptOf (sym (w .0)) ∙ k .0 in
     record {
-      text = ap (λ (m : List Spell). writeAll (sortedBy earlierOf m)) kept ∙ ap writeAll (sorted-kept text-order l (g .in-order)) ∙ w .0;
+      text = ap (λ (m : List Spell). writeAll (sortedBy earlierOf m)) kept ∙ ap writeAll (in-order-sorted earlierOf l (in-order l (g .in-order))) ∙ w .0;
       silent = ap remarksOf (sym (w .0)) ∙ k .1;
       kept = kept;
       in-place = ap displacedIn kept ∙ none-displaced l (g .in-order);
