@@ -78,7 +78,7 @@ extern "C" {
 /* The sizes of the two blocks, in words of 16 bits. In an index each link, its absence included, is a word: those to parent,
  * left sibling, last child and next in chain take 8,192 bytes in all. */
 #define PHAYAKLIT_SERVICE_WORDS 7746
-#define PHAYAKLIT_INDEX_WORDS 83779
+#define PHAYAKLIT_INDEX_WORDS 21306
 
 /* More stack than any call takes, but for phayaklit_repair, and more than that one takes. */
 #define PHAYAKLIT_STACK_BYTES 262144

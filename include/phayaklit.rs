@@ -18,7 +18,7 @@ pub const VERSION: u32 = 3;
 /// The sizes of the two blocks, in words. In an index each link, its absence included, is a word: those to parent, left sibling,
 /// last child and next in chain take 8,192 bytes in all.
 pub const SERVICE_WORDS: usize = 7746;
-pub const INDEX_WORDS: usize = 83_779;
+pub const INDEX_WORDS: usize = 21_306;
 
 /// More stack than any call takes, but for `repair`.
 pub const STACK_BYTES: usize = 262_144;

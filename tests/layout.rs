@@ -73,7 +73,7 @@ fn main() -> Result<(), Box<dyn Error>> {
     let misread: Box<dyn Error> = misread.unwrap_err().into();
     assert_eq!(misread.to_string(), "line 6: malformed (refusal 12)");
     let short: Box<dyn Error> = phayaklit::fresh_index(&mut one[1..]).unwrap_err().into();
-    assert_eq!(short.to_string(), "a block of 83778 words is lent where 83779 are needed");
+    assert_eq!(short.to_string(), "a block of 21305 words is lent where 21306 are needed");
 
     assert_eq!(phayaklit::version(), phayaklit::VERSION);
     println!("version {}", phayaklit::VERSION);

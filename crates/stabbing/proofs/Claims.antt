@@ -53,4 +53,4 @@ module _ (fs ls : List ℕ) (sorted : Sorted fs ls) where
 
 -- THE LINKS as publish stores them: each the definition's mark, or 0 for none, in 8,192 bytes
 pub links-stored : (ix : List ℕ) → Built ix → StoredLinks ix
-links-stored = stored-links
+links-stored ix b = stored-links ix (b .block)

@@ -1,9 +1,9 @@
 -- The links of any index that publish leaves, as they are stored: a word of 16 bits each. Assumes nothing.
 use Rattle.basis.proofs.Prelude.{_∙_, _≡_, ap, _*_, _+_, _<_, _≤_, ℕ, List, _++_, false, true, drop, getD, length, length-append, length-drop, take, length-take-le, arith}
 use Rattle.stabbing.specs.Tree.{head, parent, leftSibling, lastChild, next}
-use Rattle.stabbing.specs.Index.{capacity, parentColumn, leftColumn, childColumn, nextColumn, headLink, rowLink, blockOf, rows, numbers, firsts, lasts, Built}
+use Rattle.stabbing.specs.Index.{capacity, parentColumn, leftColumn, childColumn, nextColumn, headLink, rowLink, blockOf, rows, numbers, firsts, lasts, Block}
 use Rattle.stabbing.proofs.Marking.{row-link, head-link, head-none, head-past, row-past, parent-small, left-small, child-small, next-small}
-use Rattle.stabbing.proofs.Block.{parent-word, left-word, child-word, next-word, built-length, fs-rows}
+use Rattle.stabbing.proofs.Block.{parent-word, left-word, child-word, next-word, words-long, fs-rows, fs-few, word-is}
 
 -- A column of links of heads: at a head the definition's mark, which is 0 where it has none; 0 at a row that is no head, and past the rows;
 -- every mark at most 1,024
@@ -38,7 +38,7 @@ pub record StoredLinks (ix : List ℕ) : Type 0 where
 four-long : (a b c d : List ℕ) → length a ≡ capacity → length b ≡ capacity → length c ≡ capacity → length d ≡ capacity → length (a ++ b ++ c ++ d) ≡ 4096
 four-long a b c d ea eb ec ed = length-append (a ++ b ++ c) d ∙ omega (arith, length-append (a ++ b) c, length-append a b)
 
-module _ (ix : List ℕ) (b : Built ix) where
+module _ (ix : List ℕ) (b : Block ix) where
   abbrev js : List ℕ
   js = firsts ix
 
@@ -46,12 +46,12 @@ module _ (ix : List ℕ) (b : Built ix) where
   es = lasts ix
 
   few : length js ≤ capacity
-  few = omega (arith, fs-rows ix b, b .few)
+  few = fs-few ix b
 
   -- the words of a column of these rows' block are the index's
   module _ (base : ℕ) (f : ℕ → ℕ) (word : (p : ℕ) → p < capacity → getD (blockOf (numbers ix) js es) (p + base) 0 ≡ f p) (small : (p : ℕ) → f p ≤ length js) where
     here : (p : ℕ) → p < capacity → getD ix (p + base) 0 ≡ f p
-    here p h = ap (λ (x : List ℕ). getD x (p + base) 0) (b .block) ∙ word p h
+    here p h = word-is ix b (p + base) (word p h)
 
     inside : (p : ℕ) → p < capacity → getD ix (p + base) 0 ≤ capacity
     inside p h = omega (arith, here p h, small p, few)
@@ -72,7 +72,7 @@ module _ (ix : List ℕ) (b : Built ix) where
   }
 
   column-long : (base : ℕ) → base ≤ nextColumn → length (columnOf ix base) ≡ capacity
-  column-long base h = length-take-le capacity (drop base ix) (omega (arith, length-drop base ix, built-length ix b))
+  column-long base h = length-take-le capacity (drop base ix) (omega (arith, length-drop base ix, words-long ix b))
 
   links-long : length (linksOf ix) ≡ 4096
   links-long = four-long (columnOf ix parentColumn) (columnOf ix leftColumn) (columnOf ix childColumn) (columnOf ix nextColumn)

@@ -4,11 +4,11 @@ use Prim.Native.Nat.{ℕ, zero, suc, _+_, _≤_, _<_}
 use mathlib.Core.Bool.{Bool, true, false, not, _&&_}
 use mathlib.Core.List.{List}
 use mathlib.Core.Path.{_≡_}
-use lib.Dec.{leb, eqb}
+use lib.Dec.{leb}
 use lib.ListN.{length, getD}
 use Rattle.stabbing.specs.Tree.{below, dayAt, head, parent, leftSibling, lastChild, next, start}
 use Rattle.stabbing.specs.Stored.{Sorted, latest}
-use Rattle.stabbing.specs.Index.{lastOf, capacity, numberCount, firstColumn, lastColumn, parentColumn, leftColumn, leftLastColumn, childColumn, childLastColumn, nextColumn, nextLastColumn, startTable, latestTable, numberTable}
+use Rattle.stabbing.specs.Index.{lastOf, capacity, firstColumn, lastColumn, parentColumn, leftColumn, leftLastColumn, childColumn, childLastColumn, nextColumn, nextLastColumn, startTable, latestTable}
 
 -- the positions from m on that pass the test
 abbrev pub from : ℕ → (ℕ → Bool) → ℕ → Bool
@@ -61,5 +61,3 @@ pub record Holds (ix ns fs ls : List ℕ) : Type 0 where
   pub next-lasts : (p : ℕ) → p < length fs → getD ix (p + nextLastColumn) 0 ≡ lastOf ls (next fs ls p)
   pub starts : (d : ℕ) → d ≤ 4000 → getD ix (d + startTable) 0 ≡ start fs ls d d
   pub begun : (d : ℕ) → d ≤ 4000 → getD ix (d + latestTable) 0 ≡ latest fs ls d
-  pub by-number : (x : ℕ) → x < numberCount → getD ix (x + numberTable) 0 ≡ below (λ p. eqb (getD ns p 0) x) (length fs)
-  pub own : (p : ℕ) → p < length fs → getD ns p 0 < numberCount → getD ix (getD ns p 0 + numberTable) 0 ≡ suc p

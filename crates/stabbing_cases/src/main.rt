@@ -8,15 +8,13 @@
 // is of all three: refusal, count, comparisons, the numbers listed, and the place after them, which must hold what it held.
 use libc::STDIN_FILENO;
 use libc::STDOUT_FILENO;
-use stabbing::BY_NUMBER;
 use stabbing::INDEX;
 use stabbing::Listed;
 use stabbing::ROWS;
 ghost use Prim.Native.Nat.{_<_};
 ghost use mathlib.Core.Path.{_≡_};
 ghost use mathlib.Core.Bool.{true};
-ghost use Rattle.stabbing_cases.specs.Own.{Own};
-ghost use Rattle.stabbing.specs.Index.{rows, Built};
+ghost use Rattle.stabbing.specs.Index.{Block, Built};
 
 // What every place of a list holds before it is lent.
 const MARK: u16 = 60001;
@@ -324,15 +322,15 @@ fn ask_all(index: &[u16; INDEX], number: &[u16; 1024], n: usize, far: bool)
     }
 }
 
-// Whether the table by number leads from the number of each row to that row: a number that two rows have leads to one of them.
+// Whether the number of each row leads to that row: a number that two rows have leads to one of them. Then the questions may be asked.
 fn own_numbers(index: &[u16; INDEX]) -> bool
-    ensures { λ r. ⌜ (r ≡ true → Own (now (index .entry)) (rows (now (index .entry)))) ⌝ }
+    requires { ⌜ Block (now index) ⌝ }
+    ensures { λ r. ⌜ (r ≡ true → Built (now (index .entry))) ⌝ }
 {
     let n = stabbing::to_usize(index[ROWS]);
     let mut p: usize = 0;
     while p < n {
-        let number = stabbing::to_usize(index[p]);
-        if stabbing::to_usize(index[number + BY_NUMBER]) != p + 1 {
+        if stabbing_lookup::find(index, index[p]) != p + 1 {
             return false;
         }
         p += 1;

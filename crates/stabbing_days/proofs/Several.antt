@@ -17,8 +17,8 @@ use Rattle.stabbing.proofs.Days.{keep-from, added, added-room, added-none, adde
 use Rattle.stabbing_query.specs.Contracts.{numbered}
 use Rattle.stabbing_query.proofs.Answering.{give-all, give-none, refusal, keep-map, day-in}
 use Rattle.stabbing_query.proofs.Answering as Answers
-use Rattle.stabbing_days.specs.Contracts.{Skips, past, dayFrom, daysFrom, asked, askedAll, AddAsks, GatherAsks, Added, Gathered}
-use Rattle.stabbing_days.proofs.Skipping.{drop-map, rest-from, keep-within}
+use Rattle.stabbing_days.specs.Contracts.{Skips, Parted, dayFrom, daysFrom, asked, askedAll, AddAsks, GatherAsks, Added, Gathered}
+use Rattle.stabbing_days.proofs.Skipping.{drop-map, rest-from, kept-rows}
 use Rattle.stabbing_days.proofs.Closing.{closed}
 
 -- ---- The checks, day by day: what the days from the place i on say is what all of them say
@@ -109,19 +109,17 @@ module _ {ix : List ℕ} {d : ℕ} {part : List ℕ} (q : AddAsks ix d part) whe
 
     -- with the place that is reached by skipping
     module _ {m f : ℕ} (z : Skips ix (take (r .count) xs) m f) where
-      f-is : f + past m finds ≡ length finds
-      f-is = z .skips finds (keep-within (fitsAt fs ls d d) (length fs)) found-is ∙ ap length found-is ∙ listed-length
+      parted : Parted m f finds
+      parted = z .skips finds (kept-rows ix (fitsAt fs ls d d)) found-is
 
       pub f-in : f ≤ r .count
-      f-in = omega (arith, f-is, count-is, listed-length)
+      f-in = omega (arith, parted .within, count-is, listed-length)
 
       pub f-within : f ≤ length (take (r .count) xs)
       f-within = omega (arith, length-take-le (r .count) xs count-in, f-in)
 
       new : drop f (take (r .count) xs) ≡ dayFrom ix m d
-      new =
-          let n : f ≡ length finds - past m finds = omega (arith, f-is) in
-          ap (drop f) found-is ∙ rw n (drop-map (λ (p : ℕ). getD ix p 0) (length finds - past m finds) finds ∙ ap (numbered ix) (rest-from (fitsAt fs ls d d) m (length fs)))
+      new = ap (drop f) found-is ∙ drop-map (λ (p : ℕ). getD ix p 0) f finds ∙ ap (numbered ix) (rest-from (fitsAt fs ls d d) m (length fs) f parted)
 
       new-count : r .count - f ≡ length (dayFrom ix m d)
       new-count = sym (length-drop f (take (r .count) xs) ∙ omega (arith, length-take-le (r .count) xs count-in)) ∙ ap length new

@@ -1,120 +1,41 @@
--- The rows of a list that lie past the first m, counted from its end, and the steps of `skip`, apart from the code. Assumes nothing.
-use Rattle.basis.proofs.Prelude.{_∙_, _≡_, ap, refl, sym, _+_, _-_, _<_, _≤_, suc, zero, zero-le, ℕ, List, [], _++_, _∷_, map, Bool, _&&_, leb, ltb, List·getD-append, drop, drop-of-length-le, getD, length, length-append, length-drop, length-map, drop-append-le, drop-cons, drop-length, getD-append-seam, le-refl, arith, le-leb, leb-false, leb-true, lt-leb, ltb-false, ltb-true, by-test}
+-- The rows of a list that lie past the first m, found by halving: the steps of `skip`, apart from the code. Assumes nothing.
+use Rattle.basis.proofs.Prelude.{_∙_, _≡_, ap, refl, sym, _+_, _-_, _<_, _≤_, suc, zero, zero-le, ℕ, List, [], _++_, _∷_, map, Bool, _&&_, _≢_, leb, ltb, List·getD-append, drop, getD, length, length-append, length-map, drop-at, getD-append-add, le-refl, arith, le-ltb, leb-true, lt-ltb, ltb-false, ltb-true, both, by-eq, by-test}
 use Rattle.stabbing.specs.Tree.{keep}
-use Rattle.stabbing.specs.Index.{numberTable, Built, numbers, firsts, lasts}
-use Rattle.stabbing.specs.Contracts.{Holds, from}
-use Rattle.stabbing.proofs.Marks.{keep-hit, keep-miss}
-use Rattle.stabbing.proofs.Block.{built-holds}
-use Rattle.stabbing.proofs.Days.{none-from}
+use Rattle.stabbing.specs.Index.{Built, numbers, firsts, markIn}
+use Rattle.stabbing.specs.Contracts.{from}
+use Rattle.stabbing.proofs.Block.{built-holds, leads-back}
+use Rattle.stabbing.proofs.Days.{keep-parts}
+use Rattle.stabbing.proofs.Listing.{lists}
 use Rattle.stabbing_query.specs.Contracts.{numbered}
-use Rattle.stabbing_days.specs.Contracts.{past, InRows, Skips}
+use Rattle.stabbing_days.specs.Contracts.{InRows, Parted, Skips}
 
-by-le : {A : Type 0} (a b : ℕ) → (a ≤ b → A) → (b < a → A) → A
-by-le a b f g = by-test (leb a b) (λ e. f (leb-true a b e)) (λ e. g (leb-false a b e))
+-- ---- What is parted
 
--- one more position before the others: it counts where all of them do and it is not below m
-past-all : (m p : ℕ) (ps : List ℕ) → past m ps ≡ length ps → m ≤ p → past m (p ∷ ps) ≡ suc (length ps)
-unfolding past
-past-all m p ps e h = rw (e, le-leb (length ps) (length ps) (le-refl _), le-leb m p h, past)
-
-past-none : (m p : ℕ) (ps : List ℕ) → p < m → past m (p ∷ ps) ≡ past m ps
-unfolding past
-past-none m p ps h = by-test (leb (length ps) (past m ps)) (λ e. rw (e, lt-leb m p h, past)) (λ e. rw (e, past))
-
-past-short : (m p : ℕ) (ps : List ℕ) → past m ps < length ps → past m (p ∷ ps) ≡ past m ps
-unfolding past
-past-short m p ps h = rw (lt-leb (length ps) (past m ps) h, past)
-
-pub past-le : (m : ℕ) (ps : List ℕ) → past m ps ≤ length ps
-unfolding past
-past-le m [] = zero-le
-past-le m (p ∷ ps) = by-test (leb (length ps) (past m ps) && leb m p) (λ e. rw (e, past) (le-refl _)) (λ e. rw (e, past) (omega (arith, past-le m ps)))
-
--- none is below 0
-past-zero : (ps : List ℕ) → past 0 ps ≡ length ps
-unfolding past
-past-zero [] = refl
-past-zero (p ∷ ps) = past-all 0 p ps (past-zero ps) zero-le
-
--- what stops the count in a list's later part stops it in the whole
-past-rest : (m k : ℕ) (ps : List ℕ) → past m (drop k ps) < length (drop k ps) → past m ps ≡ past m (drop k ps)
-past-rest m zero ps h = refl
-past-rest m (suc k) [] h = refl
-past-rest m (suc k) (p ∷ ps) h =
-    let ih = past-rest m k ps h in
-    past-short m p ps (omega (arith, ih, length-drop k ps)) ∙ ih
-
--- a last position that is not below m, and one that is
-past-most : (m : ℕ) (ps : List ℕ) (n : ℕ) → m ≤ n → past m (ps ++ (n ∷ [])) ≡ suc (past m ps)
-unfolding past
-past-most m [] n h = rw (le-leb m n h, past)
-past-most m (p ∷ ps) n h =
-    let ih = past-most m ps n h in
-    let l : length (ps ++ (n ∷ [])) ≡ suc (length ps) = length-append ps (n ∷ []) ∙ omega arith in
-    by-le (length ps) (past m ps)
-    (λ y. by-le m p
-    (λ z. past-all m p (ps ++ (n ∷ [])) (omega (arith, past-le m ps)) z ∙ ap suc (l ∙ sym (past-all m p ps (omega (arith, past-le m ps)) z)))
-    (λ z. past-none m p (ps ++ (n ∷ [])) z ∙ ih ∙ ap suc (sym (past-none m p ps z))))
-    (λ y. past-short m p (ps ++ (n ∷ [])) (omega arith) ∙ ih ∙ ap suc (sym (past-short m p ps y)))
-
-past-last : (m : ℕ) (ps : List ℕ) (n : ℕ) → n < m → past m (ps ++ (n ∷ [])) ≡ 0
-unfolding past
-past-last m [] n h = past-none m n [] h
-past-last m (p ∷ ps) n h =
-    let ih = past-last m ps n h in
-    past-short m p (ps ++ (n ∷ [])) (omega (arith, ih, length-append ps (n ∷ []))) ∙ ih
-
--- of the positions that pass a test, those from m on come last, and they are what is counted
-pub past-from : (t : ℕ → Bool) (m n : ℕ) → past m (keep t n) ≡ length (keep (from m t) n)
-unfolding keep past
-past-from t m zero = refl
-past-from t m (suc n) =
-    let w : ℕ → Bool = from m t in
-    by-test (leb m n)
-    (λ le.
-    let q : w n ≡ t n = rw le in
-    by-test (t n)
-    (λ e. rw (keep-hit t n e, keep-hit w n (q ∙ e)) (past-most m (keep t n) n (leb-true m n le) ∙ omega (arith, past-from t m n, length-append (keep w n) (n ∷ []))))
-    (λ e. rw (keep-miss t n e, keep-miss w n (q ∙ e)) (past-from t m n)))
-    (λ gt.
-    let h : n < m = leb-false m n gt in
-    rw (none-from t m (suc n) h) (by-test (t n)
-    (λ e. rw (keep-hit t n e) (past-last m (keep t n) n h))
-    (λ e. rw (keep-miss t n e) (past-from t m n ∙ rw (none-from t m n (omega arith))))))
-
-pub rest-from : (t : ℕ → Bool) (m n : ℕ) → drop (length (keep t n) - past m (keep t n)) (keep t n) ≡ keep (from m t) n
-unfolding keep past
-rest-from t m zero = refl
-rest-from t m (suc n) =
-    let w : ℕ → Bool = from m t in
-    by-test (leb m n)
-    (λ le.
-    let q : w n ≡ t n = rw le in
-    by-test (t n)
+-- the place r is where a list's parts meet, of which the first is below m and the second is not
+meets : (m r : ℕ) (us vs : List ℕ) → ((k : ℕ) → k < length us → getD us k 0 < m) → ((k : ℕ) → k < length vs → m ≤ getD vs k 0) → Parted m r (us ++ vs) → r ≡ length us
+meets m r us vs low high q = by-test (ltb r (length us))
     (λ e.
-    let k : length (keep t n ++ (n ∷ [])) - past m (keep t n ++ (n ∷ [])) ≡ length (keep t n) - past m (keep t n)
-    = omega (arith, past-most m (keep t n) n (leb-true m n le), length-append (keep t n) (n ∷ [])) in
-    rw (keep-hit t n e, keep-hit w n (q ∙ e), k)
-    (drop-append-le (length (keep t n) - past m (keep t n)) (keep t n) (n ∷ []) (omega arith) ∙ rw (rest-from t m n)))
-    (λ e. rw (keep-miss t n e, keep-miss w n (q ∙ e)) (rest-from t m n)))
-    (λ gt.
-    let h : n < m = leb-false m n gt in
-    let none : past m (keep t (suc n)) ≡ 0 = past-from t m (suc n) ∙ ap length (none-from t m (suc n) h) in
-    let k : length (keep t (suc n)) - past m (keep t (suc n)) ≡ length (keep t (suc n)) = omega arith in
-    rw (none-from t m (suc n) h, k) (drop-length (keep t (suc n))))
+    let h : r < length us = ltb-true r (length us) e in
+    absurd (omega (arith, low r h, List·getD-append us vs 0 r h, q .high r (le-refl r) (omega (arith, length-append us vs)))))
+    (λ e. by-eq (length us) r (omega (arith, ltb-false r (length us) e)) (λ z. sym z) (λ h.
+    let z : length us + 0 ≡ length us = omega arith in
+    let first : getD (us ++ vs) (length us) 0 ≡ getD vs 0 0 = ap (λ (n : ℕ). getD (us ++ vs) n 0) (sym z) ∙ getD-append-add us vs 0 0 in
+    absurd (omega (arith, q .low (length us) h, first, high 0 (omega (arith, q .within, length-append us vs))))))
 
--- the positions that pass a test below n
-pub keep-within : (t : ℕ → Bool) (n k : ℕ) → k < length (keep t n) → getD (keep t n) k 0 < n
-unfolding keep
-keep-within t zero k h = absurd (omega arith)
-keep-within t (suc n) k h = by-test (t n)
-    (λ e.
-    let l : length (keep t n ++ (n ∷ [])) ≡ suc (length (keep t n)) = length-append (keep t n) (n ∷ []) ∙ omega arith in
-    let h′ : k < suc (length (keep t n)) = rw (keep-hit t n e, l) at h in
-    rw (keep-hit t n e) (by-test (ltb k (length (keep t n)))
-    (λ y. let g = ltb-true k (length (keep t n)) y in rw (List·getD-append (keep t n) (n ∷ []) 0 k g) (omega (arith, keep-within t n k g)))
-    (λ y. let z : k ≡ length (keep t n) = omega (arith, ltb-false k (length (keep t n)) y) in rw (z, getD-append-seam (keep t n) n [] 0) (le-refl (suc n)))))
-    (λ e. let h′ : k < length (keep t n) = rw (keep-miss t n e) at h in rw (keep-miss t n e) (omega (arith, keep-within t n k h′)))
+-- of the positions that pass a test, those from the place r on are those from m on
+pub rest-from : (t : ℕ → Bool) (m n r : ℕ) → Parted m r (keep t n) → drop r (keep t n) ≡ keep (from m t) n
+rest-from t m n r q =
+    let a : ℕ → Bool = λ p. ltb p m && t p in
+    let parts : keep t n ≡ keep a n ++ keep (from m t) n = keep-parts t a t m n (λ p h. rw (lt-ltb p m h)) (λ p h _. rw (le-ltb p m h)) (λ p _ _. refl) in
+    let place : r ≡ length (keep a n) = meets m r (keep a n) (keep (from m t) n)
+    (λ k h. ltb-true _ m (both (ltb (getD (keep a n) k 0) m) (t (getD (keep a n) k 0)) (lists a n .passes k h .1) .0))
+    (λ k h. leb-true m _ (both (leb m (getD (keep (from m t) n) k 0)) (t (getD (keep (from m t) n) k 0)) (lists (from m t) n .passes k h .1) .0))
+    (rw parts at q) in
+    ap (drop r) parts ∙ drop-at (keep a n) (keep (from m t) n) r (sym place)
+
+-- the positions that pass a test below as many as there are rows are those of rows
+pub kept-rows : (ix : List ℕ) (t : ℕ → Bool) → InRows ix (keep t (length (firsts ix)))
+kept-rows ix t = let l = lists t (length (firsts ix)) in record { inside = λ k h. l .passes k h .0; rises = l .rises }
 
 -- ---- The steps of `skip`
 
@@ -131,64 +52,71 @@ getD-map f (p ∷ ps) (suc k) h = getD-map f ps k (omega arith)
 long : (ix ps : List ℕ) {xs : List ℕ} → xs ≡ numbered ix ps → length ps ≡ length xs
 long ix ps e = sym (length-map ps (λ (p : ℕ). getD ix p 0)) ∙ ap length (sym e)
 
+-- rising positions rise from any place to any later one
+rising : {ix ps : List ℕ} → InRows ix ps → (i j : ℕ) → i ≤ j → j < length ps → getD ps i 0 ≤ getD ps j 0
+rising r i zero h g = let z : i ≡ 0 = omega arith in rw z (le-refl _)
+rising r i (suc j) h g = by-eq i (suc j) h (λ z. rw z (le-refl _)) (λ lt. omega (arith, rising r i j (omega arith) (omega arith), r .rises j g))
+
 pub all-new : (ix xs : List ℕ) {m : ℕ} → m ≡ 0 → Skips ix xs m 0
-all-new ix xs {m} z = record { skips = λ ps r e. let t : past m ps ≡ length ps = rw z (past-zero ps) in omega (arith, long ix ps e) }
+all-new ix xs z = record { skips = λ ps r e. record { within = zero-le; low = λ k h. absurd (omega arith); high = λ k _ _. omega arith } }
 
--- from the place i on all rows lie past the first m, whatever rows these are
-pub record Passing (ix xs : List ℕ) (m i : ℕ) : Type 0 where
+-- the place sought is from lo to hi, whatever rows these are
+pub record Halving (ix xs : List ℕ) (m lo hi : ℕ) : Type 0 where
   pub built : Built ix
-  pub within : i ≤ length xs
-  pub passed : (ps : List ℕ) → InRows ix ps → xs ≡ numbered ix ps → past m (drop i ps) ≡ length xs - i
+  pub ordered : lo ≤ hi
+  pub within : hi ≤ length xs
+  pub low : (ps : List ℕ) → InRows ix ps → xs ≡ numbered ix ps → (k : ℕ) → k < lo → getD ps k 0 < m
+  pub high : (ps : List ℕ) → InRows ix ps → xs ≡ numbered ix ps → (k : ℕ) → hi ≤ k → k < length ps → m ≤ getD ps k 0
 
-pub begins : (ix xs : List ℕ) (m : ℕ) → Built ix → Passing ix xs m (length xs)
-unfolding past
+pub begins : (ix xs : List ℕ) (m : ℕ) → Built ix → Halving ix xs m 0 (length xs)
 begins ix xs m b = record {
   built = b;
+  ordered = zero-le;
   within = le-refl (length xs);
-  passed = λ ps r e. ap (past m) (drop-of-length-le ps {i = length xs} (omega (arith, long ix ps e))) ∙ omega arith;
+  low = λ ps r e k h. absurd (omega arith);
+  high = λ ps r e k h g. absurd (omega (arith, long ix ps e));
 }
 
-module _ {ix xs : List ℕ} {m i : ℕ} (g : Passing ix xs m i) where
-  pub ends : i ≡ 0 → Skips ix xs m i
-  ends z = record { skips = λ ps r e. let t : past m ps ≡ length xs - 0 = rw z at (g .passed ps r e) in omega arith }
+module _ {ix xs : List ℕ} {m lo hi : ℕ} (g : Halving ix xs m lo hi) where
+  pub ends : hi ≤ lo → Skips ix xs m lo
+  ends h = record { skips = λ ps r e. record { within = omega (arith, long ix ps e, g .ordered, g .within); low = g .low ps r e; high = λ k y z. g .high ps r e k (omega (arith, g .ordered)) z } }
 
-  held : Holds ix (numbers ix) (firsts ix) (lasts ix)
-  held = built-holds ix (g .built)
-
-  -- the row at the place before i, by its number x and its mark k
-  module _ (lo : 0 < i) {x k : ℕ} (ex : x ≡ getD xs (i - 1) 0) (small : x < 65536) (ek : k ≡ getD ix (x + numberTable) 0) where
+  -- the row at a place j between, by the mark n of its number
+  module _ {j n : ℕ} (above : lo ≤ j) (under : j < hi) (en : n ≡ markIn ix (getD xs j 0)) where
     module _ (ps : List ℕ) (r : InRows ix ps) (e : xs ≡ numbered ix ps) where
-      abbrev p : ℕ
-      p = getD ps (i - 1) 0
-
-      inside : i - 1 < length ps
+      inside : j < length ps
       inside = omega (arith, long ix ps e, g .within)
 
-      number-is : x ≡ getD (numbers ix) p 0
-      number-is = ex ∙ ap (λ (ys : List ℕ). getD ys (i - 1) 0) e ∙ getD-map (λ (q : ℕ). getD ix q 0) ps (i - 1) inside ∙ held .numbers p (r (i - 1) inside)
+      mark-is : n ≡ suc (getD ps j 0)
+      mark-is =
+          let p : getD ps j 0 < length (firsts ix) = r .inside j inside in
+          en ∙ ap (markIn ix) (ap (λ (ys : List ℕ). getD ys j 0) e ∙ getD-map (λ (q : ℕ). getD ix q 0) ps j inside ∙ built-holds ix (g .built) .numbers (getD ps j 0) p)
+          ∙ leads-back ix (g .built) (getD ps j 0) p
 
-      mark-is : k ≡ suc p
-      mark-is = ek ∙ ap (λ (n : ℕ). getD ix (n + numberTable) 0) number-is ∙ held .own p (r (i - 1) inside) (rw number-is at small)
-
-      later : drop (i - 1) ps ≡ p ∷ drop i ps
-      later = let z : suc (i - 1) ≡ i = omega arith in drop-cons ps (i - 1) 0 inside ∙ ap (λ (n : ℕ). p ∷ drop n ps) z
-
-      rest : length (drop i ps) ≡ length xs - i
-      rest = length-drop i ps ∙ omega (arith, long ix ps e)
-
-    pub passes : m < k → Passing ix xs m (i - 1)
-    passes h = record {
+    pub old : n ≤ m → Halving ix xs m (j + 1) hi
+    old h = record {
       built = g .built;
-      within = omega (arith, g .within);
-      passed = λ ps r e.
-          ap (past m) (later ps r e) ∙ past-all m (p ps r e) (drop i ps) (g .passed ps r e ∙ sym (rest ps r e)) (omega (arith, mark-is ps r e))
-          ∙ omega (arith, rest ps r e, g .within);
+      ordered = omega arith;
+      within = g .within;
+      low = λ ps r e k y. omega (arith, rising r k j (omega arith) (inside ps r e), mark-is ps r e);
+      high = g .high;
     }
 
-    pub stops : k ≤ m → Skips ix xs m i
-    stops h = record {
-      skips = λ ps r e.
-          let t : past m (drop (i - 1) ps) ≡ length xs - i = ap (past m) (later ps r e) ∙ past-none m (p ps r e) (drop i ps) (omega (arith, mark-is ps r e)) ∙ g .passed ps r e in
-          let l : length (drop (i - 1) ps) ≡ suc (length xs - i) = ap length (later ps r e) ∙ ap suc (rest ps r e) in
-          omega (arith, past-rest m (i - 1) ps (omega arith), g .within);
+    pub new : m < n → Halving ix xs m lo j
+    new h = record {
+      built = g .built;
+      ordered = above;
+      within = omega (arith, g .within);
+      low = g .low;
+      high = λ ps r e k y z. omega (arith, rising r j k y z, mark-is ps r e);
     }
+
+-- the last of them is looked at first, by the mark n of its number: where it is not new none is
+module _ {ix xs : List ℕ} {m : ℕ} (b : Built ix) (some : length xs ≢ 0) {n : ℕ} (e : n ≡ markIn ix (getD xs (length xs - 1) 0)) where
+  pub none-new : n ≤ m → Skips ix xs m (length xs)
+  none-new h =
+      let z : length xs - 1 + 1 ≡ length xs = omega arith in
+      rw z at (ends (old (begins ix xs m b) zero-le (omega arith) e h) (omega arith))
+
+  pub last-new : m < n → Halving ix xs m 0 (length xs - 1)
+  last-new h = new (begins ix xs m b) zero-le (omega arith) e h

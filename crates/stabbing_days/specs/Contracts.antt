@@ -1,9 +1,8 @@
 -- What the functions behind the days question ask and give: records and short names that their contracts cite. Assumes nothing.
 use Prim.Native.Nat.{ℕ, suc, _+_, _*_, _≤_, _<_}
-use mathlib.Core.Bool.{true, false, _&&_}
+use mathlib.Core.Bool.{true}
 use mathlib.Core.List.{List, [], _∷_, _++_}
 use mathlib.Core.Path.{_≡_}
-use lib.Dec.{leb}
 use lib.ListN.{length, getD, take, drop}
 use Rattle.stabbing.specs.Tree.{keep, fitsAt}
 use Rattle.stabbing.specs.Stored.{latest}
@@ -13,18 +12,20 @@ use Rattle.stabbing.specs.Answer.{risingFrom, containsAny, dayIn}
 use Rattle.stabbing.specs.Contracts.{from}
 use Rattle.stabbing_query.specs.Contracts.{numbered}
 
--- how many of a list's last positions are not below m, back to the first that is
-unfoldable pub past : ℕ → List ℕ → ℕ
-past m [] = 0
-past m (p ∷ ps) = elim (leb (length ps) (past m ps) && leb m p) [ true ↦ suc (length ps) | false ↦ past m ps ]
+-- these positions are those of rows of the block, and rise
+pub record InRows (ix ps : List ℕ) : Type 0 where
+  pub inside : (k : ℕ) → k < length ps → getD ps k 0 < length (firsts ix)
+  pub rises : (k : ℕ) → suc k < length ps → getD ps k 0 < getD ps (suc k) 0
 
--- these positions are those of rows of the block
-abbrev pub InRows : List ℕ → List ℕ → Type 0
-InRows ix ps = (k : ℕ) → k < length ps → getD ps k 0 < length (firsts ix)
+-- of the positions ps those before the place r are below m, and those from r on are not
+pub record Parted (m r : ℕ) (ps : List ℕ) : Type 0 where
+  pub within : r ≤ length ps
+  pub low : (k : ℕ) → k < r → getD ps k 0 < m
+  pub high : (k : ℕ) → r ≤ k → k < length ps → m ≤ getD ps k 0
 
--- where xs are numbers of rows, the place r is the first from which on all of these rows lie past the first m
+-- where xs are numbers of rows in the order, the place r is the first from which on they lie past the first m
 pub record Skips (ix xs : List ℕ) (m r : ℕ) : Type 0 where
-  pub skips : (ps : List ℕ) → InRows ix ps → xs ≡ numbered ix ps → r + past m ps ≡ length xs
+  pub skips : (ps : List ℕ) → InRows ix ps → xs ≡ numbered ix ps → Parted m r ps
 
 -- what one day adds: the numbers of the rows from the position m on that contain it
 abbrev pub dayFrom : List ℕ → ℕ → ℕ → List ℕ

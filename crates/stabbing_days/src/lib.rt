@@ -13,11 +13,11 @@ use refusal::OFF_CALENDAR;
 use refusal::SHORT_BUFFER;
 use refusal::UNSORTED_DAYS;
 use stabbing::BEGUN;
-use stabbing::BY_NUMBER;
 use stabbing::INDEX;
 use stabbing::Listed;
 use stabbing::refuse;
 use stabbing::to_usize;
+use stabbing_lookup::find;
 
 // ---- The checks
 
@@ -53,8 +53,8 @@ fn in_order(days: &[u16]) -> bool
 
 // ---- The answer
 
-// The first place from which on all rows found lie past the first m, sought from the end: so only rows that are new to the answer are
-// passed, and one more. With m 0, as on the first day, all are new, and none is looked at.
+// The place from which on the rows found, which are in the order, lie past the first m. The last is looked at first, since days that follow
+// each other seldom add one; then the place is sought by halving. With m 0, as on the first day, all are new, and none is looked at.
 fn skip(index: &[u16; INDEX], found: &[u16], m: usize) -> usize
     requires { ⌜ Built (now index) ⌝ }
     ensures { λ r. ⌜ Skips (now (index .entry)) (now (found .entry)) m r ⌝ }
@@ -62,15 +62,25 @@ fn skip(index: &[u16; INDEX], found: &[u16], m: usize) -> usize
     if m == 0 {
         return 0;
     }
-    let mut i = found.len();
-    while 0 < i {
-        let j = i - 1;
-        if to_usize(index[to_usize(found[j]) + BY_NUMBER]) <= m {
-            return i;
-        }
-        i = j;
+    let n = found.len();
+    if n == 0 {
+        return 0;
     }
-    i
+    let end = n - 1;
+    if find(index, found[end]) <= m {
+        return n;
+    }
+    let mut lo = 0;
+    let mut hi = end;
+    while lo < hi {
+        let j = lo + (hi - lo) / 2;
+        if find(index, found[j]) <= m {
+            lo = j + 1;
+        } else {
+            hi = j;
+        }
+    }
+    lo
 }
 
 // Moves the finds from the place `from` on to the front, over those before them. It reads ahead of where it writes.
@@ -91,8 +101,8 @@ fn close(finds: &mut [u16], from: usize)
 
 // What the first of the days still to come adds to the days before it, by the last of which m rows begin: of these m, the ones that
 // contain it contain that day too. The day is asked into the part of the answer not yet written. Its finds are in the order, so that the
-// ones that it doesn't add come first, and the gap that they make is closed. The table by number tells a row's place in the order, since no
-// two rows have one number.
+// ones that it doesn't add come first, and the gap that they make is closed. A row's number tells its place in the order, since no two rows
+// have one number.
 fn add(index: &[u16; INDEX], days: &[u16], m: usize, part: &mut [u16]) -> usize
     requires { ⌜ 0 < length (now days) ⌝ }
     requires { ⌜ AddAsks (now index) (getD (now days) 0 0) (now part) ⌝ }

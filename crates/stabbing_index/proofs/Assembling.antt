@@ -1,13 +1,13 @@
 -- What the builder lays is the block of the definition: column by column, and then the whole. Assumes nothing.
-use Rattle.basis.proofs.Prelude.{_∙_, _≡_, ap, refl, sym, _+_, _-_, _<_, _≤_, suc, zero, ℕ, List, [], _++_, _∷_, append-assoc, Bool, false, true, eqb, getD, length, length-append, length-set, set, take, getD-append-add, getD-take, length-take-le, take-all, take-suc-set, arith, le-leb, lt-leb}
+use Rattle.basis.proofs.Prelude.{_∙_, _≡_, ap, refl, sym, _+_, _-_, _<_, _≤_, suc, zero, ℕ, List, [], _++_, _∷_, append-assoc, Bool, false, true, eqb, ltb, getD, length, length-append, length-set, set, take, getD-append-add, getD-take, length-take-le, take-all, take-suc-set, le-refl, arith, le-leb, lt-leb, ltb-true, by-test}
 use Rattle.stabbing.specs.Tree.{dayAt, parent, child, leftSibling, lastChild, next, start}
 use Rattle.stabbing.specs.Stored.{latest}
-use Rattle.stabbing.specs.Index.{capacity, dayCount, numberCount, firstColumn, lastColumn, parentColumn, leftColumn, childColumn, nextColumn, startTable, latestTable, numberTable, rowCount, indexLength, rowsOk, column, lastOf, headLink, rowLink, named, laid, blockOf}
+use Rattle.stabbing.specs.Index.{capacity, dayCount, bucketCount, firstColumn, lastColumn, parentColumn, leftColumn, childColumn, nextColumn, startTable, latestTable, bucketTable, rowCount, indexLength, rowsOk, column, lastOf, headLink, rowLink, bucketOf, inBucket, laid, blockOf}
 use Rattle.stabbing.proofs.Marks.{below-ext}
 use Rattle.stabbing.proofs.Marking.{head-link, head-past, row-past, left-small, child-small, next-small}
 use Rattle.stabbing.proofs.Columns.{column-at, column-length, column-only}
 use Rattle.stabbing_index.specs.Build.{Builds}
-use Rattle.stabbing_index.specs.Contracts.{Columns, ColumnsOf, FilledTo, LinkedOf, ChainedOf, Dayed, DaysAsks, Extends, nameWord, MarksIn, markWords, BlankFrom, beside, linkWords, dayWords, RowsOf}
+use Rattle.stabbing_index.specs.Contracts.{Columns, ColumnsOf, FilledTo, LinkedOf, ChainedOf, Dayed, DaysAsks, Extends, lowerWord, nameWords, MarksIn, markWords, Blank, beside, linkWords, dayWords, RowsOf}
 use Rattle.stabbing_index.proofs.Laying.{laid-more, column-ext}
 use Rattle.stabbing_index.proofs.Links.{held-at}
 use Rattle.stabbing_index.proofs.Chains.{same-last}
@@ -23,8 +23,8 @@ laid-at {e} {x} {a} {b} size f i t h j g =
     ∙ getD-append-add (take a e) (column size f) j 0
     ∙ column-at size f j g
 
-pub laid-blank : {e x : List ℕ} → Extends e numberTable rowCount (column numberCount (λ _. 0)) x → rowCount ≤ length e → BlankFrom x numberTable
-laid-blank i h = record { empty = laid-at numberCount (λ _. 0) i refl h }
+pub laid-blank : {e x : List ℕ} → Extends e bucketTable rowCount (column 3063 (λ _. 0)) x → rowCount ≤ length e → Blank x
+laid-blank i h = record { empty = laid-at 3063 (λ _. 0) i refl h }
 
 -- the same words: a list and the column that it is; 0 after a list
 laid-column : {e x ws : List ℕ} {a : ℕ} (n : ℕ) (f : ℕ → ℕ) → length ws ≡ n → ((p : ℕ) → p < n → getD ws p 0 ≡ f p) → Extends e a (a + length ws) ws x → Extends e a (a + n) (column n f) x
@@ -73,7 +73,7 @@ module _ {xs ys fs ls : List ℕ} {n : ℕ} (q : Columns xs ys fs ls n) where
   last-children w = record { size = w .size; words = λ v h. w .words v h ∙ rw (q .count); rest = w .rest }
 
 -- ---- the links and the tables by day, one column after another
-pub days-laid : {fs ls ss bs : List ℕ} → Dayed fs ls ss bs dayCount → {e m x : List ℕ} → Extends e startTable (startTable + length ss) ss m → Extends m latestTable (latestTable + length bs) bs x → Extends e startTable numberTable (dayWords fs ls) x
+pub days-laid : {fs ls ss bs : List ℕ} → Dayed fs ls ss bs dayCount → {e m x : List ℕ} → Extends e startTable (startTable + length ss) ss m → Extends m latestTable (latestTable + length bs) bs x → Extends e startTable bucketTable (dayWords fs ls) x
 unfolding dayWords
 days-laid {fs} {ls} q i j = laid-more (laid-column dayCount (λ d. start fs ls d d) (q .starts-size) (q .starts) i) (laid-column dayCount (latest fs ls) (q .begun-size) (q .begun) j)
 
@@ -114,7 +114,7 @@ module _ {xs ys ps qs cs ns : List ℕ} {n : ℕ} (q : ColumnsOf xs ys n) (found
   }
 
   pub tree-laid : {e₀ e₁ e₂ e₃ e₄ e₅ : List ℕ} → Extends e₀ parentColumn (parentColumn + length ps) ps e₁ → Extends e₁ leftColumn childColumn (markWords ys qs) e₂ → Extends e₂ childColumn nextColumn (markWords ys cs) e₃
-      → Extends e₃ nextColumn startTable (markWords ys ns) e₄ → Extends e₄ startTable numberTable (dayWords fs ls) e₅ → Extends e₀ parentColumn numberTable (linkWords fs ls ++ dayWords fs ls) e₅
+      → Extends e₃ nextColumn startTable (markWords ys ns) e₄ → Extends e₄ startTable bucketTable (dayWords fs ls) e₅ → Extends e₀ parentColumn bucketTable (linkWords fs ls ++ dayWords fs ls) e₅
   unfolding linkWords
   tree-laid parents left child chain days =
       laid-more (laid-more (laid-more (laid-more
@@ -125,10 +125,23 @@ module _ {xs ys ps qs cs ns : List ℕ} {n : ℕ} (q : ColumnsOf xs ys n) (found
       days
 
 -- ---- the whole block
-names-laid : {e x : List ℕ} {a b : ℕ} (ns fs ls : List ℕ) (n : ℕ) → length fs ≡ n → Extends e a b (column numberCount (nameWord ns n)) x → Extends e a b (column numberCount (named (take n ns) fs ls)) x
+-- the rows of a bucket, of the first n numbers
+bucket-take : (ns : List ℕ) (n b k : ℕ) → k ≤ n → inBucket ns b k ≡ inBucket (take n ns) b k
+unfolding inBucket
+bucket-take ns n b k h = below-ext (λ p. eqb (bucketOf (getD ns p 0)) b) (λ p. eqb (bucketOf (getD (take n ns) p 0)) b) k (λ p g. rw (getD-take n ns p 0 (omega arith)))
+
+-- the words of the buckets, by the definition
+named : List ℕ → List ℕ → List ℕ → List ℕ
+named ns fs ls = column bucketCount (λ b. inBucket ns b (length fs)) ++ column capacity (rowLink fs ls (λ p. inBucket ns (bucketOf (getD ns p 0)) p))
+
+names-laid : (ns fs ls : List ℕ) (n : ℕ) → length fs ≡ n → nameWords ns n ≡ named (take n ns) fs ls
 unfolding named
-names-laid ns fs ls n c i = rw (column-ext numberCount (nameWord ns n) (named (take n ns) fs ls) (λ z _.
-    rw c (below-ext (λ p. eqb (getD ns p 0) z) (λ p. eqb (getD (take n ns) p 0) z) n (λ p h. rw (getD-take n ns p 0 h))))) at i
+names-laid ns fs ls n c = rw (
+  column-ext bucketCount (λ b. inBucket ns b n) (λ b. inBucket (take n ns) b (length fs)) (λ b _. rw c (bucket-take ns n b n (le-refl n))),
+  column-ext capacity (lowerWord ns n) (rowLink fs ls (λ p. inBucket (take n ns) (bucketOf (getD (take n ns) p 0)) p)) (λ p _. rw c (by-test (ltb p n)
+      (λ e. rw (e, getD-take n ns p 0 (ltb-true p n e)) (bucket-take ns n (bucketOf (getD ns p 0)) p (omega (arith, ltb-true p n e))))
+      (λ e. rw e))),
+)
 
 -- the count in the word after them all
 counted : {e x ws : List ℕ} {size : ℕ} (v : ℕ) → Extends e 0 size ws x → length e ≡ size + 1 → set x size v ≡ ws ++ (v ∷ [])
@@ -137,8 +150,8 @@ counted {x = x} {size = size} v i h =
     ∙ take-suc-set x size v (omega (arith, i .size))
     ∙ ap (λ (l : List ℕ). l ++ (v ∷ [])) (i .front)
 
-whole : (ns fs ls : List ℕ) (n : ℕ) → length fs ≡ n → column capacity (dayAt ns) ++ column capacity (dayAt fs) ++ column capacity (dayAt ls) ++ (linkWords fs ls ++ dayWords fs ls) ++ column numberCount (named ns fs ls) ++ (n ∷ []) ≡ blockOf ns fs ls
-unfolding blockOf laid linkWords dayWords
+whole : (ns fs ls : List ℕ) (n : ℕ) → length fs ≡ n → column capacity (dayAt ns) ++ column capacity (dayAt fs) ++ column capacity (dayAt ls) ++ (linkWords fs ls ++ dayWords fs ls) ++ named ns fs ls ++ (n ∷ []) ≡ blockOf ns fs ls
+unfolding blockOf laid linkWords dayWords named
 whole ns fs ls n e = rw (sym e) (simp append-assoc)
 
 -- all that is laid, and the count, make the block
@@ -153,10 +166,10 @@ pub filled : (ns xs ys : List ℕ) {n : ℕ} → RowsOf xs ys n → {e₀ e₁ e
     → Extends e₀ 0 firstColumn (column capacity (dayAt (take n ns))) e₁
     → Extends e₁ firstColumn lastColumn (column capacity (dayAt (take n xs))) e₂
     → Extends e₂ lastColumn parentColumn (column capacity (dayAt (take n ys))) e₃
-    → Extends e₃ parentColumn numberTable (linkWords (take n xs) (take n ys) ++ dayWords (take n xs) (take n ys)) e₄
-    → Extends e₄ numberTable rowCount (column numberCount (nameWord ns n)) e₅ → set e₅ rowCount n ≡ blockOf (take n ns) (take n xs) (take n ys)
+    → Extends e₃ parentColumn bucketTable (linkWords (take n xs) (take n ys) ++ dayWords (take n xs) (take n ys)) e₄
+    → Extends e₄ bucketTable rowCount (nameWords ns n) e₅ → set e₅ rowCount n ≡ blockOf (take n ns) (take n xs) (take n ys)
 filled ns xs ys {n} q h numbers firsts lasts tree names =
-    counted n (all-laid numbers firsts lasts tree (names-laid ns (take n xs) (take n ys) n (q .count) names)) h ∙ whole (take n ns) (take n xs) (take n ys) n (q .count)
+    counted n (all-laid numbers firsts lasts tree (rw (names-laid ns (take n xs) (take n ys) n (q .count)) at names)) h ∙ whole (take n ns) (take n xs) (take n ys) n (q .count)
 
 -- ---- rows that can be published, and those that can not
 module _ {ns xs ys e : List ℕ} {n : ℕ} where

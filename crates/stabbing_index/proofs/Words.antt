@@ -1,25 +1,87 @@
--- The table by number. Assumes nothing.
-use Rattle.basis.proofs.Prelude.{_∙_, _≡_, ap, refl, sym, _+_, _<_, _≤_, suc, ℕ, List, Bool, eqb, getD, length, length-set, set, getD-set-other, getD-set-same, add-one, arith, eqb-false, eqb-true, by-test}
+-- The buckets of the numbers, row by row. Assumes nothing.
+use Rattle.basis.proofs.Prelude.{_∙_, _≡_, ap, refl, sym, _%_, _+_, _<_, suc, zero-le, ℕ, List, Bool, _≢_, eqb, ltb, getD, length, length-set, set, getD-set-other, getD-set-same, le-refl, add-one, arith, eqb-false, eqb-true, le-ltb, lt-ltb, ltb-false, ltb-true, by-test}
 use Rattle.stabbing.specs.Tree.{below}
+use Rattle.stabbing.specs.Index.{capacity, bucketCount, bucketTable, lowerColumn, rowCount, indexLength, column, bucketOf, inBucket}
 use Rattle.stabbing.proofs.Marks.{below-hit, below-miss}
-use Rattle.stabbing_index.specs.Contracts.{nameWord}
-use Rattle.stabbing_index.proofs.Laying.{Laying}
+use Rattle.stabbing_index.specs.Contracts.{Extends, lowerWord, nameWords, Blank}
+use Rattle.stabbing_index.proofs.Laying.{laying-all, laid-more}
 
--- nobody yet, and one row more
-pub nobody : {entry : List ℕ} (xs : List ℕ) {base size : ℕ} → ((x : ℕ) → x < size → getD entry (base + x) 0 ≡ 0) → Laying entry base size (nameWord xs 0) entry
-unfolding below
-nobody xs f = record { size = refl; kept = λ j h. refl; words = f }
+-- of the numbers xs the first k are in their buckets, and the words before the buckets are kept
+pub record Naming (entry xs : List ℕ) (k : ℕ) (now : List ℕ) : Type 0 where
+  pub size : length now ≡ length entry
+  pub kept : (j : ℕ) → j < bucketTable → getD now j 0 ≡ getD entry j 0
+  pub buckets : (b : ℕ) → b < bucketCount → getD now (bucketTable + b) 0 ≡ inBucket xs b k
+  pub lowers : (j : ℕ) → j < capacity → getD now (lowerColumn + j) 0 ≡ lowerWord xs k j
 
-pub one-more : (xs : List ℕ) (k : ℕ) {entry : List ℕ} {base size : ℕ} {now : List ℕ} {x : ℕ} → Laying entry base size (nameWord xs k) now → base + size ≤ length entry → x < size → x ≡ getD xs k 0
-    → Laying entry base size (nameWord xs (k + 1)) (set now (base + x) (k + 1))
-one-more xs k {base = base} {now = now} {x} i fits h e = rw (add-one k) (record {
-  size = length-set now (base + x) (suc k) ∙ i .size;
-  kept = λ j g. getD-set-other now (base + x) j (suc k) 0 (λ z. omega arith) ∙ i .kept j g;
-  words = λ j g.
-      let t : ℕ → Bool = λ p. eqb (getD xs p 0) j in
-      by-test (eqb (getD xs k 0) j)
+pub nobody : {entry : List ℕ} (xs : List ℕ) → Blank entry → Naming entry xs 0 entry
+unfolding inBucket below
+nobody {entry} xs b = record {
+  size = refl;
+  kept = λ j h. refl;
+  buckets = λ x h. b .empty x (omega arith);
+  lowers = λ j h.
+      let z : lowerColumn + j ≡ bucketTable + (bucketCount + j) = omega arith in
+      ap (λ (n : ℕ). getD entry n 0) z ∙ b .empty (bucketCount + j) (omega arith) ∙ sym (rw (le-ltb j 0 zero-le));
+}
+
+-- the buckets have their words, whatever word is written
+pub wide : {entry xs now : List ℕ} {k : ℕ} → Naming entry xs k now → length entry ≡ indexLength → (p v x : ℕ) → bucketTable + x % bucketCount < length (set now p v)
+wide {now = now} i long p v x = omega (arith, length-set now p v, i .size)
+
+-- what the rows before lead to stays
+lower-keep : (xs : List ℕ) (j k : ℕ) → j ≢ k → lowerWord xs k j ≡ lowerWord xs (suc k) j
+lower-keep xs j k n = by-test (ltb j k)
+    (λ e. rw (e, lt-ltb j (suc k) (omega (arith, ltb-true j k e))))
+    (λ e. rw (e, le-ltb j (suc k) (omega (arith, ltb-false j k e))))
+
+-- one row more: the row k, with the number x
+module _ (xs : List ℕ) {entry now : List ℕ} {k x : ℕ} (i : Naming entry xs k now) (long : length entry ≡ indexLength) (h : k < capacity) (e : x ≡ getD xs k 0) where
+  abbrev bucket : ℕ
+  bucket = bucketTable + x % bucketCount
+
+  abbrev before : ℕ
+  before = getD now bucket 0
+
+  abbrev once : List ℕ
+  once = set now (lowerColumn + k) before
+
+  abbrev twice : List ℕ
+  twice = set once bucket (suc k)
+
+  latest : (b : ℕ) → b < bucketCount → getD twice (bucketTable + b) 0 ≡ inBucket xs b (suc k)
+  unfolding inBucket
+  latest b g =
+      let t : ℕ → Bool = λ p. eqb (bucketOf (getD xs p 0)) b in
+      by-test (eqb (bucketOf (getD xs k 0)) b)
       (λ y.
-      let z : j ≡ x = sym (e ∙ eqb-true (getD xs k 0) j y) in
-      ap (λ (a : ℕ). getD (set now (base + x) (suc k)) (base + a) 0) z ∙ getD-set-same now (base + x) (suc k) 0 (omega (arith, i .size)) ∙ sym (below-hit t k y))
-      (λ y. getD-set-other now (base + x) (base + j) (suc k) 0 (λ z. eqb-false (getD xs k 0) j y (sym e ∙ omega arith)) ∙ i .words j g ∙ sym (below-miss t k y));
-})
+      let z : b ≡ x % bucketCount = sym (ap bucketOf e ∙ eqb-true (bucketOf (getD xs k 0)) b y) in
+      ap (λ (a : ℕ). getD twice (bucketTable + a) 0) z ∙ getD-set-same once bucket (suc k) 0 (omega (arith, length-set now (lowerColumn + k) before, i .size)) ∙ sym (below-hit t k y))
+      (λ y.
+      let n : x % bucketCount ≢ b = λ z. eqb-false (bucketOf (getD xs k 0)) b y (sym (ap bucketOf e) ∙ z) in
+      getD-set-other once bucket (bucketTable + b) (suc k) 0 (λ z. n (omega arith)) ∙ getD-set-other now (lowerColumn + k) (bucketTable + b) before 0 (λ z. omega arith) ∙ i .buckets b g ∙ sym (below-miss t k y))
+
+  lower : (j : ℕ) → j < capacity → getD once (lowerColumn + j) 0 ≡ lowerWord xs (suc k) j
+  lower j g = by-test (eqb j k)
+      (λ y.
+      let z : j ≡ k = eqb-true j k y in
+      rw (z, lt-ltb k (suc k) (le-refl (suc k))) (getD-set-same now (lowerColumn + k) before 0 (omega (arith, i .size)) ∙ i .buckets (x % bucketCount) (omega arith) ∙ ap (λ (n : ℕ). inBucket xs (bucketOf n) k) e))
+      (λ y.
+      let n : j ≢ k = eqb-false j k y in
+      getD-set-other now (lowerColumn + k) (lowerColumn + j) before 0 (λ z. n (omega arith)) ∙ i .lowers j g ∙ lower-keep xs j k n)
+
+  pub one-more : Naming entry xs (k + 1) (set once bucket (k + 1))
+  one-more = rw (add-one k) (record {
+    size = length-set once bucket (suc k) ∙ length-set now (lowerColumn + k) before ∙ i .size;
+    kept = λ j g. getD-set-other once bucket j (suc k) 0 (λ z. omega arith) ∙ getD-set-other now (lowerColumn + k) j before 0 (λ z. omega arith) ∙ i .kept j g;
+    buckets = latest;
+    lowers = λ j g. getD-set-other once bucket (lowerColumn + j) (suc k) 0 (λ z. omega arith) ∙ lower j g;
+  })
+
+-- all rows: the words from the buckets on
+pub named : {entry now : List ℕ} (xs : List ℕ) {n : ℕ} → Naming entry xs n now → length entry ≡ indexLength → Extends entry bucketTable rowCount (nameWords xs n) now
+named {entry} {now} xs {n} i long =
+    let front : Extends entry bucketTable lowerColumn (column bucketCount (λ b. inBucket xs b n)) now
+    = laying-all (record { size = i .size; kept = i .kept; words = i .buckets }) refl refl (omega arith) in
+    let back : Extends now lowerColumn rowCount (column capacity (lowerWord xs n)) now
+    = laying-all (record { size = refl; kept = λ j h. refl; words = i .lowers }) refl refl (omega (arith, i .size)) in
+    laid-more front back

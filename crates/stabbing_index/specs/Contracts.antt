@@ -3,15 +3,15 @@
 -- its name is over any days; what the contracts cite, with `Of`, `In`, `Asks` or `Gives` in its name, is the same at the first n words
 -- of the columns. Assumes nothing.
 use Prim.Native.Nat.{ℕ, zero, suc, _+_, _≤_, _<_}
-use mathlib.Core.Bool.{Bool, true, false, not, _||_}
+use mathlib.Core.Bool.{Bool, true, false, not, _||_, cond}
 use mathlib.Core.List.{List, _++_}
 use mathlib.Core.Path.{_≡_}
-use lib.Dec.{eqb, leb}
+use lib.Dec.{eqb, leb, ltb}
 use lib.ListN.{length, getD, take}
 use Rattle.stabbing_index.specs.declared.Way.{Way}
-use Rattle.stabbing.specs.Tree.{below, dayAt, next, parent, child, leftSibling, lastChild, start}
+use Rattle.stabbing.specs.Tree.{dayAt, next, parent, child, leftSibling, lastChild, start}
 use Rattle.stabbing.specs.Stored.{Sorted, nearest, latest}
-use Rattle.stabbing.specs.Index.{capacity, dayCount, numberCount, rowsOk, column, lastOf, headLink, rowLink}
+use Rattle.stabbing.specs.Index.{capacity, dayCount, bucketCount, bucketTable, rowsOk, column, lastOf, headLink, rowLink, bucketOf, inBucket}
 use Rattle.stabbing.specs.Contracts.{Head, bottom}
 
 -- ---- The columns
@@ -156,9 +156,13 @@ pub record Extends (entry : List ℕ) (from to : ℕ) (words exit : List ℕ) : 
   pub size : length exit ≡ length entry
   pub front : take to exit ≡ take from entry ++ words
 
--- the mark of the latest of n rows with the number x
-abbrev pub nameWord : List ℕ → ℕ → ℕ → ℕ
-nameWord number n x = below (λ p. eqb (getD number p 0) x) n
+-- the row before the row j in its bucket, none past n rows
+abbrev pub lowerWord : List ℕ → ℕ → ℕ → ℕ
+lowerWord number n j = cond (ltb j n) (inBucket number (bucketOf (getD number j 0)) j) 0
+
+-- for each bucket the latest of n rows, and for each of these the one before it
+abbrev pub nameWords : List ℕ → ℕ → List ℕ
+nameWords number n = column bucketCount (λ b. inBucket number b n) ++ column capacity (lowerWord number n)
 
 -- the words of a column are marks of rows
 pub record MarksIn (marks : List ℕ) : Type 0 where
@@ -168,9 +172,9 @@ pub record MarksIn (marks : List ℕ) : Type 0 where
 abbrev pub markWords : List ℕ → List ℕ → List ℕ
 markWords last marks = marks ++ column capacity (λ p. lastOf last (getD marks p 0))
 
--- the table by number from `base` on names nobody
-pub record BlankFrom (index : List ℕ) (base : ℕ) : Type 0 where
-  pub empty : (x : ℕ) → x < numberCount → getD index (base + x) 0 ≡ 0
+-- the buckets are empty, and no row leads to another
+pub record Blank (index : List ℕ) : Type 0 where
+  pub empty : (x : ℕ) → x < 3063 → getD index (bucketTable + x) 0 ≡ 0
 
 -- marks by position, with the last days beside them
 abbrev pub beside : List ℕ → (ℕ → ℕ) → List ℕ

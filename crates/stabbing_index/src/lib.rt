@@ -1,12 +1,14 @@
 // The builder of the index: rows that can be published become the block that the questions read. It finds the links in one
 // sweep, the tables by day in another, and lays the block column by column.
 use stabbing::BEGUN;
-use stabbing::BY_NUMBER;
+use stabbing::BUCKET;
+use stabbing::BUCKETS;
 use stabbing::CHILD;
 use stabbing::FIRST;
 use stabbing::INDEX;
 use stabbing::LAST;
 use stabbing::LEFT;
+use stabbing::LOWER;
 use stabbing::NEXT;
 use stabbing::NUMBER;
 use stabbing::PARENT;
@@ -19,9 +21,9 @@ ghost use mathlib.Core.List.{_++_};
 ghost use Prim.Native.Nat.{suc, _+_, _≤_, _<_};
 ghost use lib.ListN.{length, take};
 ghost use Rattle.stabbing.specs.Tree.{dayAt};
-ghost use Rattle.stabbing.specs.Index.{capacity, dayCount, numberCount, parentColumn, startTable, numberTable, rowCount, indexLength, lastOf, rowOk, mayFollow, rowsOk, column, blockOf};
+ghost use Rattle.stabbing.specs.Index.{capacity, dayCount, parentColumn, startTable, bucketTable, rowCount, indexLength, lastOf, rowOk, mayFollow, rowsOk, column, blockOf};
 ghost use Rattle.stabbing_index.specs.Build.{Builds};
-ghost use Rattle.stabbing_index.specs.Contracts.{headAt, ColumnsOf, ClimbAsks, ClimbGives, HeadAsks, LinkedOf, ChainedOf, AdvanceAsks, latestIn, DaysAsks, DayAsks, startIn, DayedOf, Extends, nameWord, MarksIn, markWords, BlankFrom, linkWords, dayWords, RowsOf};
+ghost use Rattle.stabbing_index.specs.Contracts.{headAt, ColumnsOf, ClimbAsks, ClimbGives, HeadAsks, LinkedOf, ChainedOf, AdvanceAsks, latestIn, DaysAsks, DayAsks, startIn, DayedOf, Extends, nameWords, MarksIn, markWords, Blank, linkWords, dayWords, RowsOf};
 
 // ---- rows that can be published
 
@@ -310,7 +312,7 @@ fn lay_days(
 )
     requires { ⌜ DaysAsks (now first) (now last) n (now parent) ⌝ }
     requires { ⌜ length (now index) ≡ indexLength ⌝ }
-    ensures { λ _. ⌜ Extends (now (index .entry)) startTable numberTable (dayWords (take n (now (first .entry))) (take n (now (last .entry)))) (now (index .exit)) ⌝ }
+    ensures { λ _. ⌜ Extends (now (index .entry)) startTable bucketTable (dayWords (take n (now (first .entry))) (take n (now (last .entry)))) (now (index .exit)) ⌝ }
 {
     let mut start = [0u16; 4001];
     let mut begun = [0u16; 4001];
@@ -323,7 +325,7 @@ fn lay_days(
 fn lay_tree(index: &mut [u16], first: &[u16; 1024], last: &[u16; 1024], n: usize)
     requires { ⌜ RowsOf (now first) (now last) n ⌝ }
     requires { ⌜ length (now index) ≡ indexLength ⌝ }
-    ensures { λ _. ⌜ Extends (now (index .entry)) parentColumn numberTable (linkWords (take n (now (first .entry))) (take n (now (last .entry))) ++ dayWords (take n (now (first .entry))) (take n (now (last .entry)))) (now (index .exit)) ⌝ }
+    ensures { λ _. ⌜ Extends (now (index .entry)) parentColumn bucketTable (linkWords (take n (now (first .entry))) (take n (now (last .entry))) ++ dayWords (take n (now (first .entry))) (take n (now (last .entry)))) (now (index .exit)) ⌝ }
 {
     let mut parent = [0u16; 1024];
     let mut left = [0u16; 1024];
@@ -345,29 +347,31 @@ fn lay_tree(index: &mut [u16], first: &[u16; 1024], last: &[u16; 1024], n: usize
     lay_days(index, first, last, n, &parent);
 }
 
-// ---- the table by spell number
+// ---- the buckets of the spell numbers
 
-// The mark of every row under its number, in the order: of two with one number, the latest stays.
+// Every row into the bucket of its number, in the order: it leads to the row that was the latest there, and the bucket to it.
 fn name_rows(index: &mut [u16], number: &[u16; 1024], n: usize)
     requires { ⌜ n ≤ 1024 ⌝ }
-    requires { ⌜ BlankFrom (now index) numberTable ⌝ }
+    requires { ⌜ Blank (now index) ⌝ }
     requires { ⌜ length (now index) ≡ indexLength ⌝ }
-    ensures { λ _. ⌜ Extends (now (index .entry)) numberTable rowCount (column numberCount (nameWord (now (number .entry)) n)) (now (index .exit)) ⌝ }
+    ensures { λ _. ⌜ Extends (now (index .entry)) bucketTable rowCount (nameWords (now (number .entry)) n) (now (index .exit)) ⌝ }
 {
     let mut k = 0;
     while k < n {
-        let x = to_usize(number[k]);
-        index[BY_NUMBER + x] = (k + 1) as u16;
+        let bucket = BUCKET + to_usize(number[k]) % BUCKETS;
+        index[LOWER + k] = index[bucket];
+        index[bucket] = (k + 1) as u16;
         k += 1;
     }
 }
 
+// The buckets and the column of the rows before, 2,039 and 1,024 words.
 fn lay_names(index: &mut [u16], number: &[u16; 1024], n: usize)
     requires { ⌜ n ≤ 1024 ⌝ }
     requires { ⌜ length (now index) ≡ indexLength ⌝ }
-    ensures { λ _. ⌜ Extends (now (index .entry)) numberTable rowCount (column numberCount (nameWord (now (number .entry)) n)) (now (index .exit)) ⌝ }
+    ensures { λ _. ⌜ Extends (now (index .entry)) bucketTable rowCount (nameWords (now (number .entry)) n) (now (index .exit)) ⌝ }
 {
-    clear(index, BY_NUMBER, 65536);
+    clear(index, BUCKET, 3063);
     name_rows(index, number, n);
 }
 

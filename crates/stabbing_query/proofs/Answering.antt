@@ -9,7 +9,7 @@ use Rattle.stabbing.specs.Stored.{latest, spanStart}
 use Rattle.stabbing.proofs.Marks.{below-is, keep-hit, keep-miss}
 use Rattle.stabbing.proofs.Starts.{latest-is, start-span, cover-latest}
 use Rattle.stabbing.proofs.Walk.{start-is, listing, comparisons-formula}
-use Rattle.stabbing.specs.Index.{firstColumn, lastColumn, startTable, latestTable, numberTable, Built, named, numbers, firsts, lasts}
+use Rattle.stabbing.specs.Index.{firstColumn, lastColumn, startTable, latestTable, Built, named, numbers, firsts, lasts, markIn}
 use Rattle.stabbing.proofs.Block.{built-holds}
 use Rattle.calendar.specs.Calendar.{isDay}
 pub use Rattle.calendar.proofs.Calendar.{dated}
@@ -228,19 +228,14 @@ span-question q e = record { built = q .built; dated = q .dated; start = e }
 -- cover: the row p of the published number x
 pub record RowOf (ix : List ℕ) (x p : ℕ) : Type 0 where
   pub built : Built ix
-  pub is : named (numbers ix) (firsts ix) (lasts ix) x ≡ suc p
+  pub is : markIn ix x ≡ suc p
 
-module _ {ix : List ℕ} (b : Built ix) {x y m : ℕ} (small : x < 65536) (e : y ≡ x) (z : m ≡ getD ix (y + numberTable) 0) where
-  named-is : named (numbers ix) (firsts ix) (lasts ix) x ≡ m
-  unfolding named
-  named-is = sym (z ∙ ap (λ (u : ℕ). getD ix (u + numberTable) 0) e ∙ built-holds ix b .by-number x small)
+pub cover-none : (ix : List ℕ) (x : ℕ) {m : ℕ} → m ≡ markIn ix x → m ≡ 0 → (out : List ℕ) → coverIn ix x out ≡ refused 7 out
+unfolding coverOf covering
+cover-none ix x e k out = ap (λ (u : ℕ). covering (numbers ix) (firsts ix) (lasts ix) u out) (sym e ∙ k)
 
-  pub cover-none : m ≡ 0 → (out : List ℕ) → coverIn ix x out ≡ refused 7 out
-  unfolding coverOf covering
-  cover-none k out = ap (λ (u : ℕ). covering (numbers ix) (firsts ix) (lasts ix) u out) (named-is ∙ k)
-
-  pub row-of : {p : ℕ} → m ≡ suc p → RowOf ix x p
-  row-of k = record { built = b; is = named-is ∙ k }
+pub row-of : {ix : List ℕ} → Built ix → {x m p : ℕ} → m ≡ markIn ix x → m ≡ suc p → RowOf ix x p
+row-of b e k = record { built = b; is = sym e ∙ k }
 
 module _ {ix : List ℕ} {x p : ℕ} (q : RowOf ix x p) where
   abbrev js : List ℕ
@@ -254,7 +249,7 @@ module _ {ix : List ℕ} {x p : ℕ} (q : RowOf ix x p) where
 
   within : p < length js
   unfolding named
-  within = let w : named (numbers ix) js es x ≤ length js = below-is _ (length js) .within in omega (arith, q .is)
+  within = let w : markIn ix x ≤ length js = below-is _ (length js) .within in omega (arith, q .is)
 
   pub row-small : p < 1024
   row-small = omega (arith, within, known .few)

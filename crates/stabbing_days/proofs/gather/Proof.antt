@@ -24,7 +24,9 @@ gather-spec =
     (λ c κs. let a = c .before .before in (Steps.some-left (a .before .loop .inv) (a .loop-test .taken), Steps.asks-day (a .before .loop .inv) (a .loop-test .taken)))
     (λ c. let a = c .before .before .before .before .before in record { fits = omega (arith, Steps.small (a .before .loop .inv) (a .loop-test .taken) refl (c .before .before .add .ensures)) })
     (λ c. search needs) (λ c. search needs) (λ c κs. search needs) (λ c. search needs) (λ c. search needs)
-    (λ c. search needs) (λ c κs. search needs) (λ c. search needs) (λ c. search needs)
+    -- index[d + BEGUN]
+    (λ c. let a = c .before .before .before .before .before .before .before in omega (arith, Steps.late (a .before .loop .inv) (a .loop-test .taken), c .to-usize .ensures .0))
+    (λ c κs. search needs) (λ c. search needs) (λ c. search needs)
     -- the next day
     (λ c. let a = c .before .before .before .before .before .before .before .before .before in let v = a .before .loop .inv in let t = a .loop-test .taken in
     Steps.goes-on v t (Steps.begun-is v t (c .before .before .to-usize .ensures .0) (c .to-usize2 .ensures .0)) (c .before .before .before .before .before .before .add .ensures))

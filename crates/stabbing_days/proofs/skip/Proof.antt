@@ -1,15 +1,15 @@
 -- `stabbing_days::skip` meets its contract: each need is a step of `proofs/Skipping.antt`. Assumes nothing.
-use Rattle.basis.proofs.Prelude.{arith, needs}
+use Rattle.basis.proofs.Prelude.{_-_, arith, needs}
 use Rattle.stabbing_days.proofs.Skipping as Steps
-use Rattle.stabbing_days.proofs.Skipping.{Passing}
+use Rattle.stabbing_days.proofs.Skipping.{Halving}
 use Rattle.stabbing_days.proofs.skip.Statement.{statement}
 use Rattle.stabbing_days.proofs.skip.Tie as tie
 
 abbrev Inv-loop : tie.InvT-loop
-Inv-loop index found m i₀ i = Passing index found m i
+Inv-loop index found m n end lo₀ hi₀ lo hi = Halving index found m lo hi
 
 abbrev μ-loop : tie.MeasureT-loop
-μ-loop index found m i₀ i = i
+μ-loop index found m n end lo₀ hi₀ lo hi = hi - lo
 
 pub skip-spec : {M : Type 1} → statement M
 skip-spec =
@@ -18,10 +18,17 @@ skip-spec =
     Inv-loop
     μ-loop
     (λ c. let g = c .before .before .args in Steps.all-new (g .index .now) (g .found .now) (omega (arith, c .if1 .taken)))
-    (λ c. let s = c .before .before in Steps.begins (s .args .index .now) (s .args .found .now) (s .args .m) (s .pre))
-    (λ c. search needs) (λ c. search needs) (λ c. search needs) (λ c κs. search needs) (λ c. search needs)
-    (λ c. search needs) (λ c. search needs) (λ c κs. search needs)
-    (λ c. let a = c .before .before .before .before .before in Steps.stops (a .before .loop .inv) (a .loop-test .taken) (c .before .before .before .to-usize .ensures .0) (c .before .before .before .to-usize .ensures .1) (c .before .to-usize2 .ensures .0) (omega (arith, c .if2 .taken)))
+    (λ c. let s = c .before .before .before in Steps.ends (Steps.begins (s .args .index .now) (s .args .found .now) (s .args .m) (s .pre)) (omega (arith, c .if2 .taken)))
+    -- found[end], and whether it is new
+    (λ c. search needs) (λ c. search needs) (λ c. search needs) (λ c κs. search needs)
+    (λ c. let l = c .before .before .before in Steps.none-new (l .before .before .before .pre) (l .if2 .left) (c .before .find .ensures) (c .if3 .taken))
+    (λ c. let l = c .before .before .before in Steps.last-new (l .before .before .before .pre) (l .if2 .left) (c .before .find .ensures) (omega (arith, c .if3 .left)))
+    -- j, and found[j]
+    (λ c. search needs) (λ c. search needs) (λ c. search needs) (λ c. search needs)
+    (λ c κs. search needs)
+    -- it is among the first m, or not
+    (λ c. search needs) (λ c. search needs)
+    (λ c. let a = c .before .before .before in Steps.old (a .before .loop .inv) (omega arith) (omega (arith, a .loop-test .taken)) (c .before .find2 .ensures) (c .if4 .taken))
     (λ c. search needs)
-    (λ c. let a = c .before .before .before .before .before in Steps.passes (a .before .loop .inv) (a .loop-test .taken) (c .before .before .before .to-usize .ensures .0) (c .before .before .before .to-usize .ensures .1) (c .before .to-usize2 .ensures .0) (omega (arith, c .if2 .left)))
+    (λ c. let a = c .before .before .before in Steps.new (a .before .loop .inv) (omega arith) (omega (arith, a .loop-test .taken)) (c .before .find2 .ensures) (omega (arith, c .if4 .left)))
     (λ c. Steps.ends (c .before .loop .inv) (omega (arith, c .loop-test .left))))
