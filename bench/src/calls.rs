@@ -50,9 +50,8 @@ fn whole_registers(rows: &[Row], rounds: usize) -> Vec<(String, Vec<String>)> {
         black_box(proved.service.write(black_box(&mut written)).expect("a list long enough"));
     });
     assert!(written.starts_with(text.as_bytes()), "what was read is written");
-    let publish = median_of(rounds, || {
-        proved.service.publish(1, black_box(&mut proved.index)).expect("a rule that there is");
-    });
+    let publish =
+        median_of(rounds, || proved.service.publish(1, black_box(&mut proved.index)).expect("there is such a rule"));
     let (mut service, mut index) = (vec![0; phayaklit::SERVICE_WORDS], vec![0; phayaklit::INDEX_WORDS]);
     let read = median_of(rounds, || {
         let begun = phayaklit::read(black_box(text.as_bytes()), &mut service, &mut index);

@@ -7,6 +7,7 @@
 mod calls;
 mod contenders;
 mod links;
+mod lookups;
 #[allow(dead_code)]
 #[path = "../../include/phayaklit.rs"]
 mod phayaklit;
@@ -173,6 +174,7 @@ fn main() {
     for (mean, many) in [(1.0, false), (15.0, false), (1.0, true), (15.0, true)] {
         report_growth(&options, mean, many);
     }
+    lookups::report(&workloads, options.rounds, options.questions, options.seed);
     calls::report(&workloads[4].rows, 10 * options.rounds);
     report_bytes();
 }

@@ -21,7 +21,7 @@ pub struct Case {
 }
 
 /// The number of questions timed at once.
-const STRETCH: usize = 100;
+pub const STRETCH: usize = 100;
 
 /// A contender with its name. The batch is timed inside, so that no dynamic call falls on a single question.
 pub trait Contender {
