@@ -73,7 +73,7 @@ extern "C" {
 
 /* The version of these functions and of what the blocks hold; phayaklit_version returns that of the archive. Blocks that one
  * version wrote are no blocks of another one. */
-#define PHAYAKLIT_VERSION 3
+#define PHAYAKLIT_VERSION 4
 
 /* The sizes of the two blocks, in words of 16 bits. In an index each link, its absence included, is a word: those to parent,
  * left sibling, last child and next in chain take 8,192 bytes in all. */

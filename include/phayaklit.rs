@@ -13,7 +13,7 @@ use core::error::Error;
 use core::fmt::{self, Display, Formatter};
 
 /// The version of the functions and of what the blocks hold, as this module knows them; `version` is the archive's.
-pub const VERSION: u32 = 3;
+pub const VERSION: u32 = 4;
 
 /// The sizes of the two blocks, in words. In an index each link, its absence included, is a word: those to parent, left sibling,
 /// last child and next in chain take 8,192 bytes in all.

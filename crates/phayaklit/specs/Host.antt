@@ -15,7 +15,7 @@ use Rattle.phayaklit.specs.declared.Opened.{Opened}
 
 -- the version of the exported functions and of the two blocks
 abbrev pub version : ℕ
-version = 3
+version = 4
 
 -- the words of a service that the calls gave
 abbrev pub Held : List ℕ → Type 0

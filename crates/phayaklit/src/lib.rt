@@ -87,7 +87,7 @@ fn put_back(r: Stepped, words: &mut [u16; SERVICE]) -> Reply
 // ---- The version
 
 // The version of these functions and of the two blocks, as the header and the module for Rust name it.
-const VERSION: u32 = 3;
+const VERSION: u32 = 4;
 
 #[no_mangle]
 pub extern "C" fn phayaklit_version() -> u32
