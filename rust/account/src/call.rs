@@ -140,3 +140,15 @@ pub struct Lists {
     pub numbers: Vec<u16>,
     pub text: Vec<u8>,
 }
+
+/// What the repair of a text answers: the refusal's number with its line, or 0 and 0; then three numbers, which are 0
+/// where it is refused: the length of the repaired text, how many lines are dropped, and how many kept ones now stand
+/// after a line that followed them.
+#[derive(Clone, Copy, PartialEq, Eq, Debug, Default)]
+pub struct Repaired {
+    pub refusal: u16,
+    pub line: usize,
+    pub length: usize,
+    pub dropped: usize,
+    pub displaced: usize,
+}

@@ -1,4 +1,4 @@
-//! The plain account as a program: `account serve [FILE]` and `account stand`.
+//! The plain account as a program: `account serve [FILE]`, `account stand` and `account repair`.
 
 fn main() -> std::process::ExitCode {
     account::programs::run(&std::env::args().skip(1).collect::<Vec<_>>())

@@ -1,22 +1,24 @@
-//! The programs `serve` and `stand` over the account. An error is what they tell on standard error.
+//! The programs `serve`, `stand` and `repair` over the account. An error is what they tell on standard error.
 
 use crate::account::Account;
 use crate::call::{Answer, Call, Lists, Question, Start};
 use crate::limits::{LAST_DAY, MOST_SPELLS};
 use crate::register::tabbed;
+use crate::repair::printed_and_told;
 use crate::wire::{bytes_of, take, Wire};
 use std::fs::File;
 use std::io::{self, Read, Write};
 use std::process::ExitCode;
 
-/// The program that the arguments name: `serve`, `serve FILE` or `stand`.
+/// The program that the arguments name: `serve`, `serve FILE`, `stand` or `repair`.
 pub fn run(arguments: &[String]) -> ExitCode {
     let arguments: Vec<&str> = arguments.iter().map(String::as_str).collect();
     let run = match arguments[..] {
         ["serve"] => serve(None),
         ["serve", file] => serve(Some(file)),
         ["stand"] => stand(),
-        _ => Err("usage: serve [FILE], or stand".to_string()),
+        ["repair"] => repair(),
+        _ => Err("usage: serve [FILE], stand, or repair".to_string()),
     };
     match run {
         Ok(()) => ExitCode::SUCCESS,
@@ -55,12 +57,23 @@ fn send(answer: &[u8]) -> Result<(), String> {
     output.write_all(answer).and_then(|()| output.flush()).map_err(failed)
 }
 
-fn stand() -> Result<(), String> {
+/// All of the input.
+fn input() -> Result<Vec<u8>, String> {
     let mut text = Vec::new();
     io::stdin().lock().read_to_end(&mut text).map_err(failed)?;
-    let (printed, told) = standing_days(&text);
+    Ok(text)
+}
+
+fn stand() -> Result<(), String> {
+    let (printed, told) = standing_days(&input()?);
     send(&printed)?;
     told.map_or(Ok(()), Err)
+}
+
+fn repair() -> Result<(), String> {
+    let (printed, told) = printed_and_told(&input()?);
+    send(&printed)?;
+    io::stderr().write_all(&told).map_err(failed)
 }
 
 /// What `stand` prints for a text, and where the text is refused what it tells.

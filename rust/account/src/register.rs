@@ -53,10 +53,21 @@ pub fn spell_of(fields: &[&[u8]]) -> Option<Spell> {
     })
 }
 
-/// The checks of a line behind the earlier ones, in their order: 12, 1 to 5, 6, 13, 8.
-fn read_line(line: &[u8], earlier: &[Spell]) -> Result<Spell, Refusal> {
+/// The lines of a text, each with its LF; the last one may have none.
+pub fn lines_of(text: &[u8]) -> impl Iterator<Item = &[u8]> {
+    text.split_inclusive(|&byte| byte == b'\n')
+}
+
+/// The checks of a line by itself, in their order: 12, 1 to 5.
+pub fn line_alone(line: &[u8]) -> Result<Spell, Refusal> {
     let spell = line.strip_suffix(b"\n").and_then(|line| spell_of(&fields_of(line))).ok_or(Refusal::MALFORMED)?;
     check_spell(&spell)?;
+    Ok(spell)
+}
+
+/// The checks of a line behind the earlier ones, in their order: 12, 1 to 5, 6, 13, 8.
+fn read_line(line: &[u8], earlier: &[Spell]) -> Result<Spell, Refusal> {
+    let spell = line_alone(line)?;
     check(!stands(earlier, spell.number), Refusal::TAKEN)?;
     check(earlier.last().is_none_or(|before| order(before) < order(&spell)), Refusal::MISPLACED)?;
     check(earlier.len() < MOST_SPELLS, Refusal::FULL)?;
@@ -67,7 +78,7 @@ fn read_line(line: &[u8], earlier: &[Spell]) -> Result<Spell, Refusal> {
 pub fn read(text: &[u8]) -> Result<Vec<Spell>, (Refusal, usize)> {
     check(text.len() <= LONGEST_TEXT, Refusal::MALFORMED).map_err(|refusal| (refusal, 0))?;
     let mut spells = Vec::new();
-    for (at, line) in text.split_inclusive(|&byte| byte == b'\n').enumerate() {
+    for (at, line) in lines_of(text).enumerate() {
         spells.push(read_line(line, &spells).map_err(|refusal| (refusal, at + 1))?);
     }
     Ok(spells)

@@ -2,7 +2,7 @@
 
 use check::options::{exit, Options};
 use check::program::Runner;
-use check::{cases, documents, nonblocking, serve, session, stand};
+use check::{cases, documents, nonblocking, repair, serve, session, stand};
 use std::io::{self, Write};
 use std::process::ExitCode;
 
@@ -32,6 +32,7 @@ fn main() -> ExitCode {
         ["cases", "rows"] => print(cases::rows().as_bytes()),
         ["serve", ..] => exit(compare("serve", &words[1..], serve::check)),
         ["stand", ..] => exit(compare("stand", &words[1..], stand::check)),
+        ["repair", ..] => exit(compare("repair", &words[1..], repair::check)),
         ["nonblocking", _, ..] => nonblocking::run(&words[1..]).unwrap_or_else(|error| {
             eprintln!("nonblocking: {error}");
             ExitCode::FAILURE

@@ -14,13 +14,21 @@ pub enum Comparison {
     Lists,
     Serve,
     Stand,
+    Repair,
+    Lent,
 }
 
 const LISTS: &[Comparison] = &[Comparison::Lists];
 const SERVE: &[Comparison] = &[Comparison::Serve];
 const STAND: &[Comparison] = &[Comparison::Stand];
 const BOTH: &[Comparison] = &[Comparison::Lists, Comparison::Serve];
-pub const ALL: &[Comparison] = &[Comparison::Lists, Comparison::Serve, Comparison::Stand];
+const CALLS: &[Comparison] = &[Comparison::Lists, Comparison::Serve, Comparison::Stand];
+const REPAIR: &[Comparison] = &[Comparison::Repair];
+const LENT: &[Comparison] = &[Comparison::Lent];
+const REPAIRS: &[Comparison] = &[Comparison::Repair, Comparison::Lent];
+const TEXTS: &[Comparison] = &[Comparison::Stand, Comparison::Repair];
+pub const ALL: &[Comparison] =
+    &[Comparison::Lists, Comparison::Serve, Comparison::Stand, Comparison::Repair, Comparison::Lent];
 
 /// The faults, each as `FOUND_BY module "what it does": "good" => "bad";`.
 macro_rules! faults {
@@ -143,7 +151,7 @@ pub const FAULTS: &[Fault] = faults! {
             if let Some(last) = given.last() { list.fill(*last) }
             list[..given.len()].copy_from_slice(given)";
     // Listings and looks.
-    ALL published "nobody stands on a last day":
+    CALLS published "nobody stands on a last day":
         "spell.first <= d && d <= spell.last" => "spell.first <= d && d < spell.last";
     BOTH published "a span starts at the later of two stored starts (M1)":
         "spell.first <= *b && spell.last >= *a" => r"
@@ -169,13 +177,13 @@ pub const FAULTS: &[Fault] = faults! {
         "Some(ticked.len())" => "Some(ticked.len().saturating_sub(1))";
     ALL entry "twins stand in falling order":
         "(spell.first, spell.last, spell.number)" => "(spell.first, spell.last, u16::MAX - spell.number)";
-    ALL tree "a head of the same last day is no parent":
+    CALLS tree "a head of the same last day is no parent":
         "spells[up].last >= spells[at].last" => "spells[up].last > spells[at].last";
-    ALL tree "looks of heads on the path count":
+    CALLS tree "looks of heads on the path count":
         "!path.contains(&at) && self.last_child[at].is_some()" => "self.last_child[at].is_some()";
-    ALL tree "looks at left siblings do not count":
+    CALLS tree "looks at left siblings do not count":
         "with_next + with_left + off_path_with_child" => "with_next + 0 * with_left + off_path_with_child";
-    ALL tree "one look too many where somebody is listed":
+    CALLS tree "one look too many where somebody is listed":
         "with_next + with_left + off_path_with_child"
         => "with_next + with_left + off_path_with_child + listed.len().min(1)";
     // The text.
@@ -188,13 +196,118 @@ pub const FAULTS: &[Fault] = faults! {
     BOTH register "full comes before the other checks of a line":
         "read_line(line, &spells)"
         => "check(spells.len() < MOST_SPELLS, Refusal::FULL).and_then(|()| read_line(line, &spells))";
-    ALL register "lines are counted from 0":
+    CALLS register "lines are counted from 0":
         "(refusal, at + 1)" => "(refusal, at)";
     BOTH register "leading zeros of a reading are not written":
         r#"format!("{number}\t{candidate}\t{first}\t{last}\tC\t{bits:08X}")"#
         => r#"format!("{number}\t{candidate}\t{first}\t{last}\tC\t{bits:X}")"#;
-    ALL register "a text of the longest length is too long":
+    CALLS register "a text of the longest length is too long":
         "text.len() <= LONGEST_TEXT" => "text.len() < LONGEST_TEXT";
+    // Repairs: which lines are kept, and why the others are not.
+    REPAIRS repair "the number of a dropped line is taken":
+        "kept_line(line, &sifted.kept)" => r"
+            use crate::register::{fields_of, spell_of};
+            let number_of = |line: &[u8]| spell_of(&fields_of(&line[..line.len() - 1])).map(|spell| spell.number);
+            let taken = |number| lines_of(text).take(at).any(|line| number_of(line) == Some(number));
+            let kept = kept_line(line, &sifted.kept);
+            kept.and_then(|spell| check(!taken(spell.number), Refusal::TAKEN).map(|()| spell))";
+    REPAIRS repair "lines behind the 1,024th are dropped as full":
+        "kept_line(line, &sifted.kept)"
+        => "check(at < MOST_SPELLS, Refusal::FULL).and_then(|()| kept_line(line, &sifted.kept))";
+    REPAIRS repair "misplaced lines are dropped":
+        "kept_line(line, &sifted.kept)" => r"
+            let last = sifted.kept.last();
+            let placed = |spell: &Spell| last.is_none_or(|before| order(before) < order(spell));
+            let kept = kept_line(line, &sifted.kept);
+            kept.and_then(|spell| check(placed(&spell), Refusal::MISPLACED).map(|()| spell))";
+    REPAIRS repair "full comes before taken in a repair":
+        "check(!stands(kept, spell.number), Refusal::TAKEN)?" => r"
+            check(kept.len() < MOST_SPELLS, Refusal::FULL)?;
+            check(!stands(kept, spell.number), Refusal::TAKEN)?";
+    REPAIRS repair "one line less is kept":
+        "kept.len() < MOST_SPELLS" => "kept.len() < MOST_SPELLS - 1";
+    REPAIRS repair "one line more is kept":
+        "kept.len() < MOST_SPELLS" => "kept.len() <= MOST_SPELLS";
+    REPAIRS repair "a kept line behind a dropped one is lost":
+        "sifted.kept.push(spell)"
+        => "if sifted.dropped.last().is_none_or(|dropped| dropped.0 != at) { sifted.kept.push(spell) }";
+    REPAIRS repair "lines of a repair are counted from 0":
+        "sifted.dropped.push((at + 1, refusal))" => "sifted.dropped.push((at, refusal))";
+    REPAIRS repair "an empty line is passed over":
+        "sifted.dropped.push((at + 1, refusal))"
+        => r#"if line != b"\n" { sifted.dropped.push((at + 1, refusal)) }"#;
+    REPAIRS repair "the longest text to repair is too long":
+        "text.len() <= LONGEST_TEXT" => "text.len() < LONGEST_TEXT";
+    REPAIRS repair "a text of one byte more is repaired":
+        "text.len() <= LONGEST_TEXT" => "text.len() <= LONGEST_TEXT + 1";
+    // Repairs: the order of the kept lines, and how many are displaced.
+    REPAIRS repair "kept lines stay as they came":
+        "spells.sort_by_key(order)" => "()";
+    REPAIRS repair "kept lines of the same days stay as they came":
+        "spells.sort_by_key(order)" => "spells.sort_by_key(|spell| (spell.first, spell.last))";
+    REPAIRS repair "the last of 1,024 kept lines is lost":
+        "text_of(&spells)" => "text_of(&spells[..spells.len().min(MOST_SPELLS - 1)])";
+    REPAIRS repair "lines count that passed another one":
+        "self.kept[at + 1..].iter().any(|later| order(later) < order(&self.kept[at]))"
+        => "self.kept[..at].iter().any(|earlier| order(earlier) > order(&self.kept[at]))";
+    REPAIRS repair "only the next line displaces one":
+        "self.kept[at + 1..].iter().any(|later| order(later) < order(&self.kept[at]))"
+        => "self.kept.get(at + 1).is_some_and(|later| order(later) < order(&self.kept[at]))";
+    REPAIRS repair "lines are displaced by their days alone":
+        "self.kept[at + 1..].iter().any(|later| order(later) < order(&self.kept[at]))" => r"
+            let days = |spell: &Spell| (spell.first, spell.last);
+            self.kept[at + 1..].iter().any(|later| days(later) < days(&self.kept[at]))";
+    REPAIRS repair "lines count that stand at another place":
+        "(0..self.kept.len()).filter(|&at| passed(at)).count()" => r"
+            let place = |at: usize| self.kept.iter().filter(|other| order(other) < order(&self.kept[at])).count();
+            (0..self.kept.len()).filter(|&at| passed(at) || place(at) != at).count()";
+    // Repairs: the lists that are lent, and what is told.
+    LENT repair "the line of a remark is cut to 16 bits":
+        "*line as u32" => "*line as u16 as u32";
+    LENT repair "remarks are written before the text is known to be short":
+        "check(text.len() <= lent.len(), Refusal::SHORT_LIST)?" => r"
+            remarked.iter_mut().zip(&remarks).for_each(|(place, remark)| *place = *remark);
+            check(text.len() <= lent.len(), Refusal::SHORT_LIST)?";
+    LENT repair "a list of exactly the repaired text's length is short":
+        "check(text.len() <= lent.len(), Refusal::SHORT_LIST)?"
+        => "check(text.len() < lent.len(), Refusal::SHORT_LIST)?";
+    LENT repair "the text is written before the remarks are known to be short":
+        "check(remarks.len() <= remarked.len(), Refusal::SHORT_LIST)?" => r"
+            lent[..text.len()].copy_from_slice(&text);
+            check(remarks.len() <= remarked.len(), Refusal::SHORT_LIST)?";
+    LENT repair "a list of exactly the remarks' places is short":
+        "check(remarks.len() <= remarked.len(), Refusal::SHORT_LIST)?"
+        => "check(remarks.len() < remarked.len(), Refusal::SHORT_LIST)?";
+    LENT repair "places behind the repaired text are cleared":
+        "lent[..text.len()].copy_from_slice(&text)" => "lent.fill(0); lent[..text.len()].copy_from_slice(&text)";
+    LENT repair "places behind the remarks are cleared":
+        "remarked[..remarks.len()].copy_from_slice(&remarks)"
+        => "remarked.fill(0); remarked[..remarks.len()].copy_from_slice(&remarks)";
+    LENT repair "a short list comes before the length":
+        "Sifted::of(text)?"
+        => "check(!lent.is_empty() || text.len() <= LONGEST_TEXT, Refusal::SHORT_LIST).and_then(|()| Sifted::of(text))?";
+    LENT repair "a refused repair tells a line":
+        "Repaired { refusal: refusal.0, ..Repaired::default() }"
+        => "Repaired { refusal: refusal.0, line: 1, ..Repaired::default() }";
+    LENT repair "a refused repair tells a length":
+        "Repaired { refusal: refusal.0, ..Repaired::default() }"
+        => "Repaired { refusal: refusal.0, length: text.len(), ..Repaired::default() }";
+    REPAIR repair "the line of what is told is cut to 16 bits":
+        r#"format!("dropped\t{line}\t{}\n", refusal.0)"#
+        => r#"format!("dropped\t{}\t{}\n", *line as u16, refusal.0)"#;
+    REPAIR repair "nothing is told of a good register":
+        r#"format!("{lines}repaired\t{}\t{}\t{}\n", self.text().len(), self.dropped.len(), self.displaced())"# => r#"
+            if self.dropped.is_empty() { return String::new() }
+            format!("{lines}repaired\t{}\t{}\t{}\n", self.text().len(), self.dropped.len(), self.displaced())"#;
+    REPAIR repair "a text that is too long is printed":
+        "Vec::new()" => "text.to_vec()";
+    REPAIR programs "what is told goes to standard output":
+        "io::stderr().write_all(&told)" => "io::stdout().write_all(&told)";
+    REPAIR programs "the status of a repair is 1 where lines are dropped":
+        "io::stderr().write_all(&told)" => r#"
+            let all = io::stderr().write_all(&told);
+            if told.starts_with(b"dropped") { std::process::exit(1) }
+            all"#;
     // The wire.
     SERVE wire "the largest room is malformed":
         "LARGEST_ROOM as u64" => "LARGEST_ROOM as u64 - 1";
@@ -250,7 +363,7 @@ pub const FAULTS: &[Fault] = faults! {
             output.write_all(answer).and_then(|()| output.flush()).map_err(failed)"#;
     STAND programs "long lines of a day are not printed":
         "!numbers.is_empty()" => "!numbers.is_empty() && numbers.len() <= 190";
-    STAND programs "the input is read once":
+    TEXTS programs "the input is read once":
         "io::stdin().lock().read_to_end(&mut text).map_err(failed)?" => r"
             text.resize(65_537, 0);
             let count = io::stdin().lock().read(&mut text).map_err(failed)?;

@@ -1,8 +1,8 @@
 //! Tests the tests: each fault is put into a stand-in for what is compared with the account, and each comparison that
 //! can see it must find it.
 //!
-//!     faults [--by lists|serve|stand] [--seeds N]      the faults, all or those that one comparison must find
-//!     faults standin N serve|stand [ARGUMENT..]        the stand-in with the fault N, as a program
+//!     faults [--by lists|serve|stand|repair|lent] [--seeds N]     the faults, all or those of one comparison
+//!     faults standin N serve|stand|repair [ARGUMENT..]            the stand-in with the fault N, as a program
 //!
 //! The exit status is 0 where each fault is found, by one of the seeds 1 to N, and where nothing is found in the stand-in
 //! without a fault.
@@ -11,7 +11,7 @@ use account::call::{Answer, Call, Lists, Start};
 use check::lists::{compare, Target};
 use check::options::{exit, Options};
 use check::program::Runner;
-use check::{serve, stand};
+use check::{repair, serve, stand};
 use standin::list::{self, Comparison, FAULTS};
 use standin::wire::Wire;
 use standin::{programs, switch};
@@ -46,6 +46,11 @@ fn difference(fault: usize, comparison: Comparison, seed: u64) -> Option<String>
         }
         Comparison::Serve => serve::check(&started("serve"), seed, 2000).err(),
         Comparison::Stand => stand::check(&started("stand"), seed, 200).err(),
+        Comparison::Repair => repair::check(&started("repair"), seed, 200).err(),
+        Comparison::Lent => {
+            switch::set(fault);
+            repair::compare(standin::repair::repair, seed, 400).err()
+        }
     }
 }
 

@@ -1,5 +1,5 @@
-//! Random input for the account and for what is compared with it: spells, register texts, lists of calls with what
-//! their lent lists hold, conversations on the wire. All comes from a seed, and the same seed gives the same.
+//! Random input for the account and for what is compared with it: spells, register texts, texts to repair, lists of calls
+//! with what their lent lists hold, conversations on the wire. All comes from a seed, and the same seed gives the same.
 //!
 //! What is drawn is mostly good: numbers from a small pool and days near one centre, so that both collide often, and
 //! wrong fields strewn in, several at once. Calls are aimed at the account's state, so that every check of every call
@@ -7,6 +7,7 @@
 
 mod calls;
 mod conversation;
+mod damage;
 mod odd;
 mod registers;
 mod requests;
@@ -15,6 +16,7 @@ mod spells;
 
 use calls::Phase;
 pub use conversation::{Conversation, Exchange};
+use damage::Mishap;
 pub use odd::endings;
 use registers::{Begun, Damage};
 pub use requests::{days_line, room_line};
@@ -30,6 +32,7 @@ pub struct Generator {
     begun: Deck<Begun>,
     phases: Deck<Phase>,
     damages: Deck<Damage>,
+    mishaps: Deck<Mishap>,
 }
 
 impl Generator {
@@ -42,6 +45,7 @@ impl Generator {
             begun: Deck::new(&registers::BEGUN),
             phases: Deck::new(&calls::PHASES),
             damages: Deck::new(&registers::DAMAGES),
+            mishaps: Deck::new(&damage::MISHAPS),
         }
     }
 }

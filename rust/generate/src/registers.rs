@@ -96,7 +96,7 @@ impl Generator {
 
     /// So many spells in the order: on days near the centre for half of the lists, over the whole calendar for the
     /// others.
-    fn register(&mut self, count: usize) -> Vec<Spell> {
+    pub(crate) fn register(&mut self, count: usize) -> Vec<Spell> {
         if self.rng.chance(50) {
             return self.waiting_list(count);
         }

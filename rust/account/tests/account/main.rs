@@ -3,6 +3,7 @@
 mod calls;
 mod examples;
 mod masks;
+mod repairs;
 mod rules;
 mod texts;
 mod twins;
