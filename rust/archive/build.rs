@@ -1,7 +1,9 @@
-//! Says where the proved archive is, and that what is linked with it is linked again where it changes.
+//! Says where the proved archives are, and that what is linked with them is linked again where they change.
 
 fn main() {
     let folder = concat!(env!("CARGO_MANIFEST_DIR"), "/../../target/staticlib");
     println!("cargo:rustc-link-search=native={folder}");
-    println!("cargo:rerun-if-changed={folder}/libphayaklit.a");
+    for archive in ["phayaklit", "host_repair"] {
+        println!("cargo:rerun-if-changed={folder}/lib{archive}.a");
+    }
 }
