@@ -1,15 +1,22 @@
-# What the tests of `stand` and `serve` share: runs by bin/run-program, and each way in which a program's input or output fails. It is
-# read by tests/stand.sh and tests/serve.sh, which set here, work and program, and whose `fail` ends the test.
+# What the tests of `stand`, `serve` and `repair` share: runs by bin/run-program, and each way in which a program's input or output fails.
+# It is read by tests/stand.sh, tests/serve.sh and tests/repair.sh, which set here, work and program, and whose `fail` ends the test.
 runner=$here/../bin/run-program
+
+# What another test may set: the file of what is told where all is done, the reader that closes an output early, and the bytes of a disk
+# that the output fills; the word with which the last line begins that is told where all is done.
+well=/dev/null
+last_word=
+reader='head -n 1'
+disk=64k
 
 # run COMMAND: by bin/run-program, and no longer than two minutes
 run() {
-    timeout 120 "$runner" "$@"
+    timeout 120 "$runner" ${last_word:+--done "$last_word"} "$@"
 }
 
-# done_well WHAT STATUS: nothing was told, and the status is 0
+# done_well WHAT STATUS: nothing was told but what is told where all is done, and the status is 0
 done_well() {
-    [ ! -s "$work/told" ] || fail "$1: told on standard error: $(cat "$work/told")"
+    cmp "$work/told" "$well" >&2 || fail "$1: told on standard error: $(cat "$work/told")"
     [ "$2" -eq 0 ] || fail "$1: the status is $2"
 }
 
@@ -26,6 +33,12 @@ begins() {
     head -c "$bytes" "$2" | cmp - "$work/out" >&2 || fail "$1: the output differs"
 }
 
+# late FILE: its bytes, when a reader that takes nothing has long ended
+late() {
+    sleep 0.5
+    cat "$1" 2> /dev/null
+}
+
 # failures NAME INPUT EXPECTED: the program NAME on the file INPUT, which prints the file EXPECTED where nothing fails
 failures() {
     # pipes that do not wait, with a slow writer and a slow reader
@@ -33,13 +46,13 @@ failures() {
     done_well "pipes that do not wait" $?
     cmp "$work/out" "$3" >&2 || fail "pipes that do not wait: the output differs"
 
-    # an output that is closed after the first line: a signal ends the program
-    { run "$program" < "$2" 2> "$work/told"; echo $? > "$work/status"; } | head -n 1 > "$work/out"
-    head -n 1 "$3" | cmp - "$work/out" >&2 || fail "the first line alone: the output differs"
-    [ "$(cat "$work/status")" -gt 128 ] || fail "the first line alone: the status is $(cat "$work/status")"
+    # an output that is closed early: a signal ends the program
+    late "$2" | { run "$program" 2> "$work/told"; echo $? > "$work/status"; } | $reader > "$work/out"
+    $reader < "$3" | cmp - "$work/out" >&2 || fail "an output that is closed early: the output differs"
+    [ "$(cat "$work/status")" -gt 128 ] || fail "an output that is closed early: the status is $(cat "$work/status")"
 
     # the same where that signal is ignored, and an output that was never open
-    (trap '' PIPE; { run "$program" < "$2" 2> "$work/told"; echo $? > "$work/status"; } | head -n 1 > "$work/out")
+    (trap '' PIPE; late "$2" | { run "$program" 2> "$work/told"; echo $? > "$work/status"; } | $reader > "$work/out")
     told "a closed output" "$(cat "$work/status")" "$1: standard output: Broken pipe"
     run "$program" < "$2" >&- 2> "$work/told"
     told "no output" $? "$1: standard output: Bad file descriptor"
@@ -51,7 +64,7 @@ failures() {
     told "a file that may not grow" $? "$1: standard output: File too large"
     begins "a file that may not grow" "$3"
     mkdir "$work/disk"
-    if mount -t tmpfs -o size=64k tmpfs "$work/disk" 2> /dev/null; then
+    if mount -t tmpfs -o size=$disk tmpfs "$work/disk" 2> /dev/null; then
         mounted=$work/disk
         run "$program" < "$2" > "$work/disk/out" 2> "$work/told"
         told "a full disk" $? "$1: standard output: No space left on device"
