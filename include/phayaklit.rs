@@ -403,8 +403,12 @@ mod ffi {
         assert!(offset_of!(Reply, refusal) == 0 && offset_of!(Reply, count) == 8);
         assert!(offset_of!(Reply, looks) == 16 && offset_of!(Reply, length) == 24 && offset_of!(Reply, ticked) == 32);
         assert!(offset_of!(Opened, refusal) == 0 && offset_of!(Opened, line) == 2);
-        assert!(offset_of!(Repaired, refusal) == 0 && offset_of!(Repaired, line) == 2 && offset_of!(Repaired, length) == 8);
-        assert!(offset_of!(Repaired, dropped) == 16 && offset_of!(Repaired, displaced) == 24 && size_of::<Repaired>() == 32);
+        assert!(
+            offset_of!(Repaired, refusal) == 0 && offset_of!(Repaired, line) == 2 && offset_of!(Repaired, length) == 8
+        );
+        assert!(
+            offset_of!(Repaired, dropped) == 16 && offset_of!(Repaired, displaced) == 24 && size_of::<Repaired>() == 32
+        );
         assert!(size_of::<Entry>() == 16 && size_of::<Reply>() == 40 && size_of::<Opened>() == 4);
     };
 
