@@ -5,8 +5,9 @@ use crate::proved::Proved;
 use crate::rng::Rng;
 use crate::rows::{Workload, LAST_DAY, ROWS};
 use crate::table;
-use crate::timing::{median_of, STRETCH};
+use crate::timing::{median, STRETCH};
 use std::hint::black_box;
+use std::time::Instant;
 
 /// The days of a question.
 const DAYS: usize = 8;
@@ -30,19 +31,23 @@ fn running(rng: &mut Rng) -> Vec<u16> {
     (first..).take(DAYS).collect()
 }
 
-/// How many spells a question lists in the mean, and the nanoseconds that it takes.
+/// How many spells a question lists in the mean, and the nanoseconds that it takes: in each round all questions are asked, a stretch after
+/// the other.
 fn timed<Q>(rounds: usize, questions: &[Q], ask: impl Fn(&Q, &mut [u16]) -> Listed) -> [String; 2] {
     let mut out = [0; ROWS];
     let listed: usize = questions.iter().map(|question| ask(question, &mut out).count).sum();
-    let mut stretch = |part: &[Q]| {
-        let mut all = || {
-            for question in part {
+    let stretches: Vec<&[Q]> = questions.chunks(STRETCH).collect();
+    let mut times = vec![Vec::new(); stretches.len()];
+    for _ in 0..rounds {
+        for (stretch, times) in stretches.iter().zip(&mut times) {
+            let begin = Instant::now();
+            for question in *stretch {
                 black_box(ask(black_box(question), black_box(&mut out)));
             }
-        };
-        median_of(rounds, &mut all)
-    };
-    let taken: f64 = questions.chunks(STRETCH).map(&mut stretch).sum();
+            times.push(begin.elapsed().as_nanos() as f64);
+        }
+    }
+    let taken: f64 = times.into_iter().map(median).sum();
     [listed as f64, taken].map(|sum| format!("{:.1}", sum / questions.len() as f64))
 }
 
