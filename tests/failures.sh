@@ -42,7 +42,7 @@ late() {
 # failures NAME INPUT EXPECTED: the program NAME on the file INPUT, which prints the file EXPECTED where nothing fails
 failures() {
     # pipes that do not wait, with a slow writer and a slow reader
-    timeout 120 "$here/check" nonblocking "$runner" "$program" < "$2" > "$work/out" 2> "$work/told"
+    timeout 120 "$here/check" nonblocking "$runner" ${last_word:+--done "$last_word"} "$program" < "$2" > "$work/out" 2> "$work/told"
     done_well "pipes that do not wait" $?
     cmp "$work/out" "$3" >&2 || fail "pipes that do not wait: the output differs"
 
