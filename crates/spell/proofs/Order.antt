@@ -1,25 +1,10 @@
--- An order by keys that end in the spell number is a strict total order on spells of different numbers, and spells have one list that is
--- kept in it. Assumes nothing.
-use Rattle.basis.proofs.Prelude.{_∙_, _≡_, refl, sym, _<_, _≤_, ℕ, List, List·Memᴰ, List·Memᴰ·cases-cons, List·Memᴰ·head, List·Memᴰ·not-nil, List·Memᴰ·tail, [], _++_, _∷_, Bool, cond, false, true, _⊎_, inl, inr, eqb, ltb, arith, eq-eqb, eqb-false, eqb-true, le-ltb, lt-ltb, ltb-false, ltb-true, both, by-eq, by-test, clash, untrue}
+-- An order by keys that end in the spell number is a strict total order on spells of different numbers; and what a list that is kept in it
+-- says of its spells. Assumes nothing.
+use Rattle.basis.proofs.Prelude.{_≡_, refl, sym, _<_, _≤_, ℕ, List, List·Memᴰ, List·Memᴰ·cases-cons, List·Memᴰ·not-nil, [], _++_, _∷_, Bool, false, true, _⊎_, inl, inr, arith, eq-eqb, both, by-eq, clash, untrue}
+use Rattle.orders.proofs.Keys.{key-is, key-says, key-denies}
 use Rattle.spell.specs.declared.Spell.{Spell}
 use Rattle.spell.specs.Order.{lexical, earlierOf, listedBefore, orderedBy}
 use Rattle.spell.specs.Listing.{Each}
-
--- ---- One key: x is below y, or they are equal and the later keys decide
-
-module _ (x y : ℕ) (b : Bool) where
-  key-is : x ≤ y → (x ≡ y → b ≡ true) → cond (eqb x y) b (ltb x y) ≡ true
-  key-is h f = by-test (eqb x y) (λ e. rw e (f (eqb-true x y e))) (λ e. rw e (lt-ltb x y (let n : x ≡ y → ⊥ = eqb-false x y e in omega arith)))
-
-  key-says : cond (eqb x y) b (ltb x y) ≡ true → (x ≤ y) × (x ≡ y → b ≡ true)
-  key-says h = by-test (eqb x y) (λ e. (omega (arith, eqb-true x y e), λ _. rw e at h)) (λ e. (omega (arith, ltb-true x y (rw e at h)), λ z. absurd (eqb-false x y e z)))
-
-  key-denies : cond (eqb x y) b (ltb x y) ≡ false → (y ≤ x) × (x ≡ y → b ≡ false)
-  key-denies h = by-test (eqb x y) (λ e. (omega (arith, eqb-true x y e), λ _. rw e at h)) (λ e. (ltb-false x y (rw e at h), λ z. absurd (eqb-false x y e z)))
-
--- the last key
-pub key-last : (x y : ℕ) → ltb x y ≡ cond (eqb x y) false (ltb x y)
-key-last x y = by-test (eqb x y) (λ e. rw (e, eqb-true x y e) (le-ltb y y (omega arith))) (λ e. rw e)
 
 -- ---- Orders by keys
 
@@ -116,39 +101,7 @@ module _ {t : Spell → Spell → Bool} (o : StrictOrder t) where
   ordered-cons x [] e h = refl
   ordered-cons x (y ∷ l) e h = rw (e .0) h
 
-  -- ---- One sorted form
-
-  later : (x z : Spell) (l : List Spell) → orderedBy t (x ∷ l) ≡ true → List·Memᴰ z l → t x z ≡ true
-  later x z l h = each-member (λ z. t x z ≡ true) l z (ordered-first x l h)
-
   -- a spell of the list comes before each that follows it
   pub comes-before : (before after : List Spell) (a b : Spell) → orderedBy t (before ++ a ∷ after) ≡ true → List·Memᴰ b after → t a b ≡ true
-  comes-before [] after a b h i = later a b after h i
+  comes-before [] after a b h i = each-member (λ z. t a z ≡ true) after b (ordered-first a after h) i
   comes-before (x ∷ before) after a b h i = comes-before before after a b (ordered-tail x (before ++ a ∷ after) h) i
-
-  -- two lists, each first spell a spell of the other list, begin with the same
-  same-first : (x y : Spell) (l m : List Spell) → orderedBy t (x ∷ l) ≡ true → orderedBy t (y ∷ m) ≡ true
-      → List·Memᴰ x (y ∷ m) → List·Memᴰ y (x ∷ l) → x ≡ y
-  same-first x y l m hl hm p q = elim (List·Memᴰ·cases-cons p) [
-    | inl e ↦ e
-    | inr i ↦ elim (List·Memᴰ·cases-cons q) [ inl e ↦ sym e | inr j ↦ absurd (clash (later x y l hl j) (asym y x (later y x m hm i))) ]
-  ]
-
-  -- what is in one list past its first spell is past the first of the other
-  same-rest : (x y z : Spell) (l m : List Spell) → orderedBy t (x ∷ l) ≡ true → x ≡ y → List·Memᴰ z l → List·Memᴰ z (y ∷ m) → List·Memᴰ z m
-  same-rest x y z l m h e p q = elim (List·Memᴰ·cases-cons q) [
-    | inl s ↦ absurd (clash (later x x l h (rw (s ∙ sym e) at p)) (o .irrefl x))
-    | inr k ↦ k
-  ]
-
-  pub sorted-unique : (l m : List Spell) → orderedBy t l ≡ true → orderedBy t m ≡ true
-      → ((z : Spell) → List·Memᴰ z l → List·Memᴰ z m) → ((z : Spell) → List·Memᴰ z m → List·Memᴰ z l) → l ≡ m
-  sorted-unique [] [] hl hm to from = refl
-  sorted-unique [] (y ∷ m) hl hm to from = absurd (List·Memᴰ·not-nil (from y (List·Memᴰ·head refl)))
-  sorted-unique (x ∷ l) [] hl hm to from = absurd (List·Memᴰ·not-nil (to x (List·Memᴰ·head refl)))
-  sorted-unique (x ∷ l) (y ∷ m) hl hm to from =
-      let e = same-first x y l m hl hm (to x (List·Memᴰ·head refl)) (from y (List·Memᴰ·head refl)) in
-      let rest = sorted-unique l m (ordered-tail x l hl) (ordered-tail y m hm)
-      (λ z p. same-rest x y z l m hl e p (to z (List·Memᴰ·tail p)))
-      (λ z p. same-rest y x z m l hm (sym e) p (from z (List·Memᴰ·tail p))) in
-      cc
