@@ -2,6 +2,5 @@ pub mod Widths
 pub mod Ordered
 pub mod Lines
 pub mod Texts
-pub mod Held
 pub mod Claims
 pub mod Cases
