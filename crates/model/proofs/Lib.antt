@@ -8,6 +8,7 @@ pub mod Checks
 pub mod Edits
 pub mod Publishing
 pub mod Idle
+pub mod Asked
 pub mod Editing
 pub mod Kept
 pub mod Journal

@@ -7,7 +7,7 @@ pub use Rattle.masks.specs.Masks.{ticks}
 unfoldable pub use Rattle.masks.specs.Masks.{isSet, ticksFrom}
 pub use Rattle.model.specs.Edits.{insert, orElse, replace}
 unfoldable pub use Rattle.model.specs.Edits.{amendRefusal, enterRefusal, frontOr, idle, remember, remove, restOf, strikeRefusal, takeBackRefusal}
-pub use Rattle.model.specs.Effects.{After, Effect, done, gave, gives, refuse, refused, withPublished, withStanding, writes, wrote}
+pub use Rattle.model.specs.Effects.{Answer, Request, State, After, Effect, done, gave, gives, refuse, refused, withPublished, withStanding, writes, wrote}
 unfoldable pub use Rattle.model.specs.Effects.{settle}
 pub use Rattle.model.specs.Journal.{Event, Told, call, kept, reads, told}
 unfoldable pub use Rattle.model.specs.Journal.{allTold, journal, journalTold, left}
@@ -21,7 +21,6 @@ unfoldable pub use Rattle.model.specs.Reached.{after}
 pub use Rattle.model.specs.declared.Call.{Call}
 pub use Rattle.model.specs.declared.Call.the-variants.{Amend, Ask, Enter, Publish, Strike, TakeBack, Write}
 pub use Rattle.model.specs.declared.Question.{Question}
-pub use Rattle.model.specs.declared.Question.the-variants.{Cover, Day, Days, Mask, Span}
 pub use Rattle.orders.proofs.Sorting.{sorted-length}
 unfoldable pub use Rattle.orders.specs.Orders.{sortedBy}
 pub use Rattle.refusal.specs.Table.{accepted, duplicateNumber, full, noHistory, noSuchRule, offCalendar, reversed, shortBuffer, unknownNumber, unsortedDays}

@@ -1,8 +1,7 @@
 -- Document 01's plain account, what begins it and what take back, publish and writing do, as claims of every state. The edits are in
 -- `Editing.antt`, the questions in `Claims.antt`, whole lists of calls in `Runs.antt`. Assumes nothing.
 use Rattle.basis.proofs.Prelude.{_≡_, refl, _<_, _≤_, ℕ, List, [], _++_, _∷_, leb, drop, length, arith, le-leb, leb-false, leb-true, lt-leb, by-test, true, false}
-use Rattle.model.proofs.Names.{accepted, noHistory, shortBuffer, noSuchRule, isRule, Spell, Register, readText, writeAll, good, bad, text-again, TakeBack, Publish, Write, publishedOf, withStanding, withPublished, gives, writes, refuse, gave, wrote, settle, fresh, begun, takeBack, effectOf, stepOf}
-use Rattle.model.specs.Effects.{State, Request, Answer}
+use Rattle.model.proofs.Names.{accepted, noHistory, shortBuffer, noSuchRule, isRule, Spell, Register, readText, writeAll, good, bad, text-again, TakeBack, Publish, Write, publishedOf, withStanding, withPublished, gives, writes, refuse, gave, wrote, settle, fresh, begun, takeBack, effectOf, stepOf, State, Request, Answer}
 
 -- ---- The beginning
 
