@@ -14,24 +14,11 @@ use Rattle.model.specs.Model.{Request, run}
 use Rattle.replay.specs.declared.Code.{Code}
 use Rattle.replay.specs.declared.Next.the-variants.{Go}
 use Rattle.replay.specs.declared.Ran.{Ran}
-use Rattle.replay.specs.Coded.{codeWidth, resultWidth, low16, urgencyOf, word, codeAt, callOf, nextOf, decodeFrom, wholeOf, Holds, beginning, Replayed}
-use Rattle.replay.specs.Coding.{Value, urgent, masked, Fields, spellFields, fieldsOf, Wide, Fits, Codable, Coding}
+use Rattle.replay.specs.Coded.{codeWidth, resultWidth, low16, urgencyOf, word, codeAt, callOf, Value, urgent, masked, Fields, spellFields, fieldsOf, opOf, nextOf, decodeFrom, wholeOf, Holds, beginning, Replayed}
+use Rattle.replay.specs.Coding.{Wide, Fits, Codable, Coding}
 use Rattle.replay.proofs.Runs.{decode-go}
 
 -- ---- The words of a call
-
-abbrev opOf : Call → ℕ
-opOf (Enter s) = 1
-opOf (Amend s) = 2
-opOf (Strike k) = 3
-opOf TakeBack = 4
-opOf (Publish rule) = 5
-opOf Write = 6
-opOf (Ask (Day d)) = 7
-opOf (Ask (Span a b)) = 8
-opOf (Ask (Cover k)) = 9
-opOf (Ask Days) = 10
-opOf (Ask (Mask b k)) = 11
 
 abbrev kindIn : Value → ℕ
 kindIn (urgent u) = kindOf u
@@ -65,20 +52,20 @@ spell-back : (s : Spell) → Fits (spellFields s)
     → record { number = low16 (s .number); candidate = low16 (s .candidate); first = low16 (s .first); last = low16 (s .last); urgency = urgencyOf (kindOf (s .urgency)) (valueOf (s .urgency)) } ≡ s
 spell-back s f = rw (mod-eq-of-lt (f .number), mod-eq-of-lt (f .candidate), mod-eq-of-lt (f .first), mod-eq-of-lt (f .last), urgency-back (s .urgency) (f .value))
 
-call-back : (c : Call) (d n t : ℕ) (rest : List ℕ) → Fits (fieldsOf c) → callOf (codeOf c d n t rest) ≡ Go c
+call-back : (c : Call) (d n t : ℕ) (rest : List ℕ) → Fits (fieldsOf c) → (callOf (codeOf c d n t rest) ≡ Go c) × (opOf c ≤ 11)
 unfolding codeAt callOf
-call-back (Enter s) d n t rest f = ap (λ (x : Spell). Go (Enter x)) (spell-back s f)
-call-back (Amend s) d n t rest f = ap (λ (x : Spell). Go (Amend x)) (spell-back s f)
-call-back (Strike k) d n t rest f = ap (λ (x : ℕ). Go (Strike x)) (mod-eq-of-lt (f .number))
-call-back TakeBack d n t rest f = refl
-call-back (Publish rule) d n t rest f = ap (λ (x : ℕ). Go (Publish x)) (mod-eq-of-lt (f .number))
-call-back Write d n t rest f = refl
-call-back (Ask (Day e)) d n t rest f = ap (λ (x : ℕ). Go (Ask (Day x))) (mod-eq-of-lt (f .first))
+call-back (Enter s) d n t rest f = (ap (λ (x : Spell). Go (Enter x)) (spell-back s f), omega arith)
+call-back (Amend s) d n t rest f = (ap (λ (x : Spell). Go (Amend x)) (spell-back s f), omega arith)
+call-back (Strike k) d n t rest f = (ap (λ (x : ℕ). Go (Strike x)) (mod-eq-of-lt (f .number)), omega arith)
+call-back TakeBack d n t rest f = (refl, omega arith)
+call-back (Publish rule) d n t rest f = (ap (λ (x : ℕ). Go (Publish x)) (mod-eq-of-lt (f .number)), omega arith)
+call-back Write d n t rest f = (refl, omega arith)
+call-back (Ask (Day e)) d n t rest f = (ap (λ (x : ℕ). Go (Ask (Day x))) (mod-eq-of-lt (f .first)), omega arith)
 call-back (Ask (Span a b)) d n t rest f =
-    ap (λ (x : ℕ). Go (Ask (Span x (low16 b)))) (mod-eq-of-lt (f .first)) ∙ ap (λ (x : ℕ). Go (Ask (Span a x))) (mod-eq-of-lt (f .last))
-call-back (Ask (Cover k)) d n t rest f = ap (λ (x : ℕ). Go (Ask (Cover x))) (mod-eq-of-lt (f .number))
-call-back (Ask Days) d n t rest f = refl
-call-back (Ask (Mask b k)) d n t rest f = ap (λ (x : ℕ). Go (Ask (Mask x k))) (mod-eq-of-lt (f .first))
+    (ap (λ (x : ℕ). Go (Ask (Span x (low16 b)))) (mod-eq-of-lt (f .first)) ∙ ap (λ (x : ℕ). Go (Ask (Span a x))) (mod-eq-of-lt (f .last)), omega arith)
+call-back (Ask (Cover k)) d n t rest f = (ap (λ (x : ℕ). Go (Ask (Cover x))) (mod-eq-of-lt (f .number)), omega arith)
+call-back (Ask Days) d n t rest f = (refl, omega arith)
+call-back (Ask (Mask b k)) d n t rest f = (ap (λ (x : ℕ). Go (Ask (Mask x k))) (mod-eq-of-lt (f .first)), omega arith)
 
 -- and with room for its lists the call is made
 next-back : (q : Request) (rest : List ℕ) (d n t : ℕ) → Fits (fieldsOf (q .call))
@@ -87,7 +74,7 @@ next-back : (q : Request) (rest : List ℕ) (d n t : ℕ) → Fits (fieldsOf (q 
 unfolding codeAt nextOf
 next-back q rest d n t f hd hn ht =
     rw (le-leb (length (q .days)) d hd, le-leb (length (q .numbers)) n hn, le-leb (length (q .text)) t ht)
-    (call-back (q .call) (length (q .days)) (length (q .numbers)) (length (q .text)) rest f)
+    (call-back (q .call) (length (q .days)) (length (q .numbers)) (length (q .text)) rest f .0)
 
 -- ---- A code after others
 
@@ -160,19 +147,6 @@ unfolding written
 codes-long [] = refl
 codes-long (q ∷ qs) = omega (arith, codes-long qs)
 
-op-few : (c : Call) → opOf c ≤ 11
-op-few (Enter s) = omega arith
-op-few (Amend s) = omega arith
-op-few (Strike k) = omega arith
-op-few TakeBack = omega arith
-op-few (Publish rule) = omega arith
-op-few Write = omega arith
-op-few (Ask (Day d)) = omega arith
-op-few (Ask (Span a b)) = omega arith
-op-few (Ask (Cover k)) = omega arith
-op-few (Ask Days) = omega arith
-op-few (Ask (Mask b k)) = omega arith
-
 kind-few : (v : Value) → kindIn v ≤ 1
 kind-few (urgent (Grade g)) = omega arith
 kind-few (urgent (Reading x)) = omega arith
@@ -188,7 +162,7 @@ words-narrow [] f = tt
 words-narrow (q ∷ qs) f =
     let h = f .0 .call in
     let v = fieldsOf (q .call) .value in (
-      omega (arith, op-few (q .call)),
+      omega (arith, call-back (q .call) 0 0 0 [] h .1),
       (
         omega (arith, h .number),
         (
