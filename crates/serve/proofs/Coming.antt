@@ -30,9 +30,9 @@ module _ {s arrived line payload : List ℕ} {f : Frame} {at to : ℕ} (c : Comi
   }
 
   -- it is whole
-  pub is-whole : {n m place : ℕ} {line′ payload′ : List ℕ} → Advances f (take to arrived) at line payload (Whole n m place) line′ payload′
+  pub is-whole : {n m place held : ℕ} {line′ payload′ : List ℕ} → Advances f (take to arrived) at line payload (Whole n m place) line′ payload′
       → {arrived₀ : List ℕ} {start end : ℕ} → s ≡ between arrived₀ start end
-      → Takes arrived₀ start end (record { line = n; payload = m; whole = true; start = place; end = to }) arrived line′ payload′
+      → Takes arrived₀ start end (record { line = n; payload = m; whole = true; start = place; end = to; held = held }) arrived line′ payload′
   is-whole a e = record {
     line-in = a .within .0 .line;
     text-in = a .within .0 .payload;

@@ -2,6 +2,7 @@
 use Prim.Native.Nat.{ℕ, _≤_}
 use mathlib.Core.Path.{_≡_}
 use mathlib.Core.Bool.{true}
+use mathlib.Core.Logic.{_⊎_}
 use mathlib.Core.List.{List, _++_}
 use lib.ListN.{take, drop}
 use Rattle.service.specs.declared.Service.{Service}
@@ -12,8 +13,18 @@ use Rattle.wire.specs.declared.Wanted.{Wanted}
 use Rattle.wire.specs.Answering.{Served, Looks}
 use Rattle.framing.specs.Stream.{begun}
 use Rattle.framing.specs.Advancing.{done, next, sentOf}
+use Rattle.serve.specs.declared.Gathered.{Gathered}
 use Rattle.serve.specs.declared.Incoming.{Incoming}
 use Rattle.serve.specs.declared.Seen.{Seen}
+
+-- ---- Answers gathered
+
+-- an answer's bytes stand after those that are gathered, or alone, where these were written first
+abbrev pub Gathers : List ℕ → List ℕ → ℕ → Gathered → List ℕ → Type 0
+Gathers answer gathered held r gathered′ =
+    r .open ≡ true → (take (r .held) gathered′ ≡ take held gathered ++ answer) ⊎ (take (r .held) gathered′ ≡ answer)
+
+-- ---- Requests
 
 -- the bytes from a place up to another
 abbrev pub between : List ℕ → ℕ → ℕ → List ℕ
@@ -30,7 +41,7 @@ pub record Takes (arrived : List ℕ) (start end : ℕ) (r : Incoming) (arrived�
 
 -- what is said of a request that was taken
 abbrev pub requestIn : Seen → Incoming
-requestIn r = record { line = r .line; payload = r .payload; whole = r .whole; start = r .start; end = r .end }
+requestIn r = record { line = r .line; payload = r .payload; whole = r .whole; start = r .start; end = r .end; held = r .held }
 
 -- Seeing takes a request, and looks at its line where it is whole
 pub record Sees (bs : Blocks) (room : ℕ) (arrived : List ℕ) (start end : ℕ) (days numbers text out : List ℕ) (r : Seen) (arrived′ line′ payload′ days′ numbers′ out′ : List ℕ) : Type 0 where

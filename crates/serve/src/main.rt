@@ -1,11 +1,11 @@
 // The service that stays up: reads requests on standard input and writes one answer for each on standard output, until the input
 // ends. With a file's name it begins by reading that register. What fails is told on standard error.
 ghost use Prim.Native.Nat.{_≤_};
-ghost use lib.ListN.{length, take};
+ghost use lib.ListN.{length, take, drop};
 ghost use Rattle.framing.specs.Advancing.{Advances};
 ghost use Rattle.service.specs.Service.{blocks, Published, Given};
 ghost use Rattle.wire.specs.Answering.{Looks};
-ghost use Rattle.serve.specs.Serving.{Takes, Sees, Finishes};
+ghost use Rattle.serve.specs.Serving.{Gathers, Takes, Sees, Finishes};
 use framing::Frame;
 use framing::Framed;
 use framing::LINE;
@@ -32,12 +32,56 @@ const ARRIVED: usize = 65536;
 // One byte more than a register's text may have.
 const FILE: usize = 65537;
 
+// ---- Output: answers are gathered, and written together before a read that may wait
+
+// Writes the first n bytes of what is gathered; false where that can't be done, which is told.
+fn write_first(gathered: &[u8], n: usize) -> bool {
+    if gathered.len() < n {
+        return false;
+    }
+    output::write(STDOUT_FILENO, &gathered[..n], b"serve: standard output")
+}
+
+// So many bytes are gathered, and whether there is more to serve.
+struct Gathered {
+    held: usize,
+    open: bool,
+}
+
+// Puts the answer that ends `out` after those that are gathered, which are written first where there is no room for it.
+fn gather(gathered: &mut [u8], held: usize, out: &[u8], place: usize) -> Gathered
+    ensures { λ r. ⌜ Gathers (drop place (now (out .entry))) (now (gathered .entry)) held r (now (gathered .exit)) ⌝ }
+{
+    let n = gathering::append(gathered, held, out, place);
+    if held < n {
+        return Gathered {
+            held: n,
+            open: true,
+        };
+    }
+    if !write_first(gathered, held) {
+        return Gathered {
+            held: 0,
+            open: false,
+        };
+    }
+    let m = gathering::append(gathered, 0, out, place);
+    Gathered {
+        held: m,
+        open: 0 < m,
+    }
+}
+
 // ---- Input
 
-// Waits for input: how many bytes have arrived, none where it has ended or can't be read, which is told.
-fn wait(arrived: &mut [u8]) -> usize
+// Waits for input, once the first `held` bytes of what is gathered are written: how many bytes have arrived, none where it has ended, can't
+// be read or nothing can be written, which is told.
+fn wait(arrived: &mut [u8], gathered: &[u8], held: usize) -> usize
     ensures { λ r. ⌜ r ≤ length (now (arrived .entry)) ⌝ }
 {
+    if !write_first(gathered, held) {
+        return 0;
+    }
     let got = input::await_some(STDIN_FILENO, arrived);
     match got {
         Input::Read(n) => n,
@@ -66,16 +110,17 @@ fn advance(
 // ---- Requests
 
 // A request that is taken from the input: so many bytes of its line and of the text that follows it, or that the input ended before.
-// The bytes from `start` to `end` have arrived and are not taken yet.
+// The bytes from `start` to `end` have arrived and are not taken yet, and so many bytes of answers are still gathered.
 struct Incoming {
     line: usize,
     payload: usize,
     whole: bool,
     start: usize,
     end: usize,
+    held: usize,
 }
 
-// Takes the next request, as soon as all of it has arrived. A proved loop has to end, so its turns are counted down, from a number
+// Takes the next request, as soon as all of it has arrived. What is gathered is written before a read. A proved loop has to end, so its turns are counted down, from a number
 // that no request uses up.
 fn next(
     arrived: &mut [u8; ARRIVED],
@@ -83,6 +128,8 @@ fn next(
     end: usize,
     line: &mut [u8; LINE],
     payload: &mut [u8; TEXT],
+    gathered: &[u8],
+    held: usize,
 ) -> Incoming
     requires { ⌜ end ≤ 65536 ⌝ }
     ensures { λ r. ⌜ Takes (now (arrived .entry)) start end r (now (arrived .exit)) (now (line .exit)) (now (payload .exit)) ⌝ }
@@ -90,6 +137,7 @@ fn next(
     let mut frame = framing::opened();
     let mut at = start;
     let mut to = end;
+    let mut unsent = held;
     let mut turns = u64::MAX;
     while turns > 0 {
         let r = advance(frame, arrived, at, to, line, payload);
@@ -101,6 +149,7 @@ fn next(
                     whole: true,
                     start: place,
                     end: to,
+                    held: unsent,
                 };
             }
             Framed::Part(f) => {
@@ -108,7 +157,8 @@ fn next(
             }
         }
         at = 0;
-        to = wait(arrived);
+        to = wait(arrived, gathered, unsent);
+        unsent = 0;
         if to == 0 {
             turns = 0;
         } else {
@@ -121,6 +171,7 @@ fn next(
         whole: false,
         start: 0,
         end: 0,
+        held: 0,
     }
 }
 
@@ -161,6 +212,7 @@ struct Seen {
     whole: bool,
     start: usize,
     end: usize,
+    held: usize,
     looked: Looked,
 }
 
@@ -177,11 +229,13 @@ fn see(
     numbers: &mut [u16; ROOM],
     text: &[u8; ROOM],
     out: &mut [u8; OUT],
+    gathered: &[u8; OUT],
+    held: usize,
 ) -> Seen
     requires { ⌜ (Published (now index)) × (end ≤ 65536) ⌝ }
     ensures { λ r. ⌜ Sees (blocks (now (index .entry))) room (now (arrived .entry)) start end (now (days .entry)) (now (numbers .entry)) (now (text .entry)) (now (out .entry)) r (now (arrived .exit)) (now (line .exit)) (now (payload .exit)) (now (days .exit)) (now (numbers .exit)) (now (out .exit)) ⌝ }
 {
-    let q = next(arrived, start, end, line, payload);
+    let q = next(arrived, start, end, line, payload, gathered, held);
     if !q.whole {
         let looked = Looked::Done(Request::Malformed, room, OUT);
         return Seen {
@@ -190,6 +244,7 @@ fn see(
             whole: q.whole,
             start: q.start,
             end: q.end,
+            held: q.held,
             looked,
         };
     }
@@ -200,6 +255,7 @@ fn see(
         whole: q.whole,
         start: q.start,
         end: q.end,
+        held: q.held,
         looked,
     }
 }
@@ -247,6 +303,7 @@ fn converse(
     numbers: &mut [u16; ROOM],
     text: &mut [u8; ROOM],
     out: &mut [u8; OUT],
+    gathered: &mut [u8; OUT],
 )
     requires { ⌜ Given service (blocks (now index)) ⌝ }
 {
@@ -254,6 +311,7 @@ fn converse(
     let mut room = ROOM;
     let mut start = 0;
     let mut end = 0;
+    let mut held = 0;
     let mut turns = u64::MAX;
     while turns > 0 {
         let q = see(
@@ -268,6 +326,8 @@ fn converse(
             numbers,
             text,
             out,
+            gathered,
+            held,
         );
         if !q.whole {
             return;
@@ -297,9 +357,11 @@ fn converse(
                 place = a.place;
             }
         }
-        if !send(out, place) {
+        let g = gather(gathered, q.held, out, place);
+        if !g.open {
             return;
         }
+        held = g.held;
         start = q.start;
         end = q.end;
         turns -= 1;
@@ -317,6 +379,7 @@ fn serve(service: Service, index: &mut [u16; INDEX])
     let mut numbers = [0u16; ROOM];
     let mut text = [0u8; ROOM];
     let mut out = [0u8; OUT];
+    let mut gathered = [0u8; OUT];
     converse(
         service,
         index,
@@ -327,6 +390,7 @@ fn serve(service: Service, index: &mut [u16; INDEX])
         &mut numbers,
         &mut text,
         &mut out,
+        &mut gathered,
     );
 }
 

@@ -7,13 +7,13 @@ use Rattle.serve.proofs.next.Statement.{statement}
 use Rattle.serve.proofs.next.Tie as tie
 
 abbrev Inv-loop : tie.InvT-loop
-Inv-loop arrived₀ start end line₀ payload₀ frame₀ at₀ to₀ turns₀ arrived line payload frame at to turns = Coming (between arrived₀ start end) arrived line payload frame at to
+Inv-loop arrived₀ start end line₀ payload₀ gathered held frame₀ at₀ to₀ unsent₀ turns₀ arrived line payload frame at to unsent turns = Coming (between arrived₀ start end) arrived line payload frame at to
 
 abbrev μ-loop : tie.MeasureT-loop
-μ-loop arrived₀ start end line₀ payload₀ frame₀ at₀ to₀ turns₀ arrived line payload frame at to turns = turns
+μ-loop arrived₀ start end line₀ payload₀ gathered held frame₀ at₀ to₀ unsent₀ turns₀ arrived line payload frame at to unsent turns = turns
 
 loop-holds : tie.Need-loop-holds Inv-loop μ-loop
-loop-holds c = comes (c .opened .ensures) (c .before .pre)
+loop-holds c = comes (c .opened .ensures) (c .before .before .pre)
 
 advance-requires : tie.Need-advance-requires Inv-loop μ-loop
 advance-requires c κs = omega (arith, c .before .before .before .before .before .loop .inv .end-in, c .before .before .advance-arg2 .given)

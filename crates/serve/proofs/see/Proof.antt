@@ -9,7 +9,7 @@ returns c = record { takes = c .before .before .next .ensures; looks = λ e. abs
 look-requires : tie.Need-look-requires
 look-requires c κs =
     let framed = c .before .before .before .before .before .before .before in
-    (framed .before .before .before .before .pre .0, omega (arith, framed .next .ensures .line-in))
+    (framed .before .before .before .before .before .pre .0, omega (arith, framed .next .ensures .line-in))
 
 returns-2 : tie.Need-returns-2
 returns-2 c =

@@ -3,8 +3,8 @@ use Rattle.basis.proofs.Prelude.{arith, needs}
 use Rattle.serve.proofs.wait.Statement.{statement}
 use Rattle.serve.proofs.wait.Tie as tie
 
-returns : tie.Need-returns
-returns c =
+returns-2 : tie.Need-returns-2
+returns-2 c =
     let known = c .before in
     let n = rw (known .got .given .1) at (known .before .before .before .before .await-some .ensures) in
     omega (arith, n)
@@ -13,6 +13,7 @@ pub wait-spec : {M : Type 1} → statement M
 wait-spec =
     tie.close
     (tie.spec
-    (λ c κs. search needs) (λ c. search needs) (λ c. search needs) (λ c. search needs) (λ c κs. search needs) (λ c. search needs)
-    returns
+    (λ c κs. search needs) (λ c. search needs) (λ c κs. search needs) (λ c. search needs) (λ c. search needs) (λ c. search needs)
+    (λ c κs. search needs) (λ c. search needs)
+    returns-2
     (λ c. search needs) (λ c. search needs))
