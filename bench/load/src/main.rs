@@ -2,8 +2,10 @@
 //! the server's processor time a request in microseconds, and the mean length of an answer.
 //!
 //!     load SOCKET PROCESS WORKLOAD CONNECTIONS AT-ONCE SECONDS [LENGTH]
+//!     load PROGRAM --serve WORKLOAD REGISTER AT-ONCE SECONDS
 //!
-//! The workloads: `day` and `edit` to phayaklitd; `get` and `set` to Redis, with a value of LENGTH bytes.
+//! The workloads: `day` and `edit` to phayaklitd; `get` and `set` to Redis, with a value of LENGTH bytes. With `--serve` the program `serve` is
+//! started on a register, between the ends of a socket of its own, and publishes it.
 
 #[allow(dead_code)]
 #[path = "../../../rust/daemon/src/system.rs"]
@@ -11,8 +13,10 @@ mod system;
 mod talk;
 
 use std::error::Error;
-use std::os::fd::AsRawFd;
+use std::io::{Read, Write};
+use std::os::fd::{AsRawFd, OwnedFd};
 use std::os::unix::net::UnixStream;
+use std::process::{Child, Command, Stdio};
 use std::time::{Duration, Instant};
 use talk::{Talk, Workload};
 
@@ -30,23 +34,52 @@ fn main() -> Result<()> {
     let workload = Workload::named(workload, length)?;
     let mut talks = Vec::new();
     let mut poll = system::Poll::new()?;
-    for number in 0..connections.parse()? {
-        let stream = UnixStream::connect(socket)?;
+    let mut process = process.clone();
+    let mut streams = Vec::new();
+    if process == "--serve" {
+        let (child, stream) = begin(socket, connections)?;
+        process = child.id().to_string();
+        streams.push(stream);
+    } else {
+        for _ in 0..connections.parse::<usize>()? {
+            streams.push(UnixStream::connect(socket)?);
+        }
+    }
+    for (number, stream) in streams.into_iter().enumerate() {
         stream.set_nonblocking(true)?;
         poll.add(stream.as_raw_fd(), number as u64)?;
         talks.push(Talk::new(stream, &workload, number, at_once.parse()?));
     }
     let length = Duration::from_secs_f64(seconds.parse()?);
     run(&mut poll, &mut talks, length / 5)?;
-    let (before, counted) = (time_of(process)?, count(&talks));
+    let (before, counted) = (time_of(&process)?, count(&talks));
     let begun = Instant::now();
     run(&mut poll, &mut talks, length)?;
     let taken = begun.elapsed().as_secs_f64();
-    let (used, requests) = (time_of(process)? - before, count(&talks) - counted);
+    let (used, requests) = (time_of(&process)? - before, count(&talks) - counted);
     let bytes: usize = talks.iter().map(|talk| talk.bytes).sum();
     let mean = bytes as f64 / count(&talks) as f64;
     println!("{:.0}\t{:.2}\t{mean:.0}", requests as f64 / taken, used * 1e6 / requests as f64);
     Ok(())
+}
+
+/// `serve` on a register that it has published, and the other end of its socket.
+fn begin(program: &str, register: &str) -> Result<(Child, UnixStream)> {
+    let (mut ours, theirs) = UnixStream::pair()?;
+    let output = OwnedFd::from(theirs.try_clone()?);
+    let child = Command::new(program)
+        .arg(register)
+        .stdin(OwnedFd::from(theirs))
+        .stdout(output)
+        .stderr(Stdio::null())
+        .spawn()?;
+    ours.write_all(b"publish\t1\n")?;
+    let mut answers = [0; 6];
+    ours.read_exact(&mut answers)?;
+    if &answers != b"ok\nok\n" {
+        return Err("serve does not begin".into());
+    }
+    Ok((child, ours))
 }
 
 fn count(talks: &[Talk]) -> usize {
