@@ -1,19 +1,20 @@
 -- The answer of a repair, at each way out. Assumes nothing.
-use Rattle.basis.proofs.Prelude.{_∙_, _≡_, ap, refl, sym, _*_, _+_, _-_, _<_, _≤_, ℕ, List, Bool, _&&_, cond, false, true, leb, drop, length, take, length-take-le, take-at, arith, eq-eqb, le-leb, leb-true, lt-leb, ne-eqb, by-test}
+use Rattle.basis.proofs.Prelude.{_∙_, _≡_, ap, refl, sym, _*_, _+_, _-_, _<_, _≤_, ℕ, List, [], Bool, _&&_, false, true, leb, drop, length, replicate, take, take-at, arith, eq-eqb, le-leb, leb-true, lt-leb, ne-eqb, by-test}
 use Rattle.buffer.specs.Buffer.{over}
 use Rattle.orders.specs.Orders.{sortedBy}
 use Rattle.orders.proofs.Sorting.{sorted-length}
 use Rattle.spell.specs.declared.Spell.{Spell}
+use Rattle.spell.specs.Blank.{blank}
 use Rattle.spell.specs.Order.{earlierOf}
 use Rattle.register.specs.declared.Written.{Written}
 use Rattle.register.specs.Text.{writeAll}
 use Rattle.register.specs.Answers.{Writes}
 use Rattle.repairing.specs.declared.Repaired.{Repaired}
-use Rattle.repairing.specs.Repair.{linesOf, keptOf, putOf, repairedText, remarksFrom, placesOf, remarksOf, displacedIn}
-use Rattle.repairing.specs.Answers.{fitting, repairRefusal, repairRefused, repairGiven, Repairs}
-use Rattle.repairing.proofs.Remarks.{each-line, verdicts-length, places-length, put-sized}
-use Rattle.register_repair.specs.declared.Sifted.{Sifted}
-use Rattle.register_repair.specs.Contracts.{Sifts}
+use Rattle.repairing.specs.Repair.{linesOf, verdictsAfter, keptOf, putOf, repairedText, remarksFrom, placesOf, remarksOf, displacedIn}
+use Rattle.repairing.specs.Answers.{fitting, repairRefusal, repairRefused, Repairs}
+use Rattle.repairing.proofs.Remarks.{each-line, lines-few, verdicts-length, places-length, put-sized}
+use Rattle.register_sift.specs.declared.Sifted.{Sifted}
+use Rattle.register_sift.specs.Sifting.{Sifts}
 
 -- ---- What a refusal leaves, and what is given
 
@@ -71,12 +72,21 @@ out-sized t {out} wrote = by-test (leb (length t) (length out))
 
 -- ---- What sifting leaves to count
 
-module _ {text before met : List ℕ} {r : Sifted} (s : Sifts text before r met) (long : length (r .spells) ≡ 1024) (wide : length text ≤ length before) where
+module _ {text before met : List ℕ} {r : Sifted} (short : length text ≤ 65536) (s : Sifts text before r met) (wide : length before ≡ 65536) where
   kept-count : length (keptOf text) ≡ r .count
-  kept-count = ap length (sym (s .kept)) ∙ length-take-le (r .count) (r .spells) (omega (arith, s .few))
+  kept-count = sym (ap (λ (r : Sifted). r .count) (s .answer))
 
   line-count : length (linesOf text) ≡ r .lines
-  line-count = sym (verdicts-length _ (linesOf text)) ∙ ap length (sym (s .said)) ∙ length-take-le (r .lines) met (omega (arith, s .many, s .sized))
+  line-count = sym (ap (λ (r : Sifted). r .lines) (s .answer))
+
+  said-count : length (verdictsAfter [] (linesOf text)) ≡ r .lines
+  said-count = verdicts-length [] (linesOf text) ∙ line-count
+
+  pub many : r .lines ≤ 65536
+  many = omega (arith, lines-few text, line-count)
+
+  pub met-sized : length met ≡ 65536
+  met-sized = put-sized (verdictsAfter [] (linesOf text)) before (omega (arith, said-count, many)) (s .said) ∙ wide
 
   -- each line is kept or dropped
   pub drop-count : r .count + length (remarksOf text) ≡ r .lines
@@ -87,9 +97,14 @@ module _ {text before met : List ℕ} {r : Sifted} (s : Sifts text before r met)
   place-count = places-length (remarksOf text) ∙ omega (arith, drop-count)
 
   pub all-remarks : placesOf (remarksFrom 1 (take (r .lines) met)) ≡ placesOf (remarksOf text)
-  all-remarks = ap (λ (l : List ℕ). placesOf (remarksFrom 1 l)) (s .said)
+  all-remarks =
+      let said = verdictsAfter [] (linesOf text) in
+      ap (λ (l : List ℕ). placesOf (remarksFrom 1 l)) (ap (take (r .lines)) (s .said) ∙ take-at said (drop (length said) before) (r .lines) said-count)
+
+  pub kept : take (r .count) (r .spells) ≡ keptOf text
+  kept = ap (take (r .count)) (ap (λ (r : Sifted). r .spells) (s .answer)) ∙ take-at (keptOf text) (drop (length (keptOf text)) (replicate 1024 blank)) (r .count) kept-count
 
   pub ordered-text : {a : List Spell} → a ≡ over (sortedBy earlierOf (take (r .count) (r .spells))) (r .spells) → writeAll (take (r .count) a) ≡ repairedText text
   ordered-text e =
       let first : take (r .count) (over (putOf text) (r .spells)) ≡ putOf text = take-at (putOf text) (drop (length (putOf text)) (r .spells)) (r .count) (sorted-length earlierOf (keptOf text) ∙ kept-count) in
-      ap writeAll (ap (take (r .count)) (e ∙ rw (s .kept)) ∙ first)
+      ap writeAll (ap (take (r .count)) (e ∙ rw kept) ∙ first)

@@ -1,9 +1,9 @@
--- `register_repair::after_line` meets its contract: what follows the line is what follows it from the place i on. Assumes nothing.
-use Rattle.basis.proofs.Prelude.{_∙_, _≡_, ap, refl, sym, _-_, _<_, _≤_, drop, drop-of-length-le, length, arith, needs}
+-- `register_sift::after_line` meets its contract: what follows the line is what follows it from the place i on. Assumes nothing.
+use Rattle.basis.proofs.Prelude.{_∙_, _≡_, ap, refl, sym, _-_, _≤_, drop, drop-of-length-le, length, arith, needs}
 use Rattle.repairing.specs.Repair.{afterLine}
-use Rattle.register_repair.proofs.Passing.{ends-here, goes-on}
-use Rattle.register_repair.proofs.after_line.Statement.{statement}
-use Rattle.register_repair.proofs.after_line.Tie as tie
+use Rattle.register_sift.proofs.Passing.{ends-here, goes-on}
+use Rattle.register_sift.proofs.after_line.Statement.{statement}
+use Rattle.register_sift.proofs.after_line.Tie as tie
 
 abbrev Inv-loop : tie.InvT-loop
 Inv-loop text at i₀ i = (at ≤ i) × (i ≤ length text) × (afterLine (drop at text) ≡ afterLine (drop i text))

@@ -1,16 +1,15 @@
--- What the parts of the repair ask and give. Assumes nothing.
+-- What the parts of the sifting ask and give. Assumes nothing.
 use Prim.Native.Nat.{ℕ, _<_, _≤_}
 use mathlib.Core.Path.{_≡_}
 use mathlib.Core.Bool.{Bool, false}
-use mathlib.Core.List.{List, []}
-use lib.ListN.{length, getD, take, drop}
+use mathlib.Core.List.{List}
+use lib.ListN.{length, getD, drop}
 use Rattle.spell.specs.declared.Spell.{Spell}
 use Rattle.spell.specs.Listing.{stands}
 use Rattle.fields.specs.Fields.{found}
 use Rattle.register.specs.Text.{readLine}
-use Rattle.repairing.specs.Repair.{linesOf, afterLine, verdict, verdictsAfter, keptOf}
-use Rattle.register_repair.specs.declared.Judged.{Judged}
-use Rattle.register_repair.specs.declared.Sifted.{Sifted}
+use Rattle.repairing.specs.Repair.{afterLine, verdict}
+use Rattle.register_sift.specs.declared.Judged.{Judged}
 
 -- the line at `at` ends before the place r
 pub record Past (text : List ℕ) (at r : ℕ) : Type 0 where
@@ -34,11 +33,3 @@ pub record Judges (text : List ℕ) (at : ℕ) (seen : List Bool) (count : ℕ) 
   pub met : (kept : List Spell) → Marks seen kept → length kept ≡ count → r .number ≡ verdict kept (readLine (drop at text))
   pub spell : r .number ≡ 0 → Reads text at (r .spell)
   pub room : r .number ≡ 0 → count < 1024
-
--- the kept spells as they stood, and what each line met
-pub record Sifts (text before : List ℕ) (r : Sifted) (met : List ℕ) : Type 0 where
-  pub sized : length met ≡ length before
-  pub few : r .count ≤ 1024
-  pub kept : take (r .count) (r .spells) ≡ keptOf text
-  pub many : r .lines ≤ length text
-  pub said : take (r .lines) met ≡ verdictsAfter [] (linesOf text)

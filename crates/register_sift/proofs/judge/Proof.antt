@@ -1,12 +1,12 @@
--- `register_repair::judge` meets its contract. Assumes nothing.
+-- `register_sift::judge` meets its contract. Assumes nothing.
 use Rattle.basis.proofs.Prelude.{_∙_, _≡_, sym, _<_, arith, drop, needs}
 use Rattle.fields.specs.Fields.{found}
 use Rattle.fields.proofs.Places.{said}
 use Rattle.spell.specs.Entry.{refusalOf}
 use Rattle.register.specs.Text.{readLine}
-use Rattle.register_repair.proofs.Judging.{unread, not-entered, taken, no-room, passes}
-use Rattle.register_repair.proofs.judge.Statement.{statement}
-use Rattle.register_repair.proofs.judge.Tie as tie
+use Rattle.register_sift.proofs.Judging.{unread, not-entered, taken, no-room, passes}
+use Rattle.register_sift.proofs.judge.Statement.{statement}
+use Rattle.register_sift.proofs.judge.Tie as tie
 
 -- the line that was read
 line : (c : tie.After-known-told) →

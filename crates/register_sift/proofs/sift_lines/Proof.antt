@@ -1,8 +1,8 @@
--- `register_repair::sift` meets its contract. The invariant is `State`: the lines so far are kept or dropped. Assumes nothing.
-use Rattle.basis.proofs.Prelude.{_∙_, _≡_, _-_, _<_, length, arith, needs, unmapped}
-use Rattle.register_repair.proofs.Sifting.{State, begins, drops, keeps-one, ends}
-use Rattle.register_repair.proofs.sift.Statement.{statement}
-use Rattle.register_repair.proofs.sift.Tie as tie
+-- `register_sift::sift_lines` meets its contract. The invariant is `State`: the lines so far are kept or dropped. Assumes nothing.
+use Rattle.basis.proofs.Prelude.{_-_, _<_, length, arith, needs}
+use Rattle.register_sift.proofs.Sifting.{State, begins, drops, keeps-one, ends}
+use Rattle.register_sift.proofs.sift_lines.Statement.{statement}
+use Rattle.register_sift.proofs.sift_lines.Tie as tie
 
 abbrev Inv-loop : tie.InvT-loop
 Inv-loop text met₀ spells₀ seen₀ count₀ lines₀ at₀ met spells seen count lines at = State text met₀ met spells seen count lines at
@@ -21,19 +21,19 @@ module _ (c : tie.After-judge Inv-loop μ-loop) where
 -- a line that is kept
 module _ (c : tie.After-struct-known2 Inv-loop μ-loop) where
   room : c .before .before .before .before .before .before .before .before .loop .count < 1024
-  room = c .before .before .before .before .before .judge .ensures .room (c .before .before .if1 .left)
+  room = c .before .before .before .before .before .judge .ensures .room (omega (arith, c .before .before .if1 .left))
 
   numbered : c .before .before .before .before .before .judge .result .spell .number < 65536
   numbered = search needs
 
-pub sift-spec : {M : Type 1} → statement M
-sift-spec =
+pub sift-lines-spec : {M : Type 1} → statement M
+sift-lines-spec =
     tie.close
     (tie.spec
     Inv-loop
     μ-loop
     (λ c κs. search needs)
-    (λ c. begins _ _ _ (c .before .before .before .pre .1))
+    (λ c. begins _ _ (c .blank .ensures) (c .before .before .before .pre .1))
     (λ c κs. search needs)
     (λ c. omega (arith, low c)) (λ c. place c)  -- met[lines]
     (λ c. omega (arith, low c))
@@ -41,7 +41,7 @@ sift-spec =
     (λ c. omega (arith, c .before .before .after-line .ensures .further (c .before .before .before .before .before .loop-test .taken)))
     (λ c.
     let l = c .before .before .before .before .before in
-    drops (l .before .loop .inv) (l .loop-test .taken) (c .before .before .before .judge .ensures) (c .before .before .after-line .ensures) (c .if1 .taken))
+    drops (l .before .loop .inv) (l .loop-test .taken) (c .before .before .before .judge .ensures) (c .before .before .after-line .ensures) (λ z. omega (arith, c .if1 .taken)))
     (λ c. omega (arith, numbered c))
     (λ c. omega (arith, room c)) (λ c. room c)  -- spells[count]
     (λ c. numbered c)  -- seen[n]
@@ -50,6 +50,6 @@ sift-spec =
     (λ c.
     let l = c .before .before .before .before .before .before .before in
     keeps-one (l .before .loop .inv) (l .loop-test .taken) (c .before .before .before .before .before .judge .ensures) (c .before .before .before .before .after-line .ensures)
-    (c .before .before .if1 .left) (numbered c))
+    (omega (arith, c .before .before .if1 .left)) (numbered c))
     (λ c. c .before .loop .inv .sized)
     (λ c. ends (c .before .loop .inv) (omega (arith, c .loop-test .left))))

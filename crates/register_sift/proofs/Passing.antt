@@ -1,5 +1,5 @@
 -- The end of a line, byte by byte. Assumes nothing.
-use Rattle.basis.proofs.Prelude.{_∙_, _≡_, ap, _+_, _<_, _≤_, ℕ, List, drop, getD, length}
+use Rattle.basis.proofs.Prelude.{_∙_, _≡_, ap, _+_, _<_, ℕ, List, drop, getD, length}
 use Rattle.fields.proofs.Places.{here}
 use Rattle.repairing.specs.Repair.{afterLine}
 use Rattle.repairing.proofs.Lines.{byte-ends, byte-passed}

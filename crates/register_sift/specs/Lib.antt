@@ -1,1 +1,2 @@
+pub mod Sifting
 pub mod Contracts

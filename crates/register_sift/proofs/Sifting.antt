@@ -1,17 +1,19 @@
 -- The state after some lines, one line more, and the end. Assumes nothing.
-use Rattle.basis.proofs.Prelude.{_∙_, _≡_, ap, refl, sym, _+_, _-_, _<_, _≤_, suc, ℕ, List, [], _++_, _∷_, append-nil, append-snoc, Bool, _||_, false, true, drop, drop-of-length-le, getD, getD-replicate, length, length-append, length-drop, length-replicate, length-set, replicate, set, take, length-take-le, take-suc-set, add-one, arith, ne-eqb}
+use Rattle.basis.proofs.Prelude.{_∙_, _≡_, ap, refl, sym, _+_, _<_, _≤_, ℕ, List, [], _++_, _∷_, append-nil, append-snoc, Bool, false, true, drop, drop-of-length-le, getD-replicate, length, drop-drop, drop-set-lt, length-drop, length-replicate, length-set, replicate, set, take, take-append-drop, length-take-le, take-suc-set, add-one, arith, le-leb, lt-leb}
 use Rattle.spell.specs.declared.Spell.{Spell}
+use Rattle.spell.specs.Blank.{blank}
 use Rattle.spell.specs.Listing.{stands}
 use Rattle.spell.proofs.Listing.{stands-more}
-use Rattle.fields.specs.Fields.{Found, found, unreadable}
+use Rattle.fields.specs.Fields.{Found}
 use Rattle.register.specs.Text.{readLine}
 use Rattle.register_read.proofs.Progress.{marked-more}
-use Rattle.repairing.specs.Repair.{linesOf, afterLine, verdict, keeping, keptAfter, verdictsAfter, remarksFrom, placesOf, keptOf, remarksOf}
+use Rattle.repairing.specs.Repair.{linesOf, verdict, keeping, keptAfter, verdictsAfter, keptOf}
 use Rattle.repairing.proofs.Lines.{lines-none}
+use Rattle.repairing.proofs.Remarks.{verdicts-length}
 use Rattle.repairing.proofs.Keeping.{passes, keeps-it, drops-it, kept-first, verdicts-first}
-use Rattle.register_repair.specs.declared.Judged.{Judged}
-use Rattle.register_repair.specs.declared.Sifted.{Sifted}
-use Rattle.register_repair.specs.Contracts.{Past, Marks, Reads, Judges, Sifts}
+use Rattle.register_sift.specs.declared.Judged.{Judged}
+use Rattle.register_sift.specs.Sifting.{withinLimit, Sifts}
+use Rattle.register_sift.specs.Contracts.{Past, Marks, Reads, Judges}
 
 pub record State (text : List ℕ) (met₀ met : List ℕ) (spells : List Spell) (seen : List Bool) (count lines at : ℕ) : Type 0 where
   pub few : count ≤ 1024
@@ -21,12 +23,14 @@ pub record State (text : List ℕ) (met₀ met : List ℕ) (spells : List Spell)
   pub behind : lines ≤ at
   pub wide : length text ≤ length met
   pub sized : length met ≡ length met₀
+  pub later : drop lines met ≡ drop lines met₀
+  pub free : drop count spells ≡ drop count (replicate 1024 blank)
   pub keeps : keptOf text ≡ keptAfter (take count spells) (linesOf (drop at text))
   pub says : verdictsAfter [] (linesOf text) ≡ take lines met ++ verdictsAfter (take count spells) (linesOf (drop at text))
 
-pub begins : (text met : List ℕ) (none : Spell) → length text ≤ length met → State text met met (replicate 1024 none) (replicate 65536 false) 0 0 0
+pub begins : (text met : List ℕ) {none : Spell} → none ≡ blank → length text ≤ length met → State text met met (replicate 1024 none) (replicate 65536 false) 0 0 0
 unfolding stands
-begins text met none h = record {
+begins text met {none} e h = record {
   few = omega arith;
   room = length-replicate 1024 none;
   marks = record { wide = length-replicate 65536 false; marked = λ k l. getD-replicate 65536 k false false l };
@@ -34,9 +38,15 @@ begins text met none h = record {
   behind = omega arith;
   wide = h;
   sized = refl;
+  later = refl;
+  free = ap (λ (s : Spell). replicate 1024 s) e;
   keeps = refl;
   says = refl;
 }
+
+-- past a place that is written, as it was
+past-it : {A : Type 0} (l l₀ : List A) (i : ℕ) (a : A) → drop i l ≡ drop i l₀ → drop (i + 1) (set l i a) ≡ drop (i + 1) l₀
+past-it l l₀ i a h = drop-set-lt (i + 1) l i a (omega arith) ∙ sym (drop-drop 1 i l) ∙ ap (drop 1) h ∙ drop-drop 1 i l₀
 
 module _ {text met₀ met : List ℕ} {spells : List Spell} {seen : List Bool} {count lines at : ℕ} (st : State text met₀ met spells seen count lines at)
     (more : at < length text) {r : Judged} (judged : Judges text at seen count r) {next : ℕ} (past : Past text at next) where
@@ -71,8 +81,9 @@ module _ {text met₀ met : List ℕ} {spells : List Spell} {seen : List Bool} {
         st .says ∙ ap (λ (l : List ℕ). take lines met ++ l) (verdicts-first kept (drop at text) line left refl)
         ∙ rw (met-more, is, ← past .rest, then) (sym (append-snoc (take lines met) (verdict kept line) (verdictsAfter (take count′ spells′) (linesOf (drop next text)))))
 
-    on : {seen′ : List Bool} → count′ ≤ 1024 → length spells′ ≡ 1024 → Marks seen′ (take count′ spells′) → State text met₀ (set met lines (r .number)) spells′ seen′ count′ (lines + 1) next
-    on f l m = record {
+    on : {seen′ : List Bool} → count′ ≤ 1024 → length spells′ ≡ 1024 → Marks seen′ (take count′ spells′) → drop count′ spells′ ≡ drop count′ (replicate 1024 blank)
+        → State text met₀ (set met lines (r .number)) spells′ seen′ count′ (lines + 1) next
+    on f l m b = record {
       few = f;
       room = l;
       marks = m;
@@ -80,12 +91,14 @@ module _ {text met₀ met : List ℕ} {spells : List Spell} {seen : List Bool} {
       behind = omega (arith, past .further more, st .behind);
       wide = omega (arith, st .wide, length-set met lines (r .number));
       sized = length-set met lines (r .number) ∙ st .sized;
+      later = past-it met met₀ lines (r .number) (st .later);
+      free = b;
       keeps = keeps-on;
       says = says-on;
     }
 
   pub drops : (r .number ≡ 0 → ⊥) → State text met₀ (set met lines (r .number)) spells seen count (lines + 1) next
-  drops z = on spells count (drops-it kept line (λ e. z (is ∙ e))) (st .few) (st .room) (st .marks)
+  drops z = on spells count (drops-it kept line (λ e. z (is ∙ e))) (st .few) (st .room) (st .marks) (st .free)
 
   module _ (zero : r .number ≡ 0) (low : r .spell .number < 65536) where
     read : Reads text at (r .spell)
@@ -108,16 +121,30 @@ module _ {text met₀ met : List ℕ} {spells : List Spell} {seen : List Bool} {
 
     pub keeps-one : State text met₀ (set met lines (r .number)) (set spells count (r .spell)) (set seen (r .spell .number) true) (count + 1) (lines + 1) next
     keeps-one = on (set spells count (r .spell)) (count + 1) then-kept (omega (arith, judged .room zero)) (length-set spells count (r .spell) ∙ st .room) marks-on
+        (past-it spells (replicate 1024 blank) count (r .spell) (st .free))
 
 pub ends : {text met₀ met : List ℕ} {spells : List Spell} {seen : List Bool} {count lines at : ℕ} → State text met₀ met spells seen count lines at → length text ≤ at
     → Sifts text met₀ (record { spells = spells; count = count; lines = lines }) met
 unfolding keptAfter verdictsAfter
 ends {text} {met₀} {met} {spells} {seen} {count} {lines} {at} st h =
     let over : linesOf (drop at text) ≡ [] = ap linesOf (drop-of-length-le text h) ∙ lines-none in
+    let kept : keptOf text ≡ take count spells = st .keeps ∙ ap (keptAfter (take count spells)) over in
+    let said : verdictsAfter [] (linesOf text) ≡ take lines met = st .says ∙ ap (λ (l : List (List ℕ)). take lines met ++ verdictsAfter (take count spells) l) over ∙ append-nil (take lines met) in
+    let so-many : length (keptOf text) ≡ count = ap length kept ∙ length-take-le count spells (omega (arith, st .few, st .room)) in
+    let long : length (verdictsAfter [] (linesOf text)) ≡ lines = ap length said ∙ length-take-le lines met (omega (arith, st .behind, st .inside, st .wide)) in
+    let all : spells ≡ keptOf text ++ drop (length (keptOf text)) (replicate 1024 blank) = rw (so-many, kept, ← st .free) (sym (take-append-drop count spells)) in
     record {
-      sized = st .sized;
-      few = st .few;
-      kept = sym (st .keeps ∙ ap (keptAfter (take count spells)) over);
-      many = omega (arith, st .behind, st .inside);
-      said = sym (st .says ∙ ap (λ (l : List (List ℕ)). take lines met ++ verdictsAfter (take count spells) l) over ∙ append-nil (take lines met));
+      answer = rw (← all, so-many, sym (verdicts-length [] (linesOf text)) ∙ long);
+      said = rw (long, said, ← st .later) (sym (take-append-drop lines met));
     }
+
+-- ---- The whole text, and one that is too long
+
+module _ (text : List ℕ) where
+  pub within : length text ≤ 65536 → withinLimit text ≡ text
+  unfolding withinLimit
+  within h = rw (le-leb (length text) 65536 h)
+
+  pub beyond : 65536 < length text → withinLimit text ≡ []
+  unfolding withinLimit
+  beyond h = rw (lt-leb (length text) 65536 h)

@@ -1,13 +1,12 @@
 -- What a line meets, at each way out of the judge. Assumes nothing.
-use Rattle.basis.proofs.Prelude.{_∙_, _≡_, ap, refl, sym, _<_, _≤_, ℕ, List, Bool, false, true, drop, getD, length, arith, eq-eqb, le-ltb, ne-eqb}
+use Rattle.basis.proofs.Prelude.{_∙_, _≡_, ap, refl, sym, _<_, _≤_, ℕ, List, Bool, false, true, drop, getD, length, arith, le-ltb, ne-eqb}
 use Rattle.spell.specs.declared.Spell.{Spell}
 use Rattle.spell.specs.Entry.{refusalOf}
 use Rattle.fields.specs.Fields.{Found, found, unreadable}
 use Rattle.register.specs.Text.{readLine}
 use Rattle.repairing.specs.Repair.{verdict}
 use Rattle.repairing.proofs.Keeping.{verdict-none}
-use Rattle.register_repair.specs.declared.Judged.{Judged}
-use Rattle.register_repair.specs.Contracts.{Marks, Reads, Judges}
+use Rattle.register_sift.specs.Contracts.{Marks, Judges}
 
 module _ {text : List ℕ} {at : ℕ} {seen : List Bool} {count : ℕ} where
   dropped : {s : Spell} {f : Found Spell} (k : ℕ) → (k ≡ 0 → ⊥) → readLine (drop at text) ≡ f
