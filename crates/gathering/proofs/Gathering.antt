@@ -28,6 +28,10 @@ full-appended list n text h = rw (lt-leb (n + length text) (length list) h) (rec
 pub room-appended : {text list : List ℕ} {n r : ℕ} {list′ : List ℕ} → Appends text list n r list′ → n + length text ≤ length list → Appended text list n r list′
 room-appended {text} {list} {n} a h = rw (le-leb (n + length text) (length list) h) a
 
+-- and there the text is put
+pub appended-room : (text list : List ℕ) (n r : ℕ) (list′ : List ℕ) → Appended text list n r list′ → n + length text ≤ length list → Appends text list n r list′
+appended-room text list n r list′ a h = rw (le-leb (n + length text) (length list) h) at a
+
 -- WHAT IS GATHERED, then, is what was and the text
 pub gathered : {text list : List ℕ} {n r : ℕ} {list′ : List ℕ} → n ≤ length list → Appends text list n r list′ → take r list′ ≡ take n list ++ text
 gathered {text} {list} {n} {r} h a =

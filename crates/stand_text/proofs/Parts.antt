@@ -1,6 +1,5 @@
 -- The lines of days put one after the other into a part, and the parts one after another into the whole text. Assumes nothing.
-use Rattle.basis.proofs.Prelude.{_∙_, _≡_, ap, refl, sym, _+_, _-_, _<_, _≤_, suc, zero, ℕ, List, [], _++_, append-assoc, append-nil, Bool, cond, false, true, _⊎_, ⊎-elim, leb, drop, drop-of-length-le, length, length-append, take, drop-append-add, drop-drop, take-at, take-length, add-one, arith, le-leb, lt-leb, clash}
-use borrow.Rule.Slice.PartMut.{midOf, putMid, post-is, mid-len}
+use Rattle.basis.proofs.Prelude.{_∙_, _≡_, ap, refl, sym, _+_, _-_, _<_, _≤_, suc, zero, ℕ, List, [], _++_, append-assoc, append-nil, Bool, cond, false, true, _⊎_, ⊎-elim, leb, drop, length, length-append, take, drop-append-add, drop-drop, take-at, add-one, arith, le-leb, lt-leb, clash}
 use Rattle.spell.specs.declared.Spell.{Spell}
 use Rattle.register.specs.Text.{readText}
 use Rattle.model.specs.declared.Call.the-variants.{Publish}
@@ -9,9 +8,10 @@ use Rattle.model.specs.Publishing.{publishedOf}
 use Rattle.model.specs.Model.{begun, refusalIn, effectOf, step}
 use Rattle.service.specs.Service.{Shows, Published, asking}
 use Rattle.replies.proofs.Sending.{sends-bytes, sends-put}
+use Rattle.gathering.specs.Gathering.{Appends, Appended}
+use Rattle.gathering.proofs.Gathering.{appended-room}
 use Rattle.stand_text.specs.declared.Part.{Part}
 use Rattle.stand_text.specs.Report.{dayLine, linesOf, textOf, taken, partDays, partOf, nextOf, Come, none, more, Reached, Printed, PrintedOn, PrintedOf, DayEnds, Stands, PartStands}
-use Rattle.stand_text.specs.Contracts.{Appends}
 
 -- ---- Lines
 
@@ -66,15 +66,6 @@ days-some d p h =
     omega (arith, ap (λ (k : ℕ). taken k d 0 p) left, taken-on (4000 - d) d 0 p (omega arith))
 
 -- ---- A part
-
--- a text that is copied to the places from `at` to `end` is appended there
-pub copied : {out text src part : List ℕ} {at end : ℕ} → end ≡ at + length text → end ≤ length out → src ≡ text
-    → part ≡ take (length src) src ++ drop (length src) (midOf at (end - at) out) → Appends text out at end (putMid at (end - at) out part)
-copied {out} {text} {src} {part} {at} {end} place fits same copy =
-    let long : length src ≡ length text = ap length same in
-    let whole : part ≡ text
-    = copy ∙ rw (take-length src, drop-of-length-le (midOf at (end - at) out) {i = length src} (omega (arith, mid-len at end out fits))) (append-nil src ∙ same) in
-    record { place = place; places = rw (whole, post-is at end out (omega arith)) }
 
 -- the lines of so many days stand in the first n places, and the other days that the part takes are those taken from day d on
 pub record Filling (p : List Spell) (from : ℕ) (entry : List ℕ) (n d : ℕ) (out : List ℕ) : Type 0 where
@@ -145,13 +136,13 @@ module _ {ix : List ℕ} {d : ℕ} {buf₀ buf : List ℕ} {r : ℕ} (size : len
   line-sized g = sends-put (e .line (g .list) (g .shows)) .sized ∙ size
 
 module _ {ix : List ℕ} {from : ℕ} {entry : List ℕ} {n d : ℕ} {out : List ℕ} (g : Published ix) (f : Filled ix from entry n d out) where
-  -- and is appended
-  pub filled-one : {buf₀ buf : List ℕ} {r n′ : ℕ} {out′ : List ℕ} → length buf₀ ≡ 8192 → d ≤ 4000 → n ≤ 57344
-      → DayEnds ix d buf₀ r buf → Appends (drop r buf) out n n′ out′ → Filled ix from entry n′ (d + 1) out′
-  filled-one {buf₀} {buf} {r} {n′} {out′} size last room e a = record {
-    inside = omega (arith, a .place, ap length (stands size e (g .list) (g .shows)), e .line (g .list) (g .shows) .fits);
-    lines = λ p shows. filling-one (f .lines p shows) last room (stands size e p shows) a;
-  }
+  -- and is appended: a list of 65,536 places has room for it
+  pub filled-one : {buf₀ buf : List ℕ} {r m n′ : ℕ} {out′ : List ℕ} → length buf₀ ≡ 8192 → length out ≡ 65536 → d ≤ 4000 → n ≤ 57344
+      → DayEnds ix d buf₀ r buf → Appended (drop r buf) out m n′ out′ → m ≡ n → Filled ix from entry n′ (d + 1) out′
+  filled-one {buf₀} {buf} {r} {m} {n′} {out′} size places last room e put after =
+      let long : length (drop r buf) ≤ 8192 = omega (arith, ap length (stands size e (g .list) (g .shows)), e .line (g .list) (g .shows) .fits) in
+      let a = appended-room (drop r buf) out n n′ out′ (rw after at put) (omega arith) in
+      record { inside = omega (arith, a .place); lines = λ p shows. filling-one (f .lines p shows) last room (stands size e p shows) a }
 
   pub filled-all : ((4000 < d) ⊎ (57344 < n)) → PartStands ix from entry (record { bytes = n; next = d }) out
   unfolding taken

@@ -1,9 +1,6 @@
 // What the program `stand` prints: each line put into the last places of a buffer, and the whole text in parts of many lines.
-ghost use Prim.Native.Nat.{_≤_, _+_, _-_};
-ghost use lib.ListN.{length, drop};
 ghost use Rattle.service.specs.Service.{Published};
 ghost use Rattle.stand_text.specs.Report.{DayEnds, PartStands};
-ghost use Rattle.stand_text.specs.Contracts.{Appends};
 use stabbing::INDEX;
 
 const TAB: u8 = 9;
@@ -42,17 +39,6 @@ pub struct Part {
     pub next: u16,
 }
 
-// What stands in a buffer from `from` on, copied to the place `at` of a list: the place after it.
-fn append(buf: &[u8], from: usize, out: &mut [u8], at: usize) -> usize
-    requires { ⌜ from ≤ length (now buf) ⌝ }
-    requires { ⌜ at + (length (now buf) - from) ≤ length (now out) ⌝ }
-    ensures { λ r. ⌜ Appends (drop from (now (buf .entry))) (now (out .entry)) at r (now (out .exit)) ⌝ }
-{
-    let end = at + (buf.len() - from);
-    bytes::copy(&buf[from..], &mut out[at..end]);
-    end
-}
-
 // The next part of the text of all days: the lines from day `from` on, as long as there is room for one more.
 pub fn days_part(index: &[u16; INDEX], from: u16, out: &mut [u8; PART]) -> Part
     requires { ⌜ Published (now index) ⌝ }
@@ -63,7 +49,7 @@ pub fn days_part(index: &[u16; INDEX], from: u16, out: &mut [u8; PART]) -> Part
     let mut d = from;
     while d <= LAST_DAY && bytes <= ROOMY {
         let at = day_line(index, d, &mut buf);
-        bytes = append(&buf, at, out, bytes);
+        bytes = gathering::append(out, bytes, &buf, at);
         d += 1;
     }
     Part { bytes, next: d }

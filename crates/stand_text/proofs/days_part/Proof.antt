@@ -20,22 +20,18 @@ kept c =
 roomy : (c : tie.Then1 Inv-loop μ-loop) → c .before .before .loop .bytes ≤ 57344
 roomy c = leb-true (c .before .before .loop .bytes) 57344 (c .if1 .taken)
 
-outward : (c : tie.After-append-arg Inv-loop μ-loop) → length (c .before .before .before .before .before .before .loop .out) ≡ 65536
+outward : (c : tie.After-append-arg Inv-loop μ-loop) → length (c .before .before .before .before .before .loop .out) ≡ 65536
 outward c = search needs
-
-append-requires : tie.Need-append-requires Inv-loop μ-loop
-append-requires c κs =
-    let line = c .before .before in
-    let long = kept line in
-    let inside = line .day-line .ensures .inside in
-    (omega (arith, long, inside), omega (arith, long, inside, outward c, roomy (line .before .before)))
 
 loop-again : tie.Need-loop-again Inv-loop μ-loop
 loop-again c =
-    let line = c .before .before .before in
+    let arg = c .before .before in
+    let line = arg .before in
     let tests = line .before .before in
-    let l = tests .before .before in
-    (kept line, filled-one (l .before .pre) (l .loop .inv .1) (l .loop .inv .0) (omega (arith, tests .before .loop-test .taken)) (roomy tests) (line .day-line .ensures) (c .append .ensures))
+    let l = tests .before .before in (
+      kept line,
+      filled-one (l .before .pre) (l .loop .inv .1) (l .loop .inv .0) (outward arg) (omega (arith, tests .before .loop-test .taken)) (roomy tests) (line .day-line .ensures) (c .append .ensures) (omega arith),
+    )
 
 returns : tie.Need-returns Inv-loop μ-loop
 returns c =
@@ -51,5 +47,5 @@ pub days-part-spec : {M : Type 1} → statement M
 days-part-spec =
     tie.close
     (tie.spec
-    Inv-loop μ-loop (λ c. (search needs, filled-none _ _ _)) (λ c κs. search needs) (λ c. sym (kept (c .before))) append-requires (λ c. search needs)
+    Inv-loop μ-loop (λ c. (search needs, filled-none _ _ _)) (λ c κs. search needs) (λ c. sym (kept (c .before .before))) (λ c κs. search needs) (λ c. search needs)
     (λ c. search needs) loop-again returns returns-2)
