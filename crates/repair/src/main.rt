@@ -8,10 +8,7 @@ use libc::STDERR_FILENO;
 use libc::STDIN_FILENO;
 use libc::STDOUT_FILENO;
 use refusal::ACCEPTED;
-
-const TAB: u8 = 9;
-
-const LF: u8 = 10;
+use repair_text::LINE;
 
 // One byte more than a register may have: a longer text is refused whatever follows.
 const TEXT: usize = 65537;
@@ -21,48 +18,16 @@ const OUT: usize = 33792;
 
 const REMARKS: usize = 131072;
 
-// The places of a buffer for numbers, each with the byte that ends it.
-const NUMBERS: usize = 64;
-
 // ---- What is said on standard error
 
-fn say(bytes: &[u8]) -> bool {
-    output::write(STDERR_FILENO, bytes, b"repair: standard error")
+fn say(line: &[u8]) -> bool {
+    output::write(STDERR_FILENO, line, b"repair: standard error")
 }
 
-// The numbers that end a buffer, from `at` on.
-fn say_numbers(buf: &[u8], at: usize) -> bool {
-    if buf.len() < at {
-        return false;
-    }
-    say(&buf[at..])
-}
-
-// A word and two numbers, parted by tabs.
-fn say_two(word: &[u8], a: u64, b: u64) -> bool {
-    let mut buf = [0u8; NUMBERS];
-    let i = decimals::put_wide(&mut buf, NUMBERS, b, LF);
-    let j = decimals::put_wide(&mut buf, i, a, TAB);
-    if !say(word) {
-        return false;
-    }
-    say_numbers(&buf, j)
-}
-
-// A word and three numbers.
-fn say_three(word: &[u8], a: u64, b: u64, c: u64) -> bool {
-    let mut buf = [0u8; NUMBERS];
-    let i = decimals::put_wide(&mut buf, NUMBERS, c, LF);
-    let j = decimals::put_wide(&mut buf, i, b, TAB);
-    let k = decimals::put_wide(&mut buf, j, a, TAB);
-    if !say(word) {
-        return false;
-    }
-    say_numbers(&buf, k)
-}
-
-fn widened(x: u32) -> u64 {
-    x as u64
+fn say_remark(line: u32, number: u32) -> bool {
+    let mut out = [0u8; LINE];
+    let n = repair_text::put_dropped(&mut out, line, number);
+    say(&out[..n])
 }
 
 // The dropped lines, each with its number, as long as they can be said.
@@ -71,9 +36,7 @@ fn say_dropped(remarks: &[u32], dropped: usize) -> bool
 {
     let mut i = 0;
     while i < dropped {
-        let line = widened(remarks[2 * i]);
-        let number = widened(remarks[2 * i + 1]);
-        if !say_two(b"dropped\t", line, number) {
+        if !say_remark(remarks[2 * i], remarks[2 * i + 1]) {
             return false;
         }
         i += 1;
@@ -87,8 +50,10 @@ fn repair(text: &[u8]) {
     let mut out = [0u8; OUT];
     let mut remarks = [0u32; REMARKS];
     let r = register_repair::repair(text, &mut out, &mut remarks);
+    let mut line = [0u8; LINE];
     if r.refusal != ACCEPTED {
-        say_two(b"refused\t", r.refusal as u64, r.line as u64);
+        let k = repair_text::put_refused(&mut line, r.refusal as u64, r.line as u64);
+        say(&line[..k]);
         return;
     }
     let n = r.length;
@@ -98,12 +63,8 @@ fn repair(text: &[u8]) {
     if !say_dropped(&remarks, r.dropped) {
         return;
     }
-    say_three(
-        b"repaired\t",
-        n as u64,
-        r.dropped as u64,
-        r.displaced as u64,
-    );
+    let k = repair_text::put_repaired(&mut line, n as u64, r.dropped as u64, r.displaced as u64);
+    say(&line[..k]);
 }
 
 fn usage() {

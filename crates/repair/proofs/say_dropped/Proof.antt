@@ -4,10 +4,10 @@ use Rattle.repair.proofs.say_dropped.Statement.{statement}
 use Rattle.repair.proofs.say_dropped.Tie as tie
 
 abbrev Inv-loop : tie.InvT-loop
-Inv-loop remarks dropped i₀ word i = (dropped ≤ 65536) × (2 * dropped ≤ length remarks)
+Inv-loop remarks dropped i₀ i = (dropped ≤ 65536) × (2 * dropped ≤ length remarks)
 
 abbrev μ-loop : tie.MeasureT-loop
-μ-loop remarks dropped i₀ word i = dropped - i
+μ-loop remarks dropped i₀ i = dropped - i
 
 pub say-dropped-spec : {M : Type 1} → statement M
 say-dropped-spec =
@@ -18,12 +18,11 @@ say-dropped-spec =
     (λ c. c .before .pre)
     -- remarks[2 * i]
     (λ c. omega (arith, c .before .loop .inv .0)) (λ c. omega (arith, c .before .loop .inv .0)) (λ c. omega (arith, c .before .before .loop .inv .1))
-    (λ c κs. search needs)
     -- remarks[2 * i + 1]
-    (λ c. omega (arith, c .before .before .before .loop .inv .0)) (λ c. omega (arith, c .before .before .before .loop .inv .0)) (λ c. omega (arith, c .before .before .before .loop .inv .0))
-    (λ c. omega (arith, c .before .before .before .before .loop .inv .1))
-    (λ c κs. search needs) (λ c. search needs) (λ c κs. search needs) (λ c. search needs)
-    (λ c. omega (arith, c .before .before .before .before .before .before .before .before .loop .inv .0))
-    (λ c. omega (arith, c .before .before .before .before .before .before .before .loop-test .taken))
-    (λ c. c .before .before .before .before .before .before .before .before .loop .inv)
+    (λ c. omega (arith, c .before .before .loop .inv .0)) (λ c. omega (arith, c .before .before .loop .inv .0)) (λ c. omega (arith, c .before .before .loop .inv .0))
+    (λ c. omega (arith, c .before .before .before .loop .inv .1))
+    (λ c κs. search needs) (λ c. search needs)
+    (λ c. omega (arith, c .before .before .before .before .before .loop .inv .0))
+    (λ c. omega (arith, c .before .before .before .before .loop-test .taken))
+    (λ c. c .before .before .before .before .before .loop .inv)
     (λ c. search needs))
