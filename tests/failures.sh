@@ -1,6 +1,15 @@
 # What the tests of `stand`, `serve` and `repair` share: runs by bin/run-program, and each way in which a program's input or output fails.
-# It is read by tests/stand.sh, tests/serve.sh and tests/repair.sh, which set here, work and program, and whose `fail` ends the test.
+# It is read by tests/stand.sh, tests/serve.sh and tests/repair.sh, which set here and program.
 runner=$here/../bin/run-program
+work=$(mktemp -d)
+mounted=
+trap '[ -z "$mounted" ] || umount "$mounted"; rm -rf "$work"' EXIT
+
+# fail WHY: ends the test
+fail() {
+    echo "$(basename "$0"): $1" >&2
+    exit 1
+}
 
 # What another test may set: the file of what is told where all is done, the reader that closes an output early, and the bytes of a disk
 # that the output fills; the word with which the last line begins that is told where all is done.

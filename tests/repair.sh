@@ -9,14 +9,7 @@ set -u
 here=$(cd "$(dirname "$0")" && pwd)
 program=${1:-$here/../target/bin/repair}
 full=$here/stand/full.register
-work=$(mktemp -d)
-mounted=
-trap '[ -z "$mounted" ] || umount "$mounted"; rm -rf "$work"' EXIT
-
-fail() {
-    echo "repair.sh: $1" >&2
-    exit 1
-}
+. "$here/failures.sh"
 
 # prints WHAT EXPECTED: what was printed is the file EXPECTED
 prints() {
@@ -44,7 +37,6 @@ refuses() {
     prints "$1" /dev/null
 }
 
-. "$here/failures.sh"
 last_word=repaired
 [ -x "$program" ] || fail "no program at $program"
 count=0

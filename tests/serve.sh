@@ -8,21 +8,13 @@ set -u
 here=$(cd "$(dirname "$0")" && pwd)
 program=${1:-$here/../target/bin/serve}
 stored=$here/../crates/serve
-work=$(mktemp -d)
-mounted=
-trap '[ -z "$mounted" ] || umount "$mounted"; rm -rf "$work"' EXIT
-
-fail() {
-    echo "serve.sh: $1" >&2
-    exit 1
-}
+. "$here/failures.sh"
 
 # says WHAT EXPECTED: what was printed is this
 says() {
     printf '%b' "$2" | cmp - "$work/out" >&2 || fail "$1: the output differs"
 }
 
-. "$here/failures.sh"
 [ -x "$program" ] || fail "no program at $program"
 
 # the protocol's example; `tests/check documents` sees that the document says the same

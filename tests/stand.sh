@@ -8,21 +8,13 @@ set -u
 here=$(cd "$(dirname "$0")" && pwd)
 program=${1:-$here/../target/bin/stand}
 full=$here/stand/full.register
-work=$(mktemp -d)
-mounted=
-trap '[ -z "$mounted" ] || umount "$mounted"; rm -rf "$work"' EXIT
-
-fail() {
-    echo "stand.sh: $1" >&2
-    exit 1
-}
+. "$here/failures.sh"
 
 # same NAME WHAT: what was printed is what is stored for NAME
 same() {
     cmp "$work/out" "$here/stand/$1.expected" >&2 || fail "$2: the output differs from tests/stand/$1.expected"
 }
 
-. "$here/failures.sh"
 [ -x "$program" ] || fail "no program at $program"
 count=0
 for register in "$here"/stand/*.register; do
