@@ -12,11 +12,12 @@ use Rattle.model.specs.declared.Call.{Call}
 use Rattle.model.specs.declared.Call.the-variants.{Amend}
 use Rattle.model.specs.Edits.{idle}
 use Rattle.service.specs.declared.Service.{Service}
-use Rattle.service.specs.declared.Outcome.{Outcome}
+use Rattle.outcomes.specs.declared.Outcome.{Outcome}
 use Rattle.service.specs.Places.{serviceOf, readService, leaves}
 use Rattle.service.specs.Packed.{packed, unpacked}
 use Rattle.service.specs.Service.{Blocks, Valid, Represents, Given, Met, Changed, Begins}
 use Rattle.service.proofs.Represented.{represented}
+use Rattle.service.proofs.Asking.{asked-met}
 use Rattle.service.proofs.Beginning.{publishes-met, publishes-refused}
 use Rattle.service.specs.History as history
 use Rattle.service.proofs.Claims.{made-run, made-given, idle-left}
@@ -46,7 +47,7 @@ pub called-met : {words words′ : List ℕ} {bs bs′ : Blocks} {numbers text :
 called-met (edited {bs = bs} {days} {numbers} {text} c r met) g = met (g .valid) .0 .met bs days numbers text g
 called-met (published {days = days} {numbers} {text} rule r met) g = publishes-met (met (g .valid)) days numbers text g
 called-met (wrote {bs = bs} {days} {numbers} r met) g = met (g .valid) .met bs days numbers g
-called-met (asked {words} {text = text} w r met) g = met (g .published) .met (unpacked words) text g
+called-met (asked {words} {text = text} w r met) g = asked-met (met (g .published)) (unpacked words) text g
 
 -- so a list of them is a list of calls on that service
 pub hosted-made : {words words′ : List ℕ} {bs bs′ : Blocks} {qs : List Request} {answers : List Answer} → Hosted words bs qs answers words′ bs′

@@ -9,7 +9,8 @@ use Rattle.service.specs.Places.{freshService}
 use Rattle.service.specs.Packed.{packed, unpacked, Packs}
 use Rattle.rules.specs.Rules.{isRule}
 use Rattle.model.specs.Publishing.{publishedOf}
-use Rattle.service.specs.Service.{Blocks, indexOf, Valid, Represents, Changed, Publishes}
+use Rattle.published_index.specs.Index.{indexOf}
+use Rattle.service.specs.Service.{Blocks, Valid, Represents, Changed, Publishes}
 use Rattle.phayaklit.specs.declared.Reply.{Reply}
 use Rattle.phayaklit.specs.Host.{Held, Laid, outcomeOf, steppedOf}
 

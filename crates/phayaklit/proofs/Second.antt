@@ -6,7 +6,8 @@ use Rattle.spell.specs.Listing.{Sound}
 use Rattle.spell.proofs.Order.{answer-order}
 use Rattle.model.proofs.Edits.{orderly-none}
 use Rattle.service.specs.Packed.{unpacked}
-use Rattle.service.specs.Service.{Blocks, indexOf, Represents}
+use Rattle.published_index.specs.Index.{indexOf}
+use Rattle.service.specs.Service.{Blocks, Represents}
 use Rattle.service.proofs.Claims.{made-run}
 use Rattle.phayaklit.specs.Host.{Held}
 use Rattle.phayaklit.specs.History.{Hosted}

@@ -9,7 +9,9 @@ use Rattle.model.specs.declared.Question.the-variants.{Day, Span, Cover, Days, 
 use Rattle.model.specs.Model.{fresh, begun}
 use Rattle.service.specs.Places.{freshService}
 use Rattle.service.specs.Packed.{packed, unpacked}
-use Rattle.service.specs.Service.{Blocks, blocks, asking, indexOf, Represents, Published, Begins}
+use Rattle.outcomes.specs.Outcomes.{asking}
+use Rattle.published_index.specs.Index.{indexOf, Published}
+use Rattle.service.specs.Service.{Blocks, blocks, Represents, Begins}
 use Rattle.phayaklit.specs.declared.Entry.{Entry}
 use Rattle.phayaklit.specs.declared.Reply.{Reply}
 use Rattle.phayaklit.specs.declared.Opened.{Opened}

@@ -6,7 +6,10 @@ use Rattle.model.specs.declared.Call.the-variants.{Publish, Write, Ask}
 use Rattle.model.specs.declared.Question.{Question}
 use Rattle.model.specs.Model.{State, Request, Answer}
 use Rattle.service.specs.Packed.{unpacked}
-use Rattle.service.specs.Service.{Blocks, asking, answerOf, Represents, Published, Changed, Publishes, Asked, Wrote}
+use Rattle.outcomes.specs.Outcomes.{asking, answerOf}
+use Rattle.published_index.specs.Index.{Published}
+use Rattle.questions.specs.Asked.{Asked}
+use Rattle.service.specs.Service.{Blocks, Represents, Changed, Publishes, Wrote}
 use Rattle.phayaklit.specs.declared.Reply.{Reply}
 use Rattle.phayaklit.specs.Host.{Held, Laid, outcomeOf, steppedOf}
 
@@ -28,7 +31,7 @@ pub data Called : List ℕ → Blocks → Request → Reply → List ℕ → Blo
       → (Held words → Wrote (unpacked words) text (outcomeOf r) text′)
       → Called words bs (asking Write days numbers text) r words bs numbers text′
   asked : {words : List ℕ} {bs : Blocks} {days numbers numbers′ text : List ℕ} (w : Question) (r : Reply)
-      → (Published (bs .index) → Asked bs w days numbers (outcomeOf r) numbers′)
+      → (Published (bs .index) → Asked (bs .index) w days numbers (outcomeOf r) numbers′)
       → Called words bs (asking (Ask w) days numbers text) r words bs numbers′ text
 
 -- A list of calls: the next one is made on the words and the blocks as this one left them, and nobody else writes them meanwhile

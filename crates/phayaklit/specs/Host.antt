@@ -6,7 +6,7 @@ use Rattle.spell.specs.declared.Spell.{Spell}
 use Rattle.packing.specs.Words.{urgencyOf}
 use Rattle.service.specs.Packed.{packed, unpacked}
 use Rattle.service.specs.Service.{Valid}
-use Rattle.service.specs.declared.Outcome.{Outcome}
+use Rattle.outcomes.specs.declared.Outcome.{Outcome}
 use Rattle.service.specs.declared.Stepped.{Stepped}
 use Rattle.service.specs.declared.Started.{Started}
 use Rattle.phayaklit.specs.declared.Entry.{Entry}

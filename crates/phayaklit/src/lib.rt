@@ -7,11 +7,13 @@ ghost use Rattle.model.specs.Model.{fresh};
 ghost use Rattle.register.specs.Text.{readText};
 ghost use Rattle.service.specs.Places.{freshService};
 ghost use Rattle.service.specs.Packed.{packed, unpacked};
-ghost use Rattle.service.specs.Service.{blocks, indexOf, Valid, Represents, Published, Changed, Publishes, Asked, Wrote, Begins};
+ghost use Rattle.published_index.specs.Index.{indexOf, Published};
+ghost use Rattle.questions.specs.Asked.{Asked};
+ghost use Rattle.service.specs.Service.{blocks, Valid, Represents, Changed, Publishes, Wrote, Begins};
 ghost use Rattle.phayaklit.specs.Host.{version, Held, Laid, spellIn, outcomeOf, steppedOf, startedOf};
 use model::Call;
 use model::Question;
-use service::Outcome;
+use outcomes::Outcome;
 use service::SERVICE;
 use service::Stepped;
 use spell::Spell;
@@ -103,7 +105,7 @@ pub extern "C" fn phayaklit_version() -> u32
 pub extern "C" fn phayaklit_fresh_index(index: &mut [u16; INDEX])
     ensures { λ _. ⌜ now (index .exit) ≡ indexOf [] ⌝ }
 {
-    service::fresh_index(index);
+    published_index::fresh(index);
 }
 
 // A fresh service: nothing stands, nothing is published, and there is no past.
@@ -215,36 +217,36 @@ pub extern "C" fn phayaklit_write(words: &[u16; SERVICE], text: &mut [u8]) -> Re
 #[no_mangle]
 pub extern "C" fn phayaklit_day(index: &[u16; INDEX], d: u16, numbers: &mut [u16]) -> Reply
     requires { ⌜ Published (now index) ⌝ }
-    ensures { λ r. ⌜ ((days : List ℕ) → Asked (blocks (now (index .entry))) (Question.Day d) days (now (numbers .entry)) (outcomeOf r) (now (numbers .exit))) ⌝ }
+    ensures { λ r. ⌜ ((days : List ℕ) → Asked (now (index .entry)) (Question.Day d) days (now (numbers .entry)) (outcomeOf r) (now (numbers .exit))) ⌝ }
 {
-    answered(service::day(index, d, numbers))
+    answered(questions::day(index, d, numbers))
 }
 
 // The span from a to b: the spells with first ≤ b and last ≥ a.
 #[no_mangle]
 pub extern "C" fn phayaklit_span(index: &[u16; INDEX], a: u16, b: u16, numbers: &mut [u16]) -> Reply
     requires { ⌜ Published (now index) ⌝ }
-    ensures { λ r. ⌜ ((days : List ℕ) → Asked (blocks (now (index .entry))) (Question.Span a b) days (now (numbers .entry)) (outcomeOf r) (now (numbers .exit))) ⌝ }
+    ensures { λ r. ⌜ ((days : List ℕ) → Asked (now (index .entry)) (Question.Span a b) days (now (numbers .entry)) (outcomeOf r) (now (numbers .exit))) ⌝ }
 {
-    answered(service::span(index, a, b, numbers))
+    answered(questions::span(index, a, b, numbers))
 }
 
 // The cover of a published spell: the spells with first ≤ its first and last ≥ its last.
 #[no_mangle]
 pub extern "C" fn phayaklit_cover(index: &[u16; INDEX], number: u16, numbers: &mut [u16]) -> Reply
     requires { ⌜ Published (now index) ⌝ }
-    ensures { λ r. ⌜ ((days : List ℕ) → Asked (blocks (now (index .entry))) (Question.Cover number) days (now (numbers .entry)) (outcomeOf r) (now (numbers .exit))) ⌝ }
+    ensures { λ r. ⌜ ((days : List ℕ) → Asked (now (index .entry)) (Question.Cover number) days (now (numbers .entry)) (outcomeOf r) (now (numbers .exit))) ⌝ }
 {
-    answered(service::cover(index, number, numbers))
+    answered(questions::cover(index, number, numbers))
 }
 
 // Several days: the spells that contain at least one of them.
 #[no_mangle]
 pub extern "C" fn phayaklit_days(index: &[u16; INDEX], days: &[u16], numbers: &mut [u16]) -> Reply
     requires { ⌜ Published (now index) ⌝ }
-    ensures { λ r. ⌜ Asked (blocks (now (index .entry))) Question.Days (now (days .entry)) (now (numbers .entry)) (outcomeOf r) (now (numbers .exit)) ⌝ }
+    ensures { λ r. ⌜ Asked (now (index .entry)) Question.Days (now (days .entry)) (now (numbers .entry)) (outcomeOf r) (now (numbers .exit)) ⌝ }
 {
-    answered(service::days(index, days, numbers))
+    answered(questions::days(index, days, numbers))
 }
 
 // The ticked days of a base day and a mask, whose bit i is the base day + i: the spells that contain at least one of them, and how many
@@ -257,7 +259,7 @@ pub extern "C" fn phayaklit_mask(
     numbers: &mut [u16],
 ) -> Reply
     requires { ⌜ Published (now index) ⌝ }
-    ensures { λ r. ⌜ ((days : List ℕ) → Asked (blocks (now (index .entry))) (Question.Mask base mask) days (now (numbers .entry)) (outcomeOf r) (now (numbers .exit))) ⌝ }
+    ensures { λ r. ⌜ ((days : List ℕ) → Asked (now (index .entry)) (Question.Mask base mask) days (now (numbers .entry)) (outcomeOf r) (now (numbers .exit))) ⌝ }
 {
-    answered(service::mask(index, base, mask, numbers))
+    answered(questions::mask(index, base, mask, numbers))
 }

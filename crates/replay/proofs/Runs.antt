@@ -6,7 +6,8 @@ use Rattle.register.specs.Text.{readText}
 use Rattle.model.specs.Model.{State, fresh, begun, refusalIn, lineIn, Request, Answer, step, run}
 use Rattle.packing.specs.Blocks.{written}
 use Rattle.service.specs.declared.Stepped.{Stepped}
-use Rattle.service.specs.Service.{Blocks, Represents, Given, answerOf, Met}
+use Rattle.outcomes.specs.Outcomes.{answerOf}
+use Rattle.service.specs.Service.{Blocks, Represents, Given, Met}
 use Rattle.replay.specs.declared.Code.{Code}
 use Rattle.replay.specs.declared.Next.{Next}
 use Rattle.replay.specs.declared.Next.the-variants.{Stop, Go}

@@ -19,8 +19,9 @@ use Rattle.buffer.specs.Buffer.{over}
 use Rattle.packing.specs.Blocks.{written}
 use Rattle.model.specs.Model.{State, fresh, begun, refusalIn, lineIn, Request, Answer, run}
 use Rattle.service.specs.declared.Service.{Service}
-use Rattle.service.specs.declared.Outcome.{Outcome}
-use Rattle.service.specs.Service.{Blocks, answerOf, Represents}
+use Rattle.outcomes.specs.declared.Outcome.{Outcome}
+use Rattle.outcomes.specs.Outcomes.{answerOf}
+use Rattle.service.specs.Service.{Blocks, Represents}
 use Rattle.replay.specs.declared.Code.{Code}
 use Rattle.replay.specs.declared.Next.{Next}
 use Rattle.replay.specs.declared.Next.the-variants.{Stop, Go}

@@ -6,7 +6,7 @@ ghost use Rattle.service.specs.Service.{blocks, Given};
 ghost use Rattle.replay.specs.Coded.{codeWidth, resultWidth, low16, urgencyOf, word, codeAt, spellOf, callOf, nextOf, tellAt, Answered, Replayed};
 use model::Call;
 use model::Question;
-use service::Outcome;
+use outcomes::Outcome;
 use service::Service;
 use spell::Spell;
 use spell::Urgency;

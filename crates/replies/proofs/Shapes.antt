@@ -1,8 +1,8 @@
 -- The bytes of an outcome, by the shape of its answer. Assumes nothing.
 use Rattle.basis.proofs.Prelude.{_∙_, _≡_, sym, ℕ, List, eq-eqb, ne-eqb}
 use Rattle.model.specs.declared.Call.{Call}
-use Rattle.service.specs.declared.Outcome.{Outcome}
-use Rattle.service.specs.Service.{answerOf}
+use Rattle.outcomes.specs.declared.Outcome.{Outcome}
+use Rattle.outcomes.specs.Outcomes.{answerOf}
 use Rattle.replies.specs.declared.Shape.{Shape}
 use Rattle.replies.specs.Replies.{refusedText, shapeOf, shapeText, callText}
 use Rattle.replies.specs.Sending.{Sends}

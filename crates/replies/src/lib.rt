@@ -3,13 +3,13 @@ ghost use mathlib.Core.Path.{_≡_};
 ghost use Prim.Native.Nat.{_≤_};
 ghost use lib.ListN.{length, take};
 ghost use Rattle.fields.specs.Answers.{Puts};
-ghost use Rattle.service.specs.Service.{answerOf};
+ghost use Rattle.outcomes.specs.Outcomes.{answerOf};
 ghost use Rattle.replies.specs.Replies.{okText, malformedText, bytesText, refusedText, refusedLine, listedText, dashedText, severalText, tickedText, writtenText, questionShape, shapeOf, callText};
 ghost use Rattle.replies.specs.Sending.{Sends, Fits};
 use model::Call;
 use model::Question;
+use outcomes::Outcome;
 use refusal::ACCEPTED;
-use service::Outcome;
 
 const TAB: u8 = 9;
 

@@ -3,7 +3,8 @@
 ghost use Prim.Native.Nat.{_≤_};
 ghost use lib.ListN.{length, take, drop};
 ghost use Rattle.framing.specs.Advancing.{Advances};
-ghost use Rattle.service.specs.Service.{blocks, Published, Given};
+ghost use Rattle.published_index.specs.Index.{Published};
+ghost use Rattle.service.specs.Service.{blocks, Given};
 ghost use Rattle.wire.specs.Answering.{Looks};
 ghost use Rattle.serve.specs.Serving.{Gathers, Takes, Sees, Finishes};
 use framing::Frame;

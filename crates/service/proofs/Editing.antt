@@ -11,11 +11,11 @@ use Rattle.model.specs.declared.Call.the-variants.{Enter, Amend, Strike, TakeBa
 use Rattle.model.specs.Edits.{insert, remove, replace, idle, enterRefusal, amendRefusal, strikeRefusal, takeBackRefusal, remember, frontOr, restOf}
 use Rattle.model.specs.Effects.{State, withStanding, Effect, refused, done, settle}
 use Rattle.model.specs.Model.{become, edit, takeBack, effectOf}
+use Rattle.outcomes.specs.Outcomes.{toldOf, asking, answerOf}
 use Rattle.service.specs.declared.Service.{Service}
 use Rattle.service.specs.declared.Stepped.{Stepped}
 use Rattle.service.specs.Places.{serviceOf, leavesOf}
-use Rattle.service.specs.Outcomes.{toldOf}
-use Rattle.service.specs.Service.{Blocks, Represents, asking, answerOf, Changed}
+use Rattle.service.specs.Service.{Blocks, Represents, Changed}
 
 -- the call's result
 abbrev pub steppedOf : Edited → Stepped

@@ -1,7 +1,4 @@
 pub mod Represented
-pub mod Questions
-pub mod Publishing
-pub mod Arranged
 pub mod Asking
 pub mod Editing
 pub mod Beginning

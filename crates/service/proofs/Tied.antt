@@ -1,4 +1,4 @@
--- The contract of each public function, as the prover reads it, is a beginning or a step of `Made`; and what each asks. Assumes nothing.
+-- The contract of each public function and of each question, as the prover reads it, is a beginning or a step of `Made`; and what each asks. Assumes nothing.
 use Rattle.basis.proofs.Prelude.{_≡_, refl, ℕ, List}
 use contract.Lifetimes.{Lfts}
 use denote.Ref.{RefT, now}
@@ -9,14 +9,17 @@ use Rattle.model.specs.declared.Call.the-variants.{Enter, Amend, Strike, TakeBa
 use Rattle.model.specs.declared.Question.{Question}
 use Rattle.model.specs.declared.Question.the-variants.{Day, Span, Cover, Days, Mask}
 use Rattle.model.specs.Model.{fresh}
+use Rattle.outcomes.specs.declared.Outcome.{Outcome}
+use Rattle.outcomes.specs.Outcomes.{asking}
+use Rattle.published_index.specs.Index.{Published}
 use Rattle.service.specs.declared.Service.{Service}
-use Rattle.service.specs.declared.Outcome.{Outcome}
 use Rattle.service.specs.declared.Stepped.{Stepped}
 use Rattle.service.specs.declared.Started.{Started}
 use Rattle.service.specs.Places.{freshService}
-use Rattle.service.specs.Service.{Blocks, blocks, Valid, Represents, Published, Given, asking, keeping, Met, Begins}
+use Rattle.service.specs.Service.{Blocks, blocks, Valid, Represents, Given, keeping, Met, Begins}
 use Rattle.service.specs.Packed.{unpacked, Packs}
 use Rattle.service.specs.History.{Steps}
+use Rattle.service.proofs.Asking.{asked-met}
 use Rattle.service.proofs.Beginning.{publishes-met}
 use Rattle.service.proofs.fresh.Reads as fresh-reads
 use Rattle.service.proofs.read.Reads as read-reads
@@ -26,12 +29,12 @@ use Rattle.service.proofs.strike.Reads as strike-reads
 use Rattle.service.proofs.take_back.Reads as take-back-reads
 use Rattle.service.proofs.publish.Reads as publish-reads
 use Rattle.service.proofs.write.Reads as write-reads
-use Rattle.service.proofs.day.Reads as day-reads
-use Rattle.service.proofs.span.Reads as span-reads
-use Rattle.service.proofs.cover.Reads as cover-reads
-use Rattle.service.proofs.days.Reads as days-reads
-use Rattle.service.proofs.mask.Reads as mask-reads
-use Rattle.service.proofs.ask.Reads as ask-reads
+use Rattle.questions.proofs.day.Reads as day-reads
+use Rattle.questions.proofs.span.Reads as span-reads
+use Rattle.questions.proofs.cover.Reads as cover-reads
+use Rattle.questions.proofs.days.Reads as days-reads
+use Rattle.questions.proofs.mask.Reads as mask-reads
+use Rattle.questions.proofs.ask.Reads as ask-reads
 use Rattle.service.proofs.step.Reads as step-reads
 use Rattle.service.proofs.pack.Reads as pack-reads
 use Rattle.service.proofs.unpack.Reads as unpack-reads
@@ -82,31 +85,31 @@ module _ (κs : Lfts 1) (sv : Service) (o : Outcome) (text text′ : RefT (List 
 module _ (κs : Lfts 2) (index numbers numbers′ : RefT (List ℕ)) (o : Outcome) {sv : Service} {days text : List ℕ} where
   pub day-steps : (d : ℕ) → (day-reads.Pre κs (index, (d, (numbers, tt))) → day-reads.Post κs (index, (d, (numbers, tt))) o (index, (d, (numbers′, tt))))
       → Steps sv (blocks (now index)) (asking (Ask (Day d)) days (now numbers) text) (keeping sv o) (blocks (now index)) (now numbers′) text
-  day-steps d met g = met (g .published) days .met sv text g
+  day-steps d met g = asked-met (met (g .published) days) sv text g
 
   pub span-steps : (a b : ℕ)
       → (span-reads.Pre κs (index, (a, (b, (numbers, tt)))) → span-reads.Post κs (index, (a, (b, (numbers, tt)))) o (index, (a, (b, (numbers′, tt)))))
       → Steps sv (blocks (now index)) (asking (Ask (Span a b)) days (now numbers) text) (keeping sv o) (blocks (now index)) (now numbers′) text
-  span-steps a b met g = met (g .published) days .met sv text g
+  span-steps a b met g = asked-met (met (g .published) days) sv text g
 
   pub cover-steps : (k : ℕ) → (cover-reads.Pre κs (index, (k, (numbers, tt))) → cover-reads.Post κs (index, (k, (numbers, tt))) o (index, (k, (numbers′, tt))))
       → Steps sv (blocks (now index)) (asking (Ask (Cover k)) days (now numbers) text) (keeping sv o) (blocks (now index)) (now numbers′) text
-  cover-steps k met g = met (g .published) days .met sv text g
+  cover-steps k met g = asked-met (met (g .published) days) sv text g
 
   pub mask-steps : (b k : ℕ)
       → (mask-reads.Pre κs (index, (b, (k, (numbers, tt)))) → mask-reads.Post κs (index, (b, (k, (numbers, tt)))) o (index, (b, (k, (numbers′, tt)))))
       → Steps sv (blocks (now index)) (asking (Ask (Mask b k)) days (now numbers) text) (keeping sv o) (blocks (now index)) (now numbers′) text
-  mask-steps b k met g = met (g .published) days .met sv text g
+  mask-steps b k met g = asked-met (met (g .published) days) sv text g
 
 module _ (κs : Lfts 3) (index days numbers numbers′ : RefT (List ℕ)) (o : Outcome) {sv : Service} {text : List ℕ} where
   pub days-steps : (days-reads.Pre κs (index, (days, (numbers, tt))) → days-reads.Post κs (index, (days, (numbers, tt))) o (index, (days, (numbers′, tt))))
       → Steps sv (blocks (now index)) (asking (Ask Days) (now days) (now numbers) text) (keeping sv o) (blocks (now index)) (now numbers′) text
-  days-steps met g = met (g .published) .met sv text g
+  days-steps met g = asked-met (met (g .published)) sv text g
 
   pub ask-steps : (w : Question)
       → (ask-reads.Pre κs (index, (w, (days, (numbers, tt)))) → ask-reads.Post κs (index, (w, (days, (numbers, tt)))) o (index, (w, (days, (numbers′, tt)))))
       → Steps sv (blocks (now index)) (asking (Ask w) (now days) (now numbers) text) (keeping sv o) (blocks (now index)) (now numbers′) text
-  ask-steps w met g = met (g .published) .met sv text g
+  ask-steps w met g = asked-met (met (g .published)) sv text g
 
 -- ---- Any call: the step itself, and nothing weaker
 

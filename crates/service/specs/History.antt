@@ -2,9 +2,10 @@
 use Prim.Native.Nat.{ℕ}
 use mathlib.Core.List.{List, [], _∷_}
 use Rattle.model.specs.Model.{Request, Answer}
+use Rattle.outcomes.specs.Outcomes.{answerOf}
 use Rattle.service.specs.declared.Service.{Service}
 use Rattle.service.specs.declared.Stepped.{Stepped}
-use Rattle.service.specs.Service.{Blocks, Given, answerOf, Met}
+use Rattle.service.specs.Service.{Blocks, Given, Met}
 
 -- One call: the service sv with the blocks bs is asked q, and gives r, with left in the blocks, numbers and text in the lent lists.
 -- Of what it gives no more is known than the contract of `step`: its `requires` implies its `ensures`.

@@ -5,25 +5,19 @@ use mathlib.Core.Bool.{false, cond}
 use lib.Dec.{eqb}
 use Rattle.refusal.specs.Table.{accepted, noSuchRule}
 use Rattle.rules.specs.Rules.{isRule}
-use mathlib.Core.List.{List, map}
-use Rattle.spell.specs.declared.Spell.{Spell}
-use Rattle.spell.specs.Order.{listedBefore}
-use Rattle.spell.specs.Listing.{Sound, OrderlyBy}
-use Rattle.stabbing.specs.Index.{blockOf}
+use mathlib.Core.List.{List}
 use Rattle.standing.specs.Standing.{Wf, listOf, pasts}
 use Rattle.model.specs.declared.Call.{Call}
-use Rattle.model.specs.declared.Question.{Question}
 use Rattle.model.specs.Publishing.{publishedOf}
-use Rattle.model.specs.Questions.{firstsOf, lastsOf}
 use Rattle.register.specs.Text.{Register}
 use Rattle.model.specs.Model.{State, begun, refusalIn, lineIn, Request, step}
+use Rattle.outcomes.specs.declared.Outcome.{Outcome}
+use Rattle.outcomes.specs.Outcomes.{toldOf, asking, answerOf}
+use Rattle.published_index.specs.Index.{indexOf, Shows, Published}
 use Rattle.service.specs.declared.Service.{Service}
-use Rattle.service.specs.declared.Outcome.{Outcome}
 use Rattle.service.specs.declared.Stepped.{Stepped}
 use Rattle.service.specs.declared.Started.{Started}
 use Rattle.service.specs.Places.{readService, leaves}
-use Rattle.service.specs.Outcomes.{toldOf}
-pub use Rattle.service.specs.Outcomes.{answerOf}
 
 -- ---- What stands for the account's state
 
@@ -33,20 +27,6 @@ pub record Blocks : Type 0 where
 
 abbrev pub blocks : List ℕ → Blocks
 blocks ix = record { index = ix }
-
--- the index of a published list
-abbrev pub indexOf : List Spell → List ℕ
-indexOf p = blockOf (map (λ (s : Spell). s .number) p) (firstsOf p) (lastsOf p)
-
--- the index ix shows the published list p
-pub record Shows (ix : List ℕ) (p : List Spell) : Type 0 where
-  pub good : OrderlyBy listedBefore Sound p
-  pub index : ix ≡ indexOf p
-
--- an index that the calls gave shows some published list
-pub record Published (ix : List ℕ) : Type 0 where
-  pub list : List Spell
-  pub shows : Shows ix list
 
 -- a service that the calls gave: its standing list is one that they gave
 pub record Valid (sv : Service) : Type 0 where
@@ -66,10 +46,6 @@ pub record Given (sv : Service) (bs : Blocks) : Type 0 where
 
 -- ---- The postcondition of a call
 
--- a call with its lent lists
-abbrev pub asking : Call → List ℕ → List ℕ → List ℕ → Request
-asking c days numbers text = record { call = c; days = days; numbers = numbers; text = text }
-
 -- a call that leaves the service as it was
 abbrev pub keeping : Service → Outcome → Stepped
 keeping sv o = record { service = sv; outcome = o }
@@ -88,10 +64,6 @@ pub record Changed (sv : Service) (c : Call) (r : Stepped) : Type 0 where
   pub whole : r .service ≡ leaves sv c
   pub kept : eqb (r .outcome .refusal) accepted ≡ false → r .service ≡ sv
   pub met : (bs : Blocks) (days numbers text : List ℕ) → Given sv bs → Met sv bs (asking c days numbers text) r bs numbers text
-
--- the same of a question: whatever service stands beside the blocks, and whatever list for a text, they are as they were
-pub record Asked (bs : Blocks) (w : Question) (days numbers : List ℕ) (o : Outcome) (numbers′ : List ℕ) : Type 0 where
-  pub met : (sv : Service) (text : List ℕ) → Given sv bs → Met sv bs (asking (Call.Ask w) days numbers text) (keeping sv o) bs numbers′ text
 
 -- the same of writing
 pub record Wrote (sv : Service) (text : List ℕ) (o : Outcome) (text′ : List ℕ) : Type 0 where

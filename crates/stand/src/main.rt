@@ -3,7 +3,7 @@
 // refusal too, is told on standard error.
 ghost use Prim.Native.Nat.{_≤_};
 ghost use lib.ListN.{length};
-ghost use Rattle.service.specs.Service.{Published};
+ghost use Rattle.published_index.specs.Index.{Published};
 ghost use Rattle.stand_text.specs.Report.{PrintedOn, PrintedOf};
 use input::Input;
 use libc::STDERR_FILENO;

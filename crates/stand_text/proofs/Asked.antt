@@ -5,7 +5,6 @@ use Rattle.calendar.specs.Calendar.{isDay}
 use Rattle.spell.specs.Listing.{Each, Sound, OrderlyBy}
 use Rattle.spell.specs.Order.{listedBefore}
 use Rattle.spell.proofs.Entered.{entered}
-use Rattle.standing.proofs.Calls.{fresh-is}
 use Rattle.model.specs.declared.Call.the-variants.{Ask}
 use Rattle.model.specs.declared.Question.the-variants.{Day}
 use Rattle.model.specs.Questions.{onDay, filter, listed, comparisonsOf}
@@ -13,10 +12,10 @@ use Rattle.model.specs.Effects.{State, withPublished, Request, Answer, After, E
 use Rattle.model.specs.Model.{fresh, ask, effectOf}
 use Rattle.model.proofs.Filter.{listed-few}
 use Rattle.model.proofs.Bridge.{comparisons-le}
-use Rattle.service.specs.declared.Outcome.{Outcome}
-use Rattle.service.specs.Places.{freshService}
-use Rattle.service.specs.Service.{blocks, Shows, Represents, Asked, asking}
-use Rattle.service.proofs.Represented.{represented}
+use Rattle.outcomes.specs.declared.Outcome.{Outcome}
+use Rattle.outcomes.specs.Outcomes.{asking}
+use Rattle.published_index.specs.Index.{Shows}
+use Rattle.questions.specs.Asked.{Asked}
 
 -- a spell stands on no day off the calendar
 stands-on : (d : ℕ) (s : Spell) → Sound s → onDay d s ≡ true → isDay d ≡ true
@@ -78,14 +77,11 @@ module _ (m : State) (q : Request) (g : OrderlyBy listedBefore Sound (m .publish
         comparisons-few = omega arith;
       })
 
--- a question's answer does not go by what stands, so the service beside the index may be a fresh one, and the state one in which nothing stands
+-- a question's answer does not go by what stands, so the state may be one in which nothing stands
 pub day-tells : (ix : List ℕ) (p : List Spell) (d : ℕ) (days ns : List ℕ) (o : Outcome) (ns′ : List ℕ) → 1024 ≤ length ns → Shows ix p
-    → Asked (blocks ix) (Day d) days ns o ns′ → DayAnswer p d (o .count) (o .comparisons) ns′
+    → Asked ix (Day d) days ns o ns′ → DayAnswer p d (o .count) (o .comparisons) ns′
 unfolding effectOf
 day-tells ix p d days ns o ns′ room s a =
     let alone : State = withPublished p fresh in
-    let stood : Represents freshService (blocks ix) alone
-    = record { valid = record { standing = fresh-is .wf }; standing = fresh-is .list; past = fresh-is .past; shows = s } in
-    let same = a .met _ [] (represented stood) .answer alone stood in
-    subst (λ (x : Answer). DayAnswer p d (x .count) (x .comparisons) (x .numbers)) (sym same)
+    subst (λ (x : Answer). DayAnswer p d (x .count) (x .comparisons) (x .numbers)) (sym (a .answer alone [] s))
     (answers alone (asking (Ask (Day d)) days ns []) (s .good) room d)

@@ -3,7 +3,7 @@ use Rattle.basis.proofs.Prelude.{_∙_, _≡_, ap, refl, sym, _*_, _<_, ℕ, Li
 use Rattle.fields.specs.Fields.{numberText, numbersText}
 use Rattle.fields.specs.Answers.{Puts}
 use Rattle.model.specs.Questions.{onDay, listed, comparisonsOf}
-use Rattle.service.specs.Service.{Shows, Published}
+use Rattle.published_index.specs.Index.{Shows, Published}
 use Rattle.spell.specs.declared.Spell.{Spell}
 use Rattle.replies.specs.Sending.{Sends}
 use Rattle.replies.proofs.Sending.{put-end, put-sends, on-number, on-numbers}

@@ -6,7 +6,8 @@ use Rattle.model.specs.declared.Call.the-variants.{Publish}
 use Rattle.model.specs.Effects.{settle}
 use Rattle.model.specs.Publishing.{publishedOf}
 use Rattle.model.specs.Model.{begun, refusalIn, effectOf, step}
-use Rattle.service.specs.Service.{Shows, Published, asking}
+use Rattle.outcomes.specs.Outcomes.{asking}
+use Rattle.published_index.specs.Index.{Shows, Published}
 use Rattle.replies.proofs.Sending.{sends-bytes, sends-put}
 use Rattle.gathering.specs.Gathering.{Appends, Appended}
 use Rattle.gathering.proofs.Gathering.{appended-room}

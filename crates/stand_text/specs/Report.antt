@@ -11,7 +11,7 @@ use Rattle.spell.specs.declared.Spell.{Spell}
 use Rattle.register.specs.Text.{good, readText}
 use Rattle.model.specs.Publishing.{publishedOf}
 use Rattle.model.specs.Questions.{onDay, listed, comparisonsOf}
-use Rattle.service.specs.Service.{Shows}
+use Rattle.published_index.specs.Index.{Shows}
 use Rattle.replies.specs.Sending.{Sends}
 use Rattle.stand_text.specs.declared.Part.{Part}
 

@@ -1,5 +1,5 @@
 // What the program `stand` prints: each line put into the last places of a buffer, and the whole text in parts of many lines.
-ghost use Rattle.service.specs.Service.{Published};
+ghost use Rattle.published_index.specs.Index.{Published};
 ghost use Rattle.stand_text.specs.Report.{DayEnds, PartStands};
 use stabbing::INDEX;
 
@@ -14,7 +14,7 @@ pub fn day_line(index: &[u16; INDEX], d: u16, buf: &mut [u8; LINE]) -> usize
     ensures { λ r. ⌜ DayEnds (now (index .entry)) d (now (buf .entry)) r (now (buf .exit)) ⌝ }
 {
     let mut numbers = [0u16; 1024];
-    let o = service::day(index, d, &mut numbers);
+    let o = questions::day(index, d, &mut numbers);
     let k = o.count;
     let comparisons = o.comparisons;
     let at_numbers = decimals::put_numbers(buf, LINE, &numbers[..k]);

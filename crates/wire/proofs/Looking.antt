@@ -4,10 +4,14 @@ use Rattle.buffer.specs.Buffer.{over}
 use Rattle.model.specs.declared.Call.the-variants.{Ask}
 use Rattle.model.specs.declared.Question.{Question}
 use Rattle.standing.proofs.Calls.{fresh-is}
+use Rattle.outcomes.specs.declared.Outcome.{Outcome}
+use Rattle.outcomes.specs.Outcomes.{asking, answerOf}
+use Rattle.published_index.specs.Index.{Published}
+use Rattle.questions.specs.Asked.{Asked as AskedOf}
 use Rattle.service.specs.declared.Service.{Service}
-use Rattle.service.specs.declared.Outcome.{Outcome}
 use Rattle.service.specs.Places.{freshService}
-use Rattle.service.specs.Service.{Blocks, blocks, Published, Given, asking, keeping, answerOf, Asked as AskedOf}
+use Rattle.service.specs.Service.{Blocks, blocks, Given, keeping}
+use Rattle.service.proofs.Asking.{asked-met}
 use Rattle.requests.specs.declared.Request.{Request}
 use Rattle.requests.specs.declared.Request.the-variants.{Call as RequestCall, Room as RequestRoom, Malformed as RequestMalformed}
 use Rattle.requests.specs.Requests.{Asked, asksCall, asksRoom, malformed, askedOf, daysOf}
@@ -28,13 +32,13 @@ use Rattle.wire.proofs.Turns.{turn-call, turn-room, turn-malformed}
 fresh-given : {ix : List ℕ} → Published ix → Given freshService (blocks ix)
 fresh-given p = record { valid = record { standing = fresh-is .wf }; published = p }
 
-module _ {ix : List ℕ} {w : Question} {days numbers : List ℕ} {o : Outcome} {numbers′ : List ℕ} (text : List ℕ) (a : AskedOf (blocks ix) w days numbers o numbers′) where
+module _ {ix : List ℕ} {w : Question} {days numbers : List ℕ} {o : Outcome} {numbers′ : List ℕ} (text : List ℕ) (a : AskedOf ix w days numbers o numbers′) where
   pub asked-fits : Published ix → Fits (answerOf o numbers′ text)
-  asked-fits p = fits freshService (blocks ix) (fresh-given p) (asking (Ask w) days numbers text) (keeping freshService o) (blocks ix) numbers′ text (a .met freshService text (fresh-given p))
+  asked-fits p = fits freshService (blocks ix) (fresh-given p) (asking (Ask w) days numbers text) (keeping freshService o) (blocks ix) numbers′ text (asked-met a freshService text (fresh-given p))
 
   pub ask-turned : {room : ℕ} {out out′ : List ℕ} {place : ℕ} → room ≤ 65536 → length numbers ≡ room → length text ≡ room → Sends (callText (Ask w) (answerOf o numbers′ text)) out place out′
       → AskTurn (blocks ix) w days numbers text room out place numbers′ out′
-  ask-turned {room} top en et s sv g = called sv (blocks ix) (Ask w) days numbers text room top en et (keeping sv o) (blocks ix) numbers′ text _ _ _ (a .met sv text g) s
+  ask-turned {room} top en et s sv g = called sv (blocks ix) (Ask w) days numbers text room top en et (keeping sv o) (blocks ix) numbers′ text _ _ _ (asked-met a sv text g) s
 
 -- ---- a request that is parsed
 module _ (days : List ℕ) {bs : Blocks} {room : ℕ} {numbers text out out′ : List ℕ} {place : ℕ} where

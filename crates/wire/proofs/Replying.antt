@@ -4,7 +4,8 @@ use Rattle.model.specs.declared.Call.{Call}
 use Rattle.model.specs.Model.{State, Request, Answer, step}
 use Rattle.service.specs.declared.Service.{Service}
 use Rattle.service.specs.declared.Stepped.{Stepped}
-use Rattle.service.specs.Service.{Blocks, Given, asking, answerOf, Met}
+use Rattle.outcomes.specs.Outcomes.{asking, answerOf}
+use Rattle.service.specs.Service.{Blocks, Given, Met}
 use Rattle.service.proofs.Represented.{stateOf, stands}
 use Rattle.replies.specs.Replies.{callText}
 use Rattle.replies.specs.Sending.{Sends, Fits}

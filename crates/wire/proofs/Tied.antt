@@ -4,7 +4,8 @@ use Rattle.basis.proofs.Prelude.{_≡_, refl, ℕ, List}
 use contract.Lifetimes.{Lfts}
 use denote.Ref.{RefT, now}
 use Rattle.service.specs.declared.Service.{Service}
-use Rattle.service.specs.Service.{blocks, Published, Given}
+use Rattle.published_index.specs.Index.{Published}
+use Rattle.service.specs.Service.{blocks, Given}
 use Rattle.wire.specs.declared.Answered.{Answered}
 use Rattle.wire.specs.declared.Looked.{Looked}
 use Rattle.wire.specs.declared.Wanted.{Wanted}

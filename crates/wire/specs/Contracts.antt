@@ -8,7 +8,8 @@ use Rattle.model.specs.declared.Call.the-variants.{Ask}
 use Rattle.model.specs.declared.Question.{Question}
 use Rattle.model.specs.Model.{State, Request, step}
 use Rattle.service.specs.declared.Service.{Service}
-use Rattle.service.specs.Service.{Blocks, Represents, Given, asking}
+use Rattle.outcomes.specs.Outcomes.{asking}
+use Rattle.service.specs.Service.{Blocks, Represents, Given}
 use Rattle.wire.specs.declared.Answered.{Answered}
 use Rattle.wire.specs.Conversation.{callOf, turnBy}
 use Rattle.wire.specs.Answering.{Turned, beside}

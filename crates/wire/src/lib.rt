@@ -7,7 +7,9 @@ ghost use Rattle.requests.specs.Requests.{asksCall};
 ghost use Rattle.requests.specs.Parsing.{askedFrom, daysIn, roomIn};
 ghost use Rattle.wire.specs.Answering.{Restarted, Answers, Carries, askedIn, LooksAt, Looks, roomOf};
 ghost use Rattle.wire.specs.Contracts.{CallTurn, AskTurn, least};
-ghost use Rattle.service.specs.Service.{blocks, Published, Given, asking};
+ghost use Rattle.outcomes.specs.Outcomes.{asking};
+ghost use Rattle.published_index.specs.Index.{Published};
+ghost use Rattle.service.specs.Service.{blocks, Given};
 use model::Call;
 use model::Question;
 use refusal::ACCEPTED;
@@ -72,7 +74,7 @@ fn ask_turn(
     requires { ⌜ (room ≤ 65536) × (length (now numbers) ≡ room) × (length (now text) ≡ room) ⌝ }
     ensures { λ r. ⌜ AskTurn (blocks (now (index .entry))) question (now (days .entry)) (now (numbers .entry)) (now (text .entry)) room (now (out .entry)) r (now (numbers .exit)) (now (out .exit)) ⌝ }
 {
-    let o = service::ask(index, question, days, numbers);
+    let o = questions::ask(index, question, days, numbers);
     replies::put_reply(out, Call::Ask(question), o, numbers, text)
 }
 

@@ -1,6 +1,6 @@
 -- `service::step` meets its contract: each call's own postcondition is that of `step`. Assumes nothing.
 use Rattle.basis.proofs.Prelude.{needs}
-use Rattle.service.proofs.Asking.{as-call}
+use Rattle.service.proofs.Asking.{as-call, asked-met}
 use Rattle.service.proofs.Beginning.{publishes-met}
 use Rattle.service.proofs.step.Statement.{statement}
 use Rattle.service.proofs.step.Tie as tie
@@ -29,4 +29,4 @@ step-spec =
     (λ c. rw (c .answered .ensures) (as-call (c .before .before .before .before .before .enum-told2 .given .1) (c .before .before .before .write .ensures .met _ _ _ (c .before .before .before .before .before .before .before .before .before .before .pre))))
     (λ c. search needs)
     -- ask
-    (λ c. rw (c .answered2 .ensures) (as-call (c .before .before .before .before .before .before .before .call5 .given .1) (c .before .before .before .ask .ensures .met _ _ (c .before .before .before .before .before .before .before .before .before .before .before .before .pre)))))
+    (λ c. rw (c .answered2 .ensures) (as-call (c .before .before .before .before .before .before .before .call5 .given .1) (asked-met (c .before .before .before .ask .ensures) _ _ (c .before .before .before .before .before .before .before .before .before .before .before .before .pre)))))

@@ -1,7 +1,7 @@
 -- `stand_text::day_line` meets its contract: the answer of the day's question, put from its last number to the day. Assumes nothing.
 use Rattle.basis.proofs.Prelude.{_≡_, sym, _<_, _≤_, List, [], length, take, length-take-le, arith, needs}
 use Rattle.spell.specs.declared.Spell.{Spell}
-use Rattle.service.specs.Service.{Shows}
+use Rattle.published_index.specs.Index.{Shows}
 use Rattle.stand_text.proofs.Asked.{DayAnswer, day-tells}
 use Rattle.stand_text.proofs.Lines.{day-none, day-some, day-ends}
 use Rattle.stand_text.proofs.day_line.Statement.{statement}

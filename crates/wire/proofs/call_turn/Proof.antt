@@ -1,6 +1,6 @@
 -- `wire::call_turn` meets its contract. Assumes nothing.
 use Rattle.basis.proofs.Prelude.{arith, needs}
-use Rattle.service.specs.Service.{asking}
+use Rattle.outcomes.specs.Outcomes.{asking}
 use Rattle.wire.proofs.Replying.{fits, called}
 use Rattle.wire.proofs.call_turn.Statement.{statement}
 use Rattle.wire.proofs.call_turn.Tie as tie

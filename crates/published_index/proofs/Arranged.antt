@@ -1,0 +1,113 @@
+-- Rows that hold the fields of spells, put in the order, are the rows of the sorted list. Assumes nothing.
+use Rattle.basis.proofs.Prelude.{_∙_, _≡_, ap, refl, sym, _≤_, _<_, zero, suc, ℕ, List, [], _∷_, map, Bool, cond, false, true, eqb, ltb, getD, getD-take, zero-add, length, take, take-all, decLe, arith, eq-eqb, eqb-false, eqb-true, le-ltb, lt-ltb, ltb-false, ltb-true, ne-eqb, by-test}
+use Rattle.columns.specs.Columns.{positions}
+use Rattle.columns.proofs.Filling.{positions-at, positions-length, positions-below, reads}
+use Rattle.orders.specs.Orders.{lexical, sortedBy}
+use Rattle.orders.proofs.Each.{Each, map-same, map-map, map-at}
+use Rattle.orders.proofs.Sorting.{each-sorted, sorted-map, sorted-same}
+use Rattle.arranging.specs.Arranged.{byMinor, byBoth, arranged}
+use Rattle.arranging.proofs.Orders.{by-major, by-place}
+use Rattle.publishing.specs.Rows.{paired, rowKey, keyAt, rowKeys, rowOrder, arrangedColumn}
+use Rattle.spell.specs.declared.Spell.{Spell}
+use Rattle.spell.specs.Blank.{blank}
+use Rattle.spell.specs.Order.{listedBefore}
+use Rattle.spell.specs.Listing.{distinct, Sound}
+use Rattle.spell.specs.Listing.{Each as Every}
+use Rattle.spell.proofs.Entered.{entered}
+use Rattle.published_index.proofs.Numbers.{differ}
+
+-- two numbers in one decide as the two do
+pair-decides : (f l g m : ℕ) (r : Bool) → l < 65536 → m < 65536
+    → cond (eqb (paired f l) (paired g m)) r (ltb (paired f l) (paired g m)) ≡ cond (eqb f g) (cond (eqb l m) r (ltb l m)) (ltb f g)
+pair-decides f l g m r hl hm = by-test (eqb f g)
+    (λ e.
+    let z : f ≡ g = eqb-true f g e in
+    by-test (eqb l m)
+    (λ d. let y : l ≡ m = eqb-true l m d in rw (e, d, eq-eqb (paired f l) (paired g m) (omega arith)))
+    (λ d. let y : l ≡ m → ⊥ = eqb-false l m d in rw (e, d, ne-eqb (paired f l) (paired g m) (λ w. y (omega arith))) (below z)))
+    (λ e. let z : f ≡ g → ⊥ = eqb-false f g e in rw (e, ne-eqb (paired f l) (paired g m) (λ w. z (omega arith))) (apart z))
+  where
+    below : f ≡ g → ltb (paired f l) (paired g m) ≡ ltb l m
+    below z = elim (decLe m l) [
+      | yes d ↦ le-ltb (paired f l) (paired g m) (omega arith) ∙ sym (le-ltb l m d)
+      | no d ↦ lt-ltb (paired f l) (paired g m) (omega arith) ∙ sym (lt-ltb l m (omega arith))
+    ]
+
+    apart : (f ≡ g → ⊥) → ltb (paired f l) (paired g m) ≡ ltb f g
+    apart z = elim (decLe g f) [
+      | yes d ↦ le-ltb (paired f l) (paired g m) (omega arith) ∙ sym (le-ltb f g d)
+      | no d ↦ lt-ltb (paired f l) (paired g m) (omega arith) ∙ sym (lt-ltb f g (omega arith))
+    ]
+
+-- a spell of the list, by position
+abbrev row : List Spell → ℕ → Spell
+row l p = getD l p blank
+
+-- last day and candidate have 16 bits
+abbrev Short : List Spell → ℕ → Type 0
+Short l p = (row l p .last < 65536) × (row l p .candidate < 65536)
+
+-- as those of sound spells have
+pub short-rows : (l : List Spell) → Every Sound l → (p : ℕ) → p < length l → Short l p
+unfolding Every
+short-rows [] g p h = absurd (omega arith)
+short-rows (x ∷ l) g zero h = (omega (arith, entered x (g .0 .entered) .last-day), omega (arith, g .0 .named))
+short-rows (x ∷ l) g (suc p) h = short-rows l (g .1) p (omega arith)
+
+-- a column holds a field of the spells
+abbrev pub Holds : (Spell → ℕ) → List Spell → List ℕ → Type 0
+Holds f l c = (p : ℕ) → p < length l → getD c p 0 ≡ f (row l p)
+
+-- a column whose first places are the field
+pub holds : (f : Spell → ℕ) (l : List Spell) (c : List ℕ) → take (length l) c ≡ map f l → Holds f l c
+holds f l c e p h = sym (getD-take (length l) c p 0 h) ∙ ap (λ (m : List ℕ). getD m p 0) e ∙ map-at f l p blank 0 h
+
+module _ (l : List Spell) (unique : distinct l ≡ true) (short : (p : ℕ) → p < length l → Short l p)
+    (ns cs fs ls : List ℕ) (numbered : Holds (λ s. s .number) l ns) (named : Holds (λ s. s .candidate) l cs) (begun : Holds (λ s. s .first) l fs) (ended : Holds (λ s. s .last) l ls) where
+  abbrev n : ℕ
+  n = length l
+
+  key-at : (p : ℕ) → p < n → getD (rowKeys cs fs ls n) p 0 ≡ rowKey (row l p .first) (row l p .last) (row l p .candidate)
+  key-at p h =
+      map-at (keyAt cs fs ls) (positions 0 n) p 0 0 (omega (arith, positions-length 0 n))
+      ∙ rw (positions-at 0 n p h, zero-add p, begun p h, ended p h, named p h)
+
+  -- two spells of one number are one
+  one : (p q : ℕ) → p < n → q < n → row l p .number ≡ row l q .number → p ≡ q
+  one p q h k e = elim (decLe p q) [
+    | yes d ↦ elim (decLe q p) [ yes c ↦ omega arith | no c ↦ absurd (differ l unique q p (omega arith) k e) ]
+    | no d ↦ absurd (differ l unique p q (omega arith) h (sym e))
+  ]
+
+  by-number : (p q : ℕ) → p < n → q < n → byMinor ns p q ≡ cond (eqb (row l p .number) (row l q .number)) false (ltb (row l p .number) (row l q .number))
+  by-number p q h k =
+      by-place ns p q ∙ rw (numbered p h, numbered q k) (by-test (eqb (row l p .number) (row l q .number))
+      (λ e. rw e (le-ltb p q (omega (arith, one p q h k (eqb-true (row l p .number) (row l q .number) e)))))
+      (λ e. rw e))
+
+  agree : (p q : ℕ) → p < n → q < n → byBoth (rowKeys cs fs ls n) ns p q ≡ listedBefore (row l p) (row l q)
+  unfolding listedBefore lexical
+  agree p q h k =
+      by-major (rowKeys cs fs ls n) ns p q
+      ∙ rw (key-at p h, key-at q k, by-number p q h k) (
+      pair-decides (paired (row l p .first) (row l p .last)) (row l p .candidate) (paired (row l q .first) (row l q .last)) (row l q .candidate) _ (short p h .1) (short q k .1)
+      ∙ pair-decides (row l p .first) (row l p .last) (row l q .first) (row l q .last) _ (short p h .0) (short q k .0)
+      )
+
+  rows-are : map (row l) (rowOrder ns cs fs ls n) ≡ sortedBy listedBefore l
+  unfolding rowOrder arranged
+  rows-are =
+      ap (map (row l)) (sorted-same (byBoth (rowKeys cs fs ls n) ns) (λ p q. listedBefore (row l p) (row l q)) (λ p. p < n) agree (positions 0 n) (positions-below n))
+      ∙ sym (sorted-map listedBefore (row l) (positions 0 n))
+      ∙ ap (sortedBy listedBefore) (reads blank l n (omega arith) ∙ take-all n l (omega arith))
+
+  rows-below : Each (λ p. p < n) (rowOrder ns cs fs ls n)
+  unfolding rowOrder arranged
+  rows-below = each-sorted (byBoth (rowKeys cs fs ls n) ns) (λ p. p < n) (positions 0 n) (positions-below n)
+
+  -- a column of the rows, in the order
+  pub column-is : (f : Spell → ℕ) (c : List ℕ) → Holds f l c → arrangedColumn ns cs fs ls n c ≡ map f (sortedBy listedBefore l)
+  column-is f c held =
+      map-same (λ p. getD c p 0) (λ p. f (row l p)) (λ p. p < n) held (rowOrder ns cs fs ls n) rows-below
+      ∙ sym (map-map f (row l) (rowOrder ns cs fs ls n))
+      ∙ ap (map f) rows-are

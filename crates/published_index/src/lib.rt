@@ -1,0 +1,36 @@
+// The index of a published list: that of nobody, and that of a standing list by a rule.
+ghost use mathlib.Core.Path.{_≡_};
+ghost use mathlib.Core.List.{[]};
+ghost use Rattle.standing.specs.Standing.{Wf, listOf};
+ghost use Rattle.model.specs.Publishing.{publishedOf};
+ghost use Rattle.published_index.specs.Index.{indexOf};
+use stabbing::INDEX;
+use standing::Standing;
+
+// The index of nobody: nothing is published in it.
+pub fn fresh(index: &mut [u16; INDEX])
+    ensures { λ _. ⌜ now (index .exit) ≡ indexOf [] ⌝ }
+{
+    let none = [0u16; 1024];
+    stabbing_index::build(&none, &none, &none, 0, index);
+}
+
+// The index of the standing list with a rule's days, in the order of the answers.
+pub fn lay(standing: Standing, rule: u16, index: &mut [u16; INDEX])
+    requires { ⌜ Wf standing ⌝ }
+    ensures { λ _. ⌜ now (index .exit) ≡ indexOf (publishedOf rule (listOf standing)) ⌝ }
+{
+    let mut number = [0u16; 1024];
+    let mut candidate = [0u16; 1024];
+    let mut first = [0u16; 1024];
+    let mut last = [0u16; 1024];
+    let n = standing::columns(
+        standing,
+        rule,
+        &mut number,
+        &mut candidate,
+        &mut first,
+        &mut last,
+    );
+    publishing::lay(&number, &candidate, &first, &last, n, index);
+}
