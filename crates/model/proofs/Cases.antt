@@ -1,6 +1,6 @@
 -- Document 01's register A, M1 and M2 run through the account: what each call answers, computed. Assumes nothing.
 use Rattle.basis.proofs.Prelude.{_≡_, refl, suc, zero, ℕ, List, [], _++_, _∷_, map, false, true, replicate, take}
-use Rattle.model.proofs.Names.{binary32, isNan, toBits, ofBits, Urgency, Grade, Reading, Spell, listedBefore, earlierOf, stands, sameReading, sameOf, below, keep, count, head, parent, child, leftSibling, lastChild, fitsAt, start, onPath, formula, Call, Enter, Amend, Strike, TakeBack, Publish, Ask, sortedBy, lastOf, remove, idle, enterRefusal, amendRefusal, strikeRefusal, remember, publishedOf, daysOk, isSet, ticksFrom, onAny, rising, filter, comparisonsOf, settle, fresh, takeBack, cover, ask, effectOf, run, Request, Answer}
+use Rattle.model.proofs.Names.{binary32, isNan, toBits, ofBits, Urgency, Grade, Reading, Spell, listedBefore, earlierOf, stands, sameOf, below, keep, count, head, parent, child, leftSibling, lastChild, fitsAt, start, onPath, formula, Call, Enter, Amend, Strike, TakeBack, Publish, Ask, sortedBy, lastOf, remove, idle, enterRefusal, amendRefusal, strikeRefusal, remember, publishedOf, daysOk, isSet, ticksFrom, onAny, rising, filter, comparisonsOf, settle, fresh, takeBack, cover, ask, effectOf, run, Request, Answer}
 use Rattle.model.specs.declared.Question.the-variants.{Day, Span, Cover, Days, Mask}
 use Rattle.stabbing.specs.Tree.{next}
 use Rattle.model.specs.Edits.{insertBy}
@@ -290,7 +290,7 @@ saving = call (Enter one)
     ∷ [])
 
 pub saves : map (λ (a : Answer). a .refusal) (run fresh saving) ≡ replicate 67 0 ++ (5 ∷ 5 ∷ 0 ∷ 0 ∷ 0 ∷ 0 ∷ 9 ∷ [])
-unfolding run settle effectOf takeBack enterRefusal amendRefusal insertBy publishedOf lastOf sortedBy listedBefore remove remember earlierOf stands idle sameOf sameReading isNan toBits ofBits
+unfolding run settle effectOf takeBack enterRefusal amendRefusal insertBy publishedOf lastOf sortedBy listedBefore remove remember earlierOf stands idle sameOf isNan toBits ofBits
 saves = refl
 
 -- What is idle: the spell that stands, and none that differs in one field.
@@ -299,5 +299,5 @@ pub idles : map (idle (one ∷ spell 12 8 3 4 (Reading (ofBits binary32 0x3F80_0
     ∷ spell 13 7 1 10 (Grade 2) ∷ spell 11 8 1 10 (Grade 2) ∷ spell 11 7 2 10 (Grade 2) ∷ spell 11 7 1 11 (Grade 2) ∷ spell 11 7 1 10 (Grade 3)
     ∷ measured 0 ∷ spell 12 8 3 4 (Reading (ofBits binary32 0x3F80_0001)) ∷ spell 12 8 3 4 (Grade 2) ∷ [])
     ≡ true ∷ true ∷ replicate 8 false
-unfolding idle sameOf sameReading isNan toBits ofBits
+unfolding idle sameOf isNan toBits ofBits
 idles = refl

@@ -40,12 +40,12 @@ pub use Rattle.spell.specs.Listing.{Good, HeldUrgency, Orderly, OrderlyBy, Soun
 unfoldable pub use Rattle.spell.specs.Listing.{Each, distinct, stands}
 unfoldable pub use Rattle.spell.specs.Order.{earlierOf, listedBefore, orderedBy}
 pub use Rattle.spell.specs.Same.{sameUrgency}
-unfoldable pub use Rattle.spell.specs.Same.{sameOf, sameReading}
+unfoldable pub use Rattle.spell.specs.Same.{sameOf}
 pub use Rattle.spell.specs.declared.Spell.{Spell}
 pub use Rattle.spell.specs.declared.Urgency.{Urgency}
 pub use Rattle.spell.specs.declared.Urgency.the-variants.{Grade, Reading}
 pub use Rattle.stabbing.proofs.Marks.{keep-hit, keep-miss}
 pub use Rattle.stabbing.proofs.Walk.{formula-le}
 unfoldable pub use Rattle.stabbing.specs.Tree.{below, child, count, fitsAt, formula, head, keep, lastChild, leftSibling, onPath, parent, start}
-pub use lib.Ieee.{Float, binary32}
+pub use lib.Ieee.{binary32}
 unfoldable pub use lib.Ieee.{isNan, ofBits, toBits}

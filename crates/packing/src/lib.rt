@@ -25,7 +25,7 @@ fn value_of(u: Urgency) -> u32
 {
     match u {
         Urgency::Grade(g) => g as u32,
-        Urgency::Reading(x) => spell::bits_of(x),
+        Urgency::Reading(x) => readings::bits_of(x),
     }
 }
 
@@ -34,7 +34,7 @@ pub fn urgency_of(kind: u16, value: u32) -> Urgency
     ensures { λ r. ⌜ r ≡ urgencyOf kind value ⌝ }
 {
     if kind == 1 {
-        return Urgency::Reading(spell::reading_of(value));
+        return Urgency::Reading(readings::reading_of(value));
     }
     if kind != 0 {
         return Urgency::Grade(0);
@@ -94,10 +94,10 @@ pub fn spell_at(words: &[u16], at: usize) -> Spell
     ensures { λ r. ⌜ r ≡ spellOf (drop at (now (words .entry))) ⌝ }
 {
     if words.len() < 7 {
-        return spell::blank();
+        return spell_checks::blank();
     }
     if words.len() - 7 < at {
-        return spell::blank();
+        return spell_checks::blank();
     }
     let value = join(words[at + 5], words[at + 6]);
     let urgency = urgency_of(words[at + 4], value);
@@ -131,7 +131,7 @@ pub fn put_spells(spells: [Spell; 1024], out: &mut [u16])
 pub fn spells_at(words: &[u16]) -> [Spell; 1024]
     ensures { λ r. ⌜ r ≡ parts 7 spellOf 1024 (now (words .entry)) ⌝ }
 {
-    let mut spells = [spell::blank(); 1024];
+    let mut spells = [spell_checks::blank(); 1024];
     let mut i = 0;
     while i < 1024 {
         spells[i] = spell_at(words, 7 * i);

@@ -74,7 +74,7 @@ fn read_value(text: &[u8], at: usize, letter: u16) -> Kind
     let Length::Value(n, next) = hex::read_bits(text, at, LF) else {
         return Kind::Malformed;
     };
-    let x = spell::reading_of(n as u32);
+    let x = readings::reading_of(n as u32);
     Kind::Value(Urgency::Reading(x), next)
 }
 
@@ -113,7 +113,7 @@ pub fn read_line(text: &[u8], at: usize) -> Line
 fn refuse(number: u16, line: u16) -> Reading
     ensures { λ r. ⌜ r ≡ readingOf (bad number line) ⌝ }
 {
-    let none = spell::blank();
+    let none = spell_checks::blank();
     Reading {
         spells: [none; 1024],
         count: 0,
@@ -129,7 +129,7 @@ pub fn read(text: &[u8]) -> Reading
     if text.len() > 65536 {
         return refuse(MALFORMED, 0);
     }
-    let none = spell::blank();
+    let none = spell_checks::blank();
     let mut spells = [none; 1024];
     let mut seen = [false; 65536];
     let mut before = none;
@@ -140,7 +140,7 @@ pub fn read(text: &[u8]) -> Reading
         let Line::Value(s, next) = read_line(text, at) else {
             return refuse(MALFORMED, line);
         };
-        let e = spell::refusal_of(s);
+        let e = spell_checks::refusal_of(s);
         if e != ACCEPTED {
             return refuse(e, line);
         }
@@ -148,7 +148,7 @@ pub fn read(text: &[u8]) -> Reading
         if seen[n] {
             return refuse(DUPLICATE_NUMBER, line);
         }
-        if !spell::earlier(before, s) {
+        if !spell_checks::earlier(before, s) {
             return refuse(OUT_OF_ORDER, line);
         }
         if count == 1024 {

@@ -43,14 +43,14 @@ struct Judged {
 fn judge(text: &[u8], at: usize, seen: &[bool; 65536], count: usize) -> Judged
     ensures { λ r. ⌜ Judges (now (text .entry)) at (now (seen .entry)) count r ⌝ }
 {
-    let none = spell::blank();
+    let none = spell_checks::blank();
     let Line::Value(s, _) = register_read::read_line(text, at) else {
         return Judged {
             number: MALFORMED,
             spell: none,
         };
     };
-    let e = spell::refusal_of(s);
+    let e = spell_checks::refusal_of(s);
     if e != ACCEPTED {
         return Judged {
             number: e,
@@ -90,7 +90,7 @@ fn sift_lines(text: &[u8], met: &mut [u16]) -> Sifted
     requires { ⌜ (length (now text) ≤ 65536) × (length (now text) ≤ length (now met)) ⌝ }
     ensures { λ r. ⌜ Sifts (now (text .entry)) (now (met .entry)) r (now (met .exit)) ⌝ }
 {
-    let none = spell::blank();
+    let none = spell_checks::blank();
     let mut spells = [none; 1024];
     let mut seen = [false; 65536];
     let mut count: usize = 0;

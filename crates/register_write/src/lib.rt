@@ -34,7 +34,7 @@ fn put_urgency(buf: &mut [u8; 35840], at: usize, u: Urgency) -> usize
             fields::put_byte(buf, j, LETTER_G)
         }
         Urgency::Reading(x) => {
-            let n = spell::bits_of(x);
+            let n = readings::bits_of(x);
             let i = hex::put_bits(buf, at, n, LF);
             let j = fields::put_byte(buf, i, TAB);
             fields::put_byte(buf, j, LETTER_C)

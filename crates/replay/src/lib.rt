@@ -61,7 +61,7 @@ fn urgency_of(kind: u64, value: u64) -> Urgency
     if kind == 0 {
         return Urgency::Grade(low(value));
     }
-    Urgency::Reading(spell::reading_of((value % 4294967296) as u32))
+    Urgency::Reading(readings::reading_of((value % 4294967296) as u32))
 }
 
 fn word_at(codes: &[u64], k: usize, j: usize) -> u64

@@ -1,28 +1,21 @@
 -- `sameOf` says that two spells are equal. Assumes nothing.
-use Rattle.basis.proofs.Prelude.{_∙_, _≡_, ap, sym, ℕ, _&&_, not, T, eqb, eqb→eq, by-test}
-use lib.Ieee.{Float, binary32, isNan, toBits, ofBits, fits}
+use Rattle.basis.proofs.Prelude.{_∙_, _≡_, ap, sym, ℕ, _&&_, T, eqb, eqb→eq}
+use lib.Ieee.{binary32, toBits, ofBits}
 use lib.Ieee.Bits.{ofBits-toBits}
 use lib.Ieee.Fits.{and-l, and-r}
 use Rattle.spell.specs.declared.Urgency.{Urgency}
 use Rattle.spell.specs.declared.Urgency.the-variants.{Grade, Reading}
 use Rattle.spell.specs.declared.Spell.{Spell}
-use Rattle.spell.specs.Same.{sameReading, sameUrgency, sameOf}
+use Rattle.spell.specs.Same.{sameUrgency, sameOf}
 use Rattle.spell.specs.Listing.{HeldUrgency}
-use Rattle.spell.proofs.Floats.{is-nan}
-
-pub reading-same : (x y : Float) → T (fits binary32 x) → T (fits binary32 y) → T (sameReading x y) → x ≡ y
-unfolding sameReading
-reading-same x y fx fy t =
-    by-test (isNan x) (λ e. is-nan x (rw e tt) ∙ sym (is-nan y (rw e at t)))
-    (λ e.
-    let same = eqb→eq (toBits binary32 x) (toBits binary32 y) (and-r (not (isNan y)) (eqb (toBits binary32 x) (toBits binary32 y)) (rw e at t)) in
-    sym (ofBits-toBits binary32 x fx) ∙ ap (ofBits binary32) same ∙ ofBits-toBits binary32 y fy)
 
 pub urgency-same : (u v : Urgency) → HeldUrgency u → HeldUrgency v → T (sameUrgency u v) → u ≡ v
 urgency-same (Grade g) (Grade h) a b t = ap Grade (eqb→eq g h t)
 urgency-same (Grade g) (Reading y) a b t = absurd t
 urgency-same (Reading x) (Grade h) a b t = absurd t
-urgency-same (Reading x) (Reading y) a b t = ap Reading (reading-same x y a b t)
+urgency-same (Reading x) (Reading y) a b t =
+    let same = eqb→eq (toBits binary32 x) (toBits binary32 y) t in
+    ap Reading (sym (ofBits-toBits binary32 x a) ∙ ap (ofBits binary32) same ∙ ofBits-toBits binary32 y b)
 
 abbrev mk : ℕ → ℕ → ℕ → ℕ → Urgency → Spell
 mk n c f l u = record { number = n; candidate = c; first = f; last = l; urgency = u }

@@ -1,4 +1,3 @@
-pub mod Floats
 pub mod Equal
 pub mod Entered
 pub mod Listing

@@ -44,7 +44,7 @@ pub struct Edited {
 pub fn fresh() -> Standing
     ensures { λ r. ⌜ Fresh r ⌝ }
 {
-    let none = spell::blank();
+    let none = spell_checks::blank();
     let entry = standing_journal::none();
     Standing {
         spells: [none; 1024],
@@ -153,7 +153,7 @@ pub fn enter(st: Standing, s: Spell) -> Edited
     let p = standing_list::find(spells, n, Sought::Number(number));
     let taken = refusal_if(p < n, DUPLICATE_NUMBER);
     let full = refusal_if(n >= 1024, FULL);
-    let refusal = first_of(spell::refusal_of(s), first_of(taken, full));
+    let refusal = first_of(spell_checks::refusal_of(s), first_of(taken, full));
     if refusal != ACCEPTED {
         return Edited {
             standing: st,
@@ -182,7 +182,10 @@ pub fn amend(st: Standing, s: Spell) -> Edited
     let number = s.number;
     let spells = st.spells;
     let p = standing_list::find(spells, n, Sought::Number(number));
-    let refusal = first_of(spell::refusal_of(s), refusal_if(p >= n, UNKNOWN_NUMBER));
+    let refusal = first_of(
+        spell_checks::refusal_of(s),
+        refusal_if(p >= n, UNKNOWN_NUMBER),
+    );
     if refusal != ACCEPTED {
         return Edited {
             standing: st,
@@ -190,7 +193,7 @@ pub fn amend(st: Standing, s: Spell) -> Edited
         };
     }
     let old = st.spells[p];
-    if spell::same(old, s) {
+    if spell_checks::same(old, s) {
         return Edited {
             standing: st,
             refusal: ACCEPTED,

@@ -21,7 +21,7 @@ pub fn none() -> Undo
     Undo {
         number: 0,
         stood: false,
-        spell: spell::blank(),
+        spell: spell_checks::blank(),
     }
 }
 

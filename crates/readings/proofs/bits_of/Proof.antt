@@ -1,10 +1,10 @@
--- `spell::bits_of` meets its contract. Assumes nothing.
+-- `readings::bits_of` meets its contract. Assumes nothing.
 use Rattle.basis.proofs.Prelude.{needs}
 use lib.Ieee.{toBits}
 use lib.Ieee.Compare.{differs-from-itself}
-use Rattle.spell.proofs.Floats.{no-nan}
-use Rattle.spell.proofs.bits_of.Statement.{statement}
-use Rattle.spell.proofs.bits_of.Tie as tie
+use Rattle.readings.proofs.Floats.{no-nan}
+use Rattle.readings.proofs.bits_of.Statement.{statement}
+use Rattle.readings.proofs.bits_of.Tie as tie
 
 pub bits-of-spec : {M : Type 1} → statement M
 unfolding toBits

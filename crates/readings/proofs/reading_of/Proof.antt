@@ -1,10 +1,10 @@
--- `spell::reading_of` meets its contract. Assumes nothing.
+-- `readings::reading_of` meets its contract. Assumes nothing.
 use Rattle.basis.proofs.Prelude.{_∙_, _≡_, refl, sym, needs, le-ltb, lt-ltb}
 use lib.Ieee.{nan, binary32, div, ofBits}
 use lib.Ieee.Bits.{nanBits-is, nanBits-above}
-use Rattle.spell.proofs.Floats.{is-nan}
-use Rattle.spell.proofs.reading_of.Statement.{statement}
-use Rattle.spell.proofs.reading_of.Tie as tie
+use Rattle.readings.proofs.Floats.{is-nan}
+use Rattle.readings.proofs.reading_of.Statement.{statement}
+use Rattle.readings.proofs.reading_of.Tie as tie
 
 no-number : div binary32 (ofBits binary32 0) (ofBits binary32 0) ≡ nan
 unfolding div ofBits

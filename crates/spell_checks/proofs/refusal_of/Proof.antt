@@ -1,8 +1,8 @@
--- `spell::refusal_of` meets its contract. Assumes nothing.
+-- `spell_checks::refusal_of` meets its contract. Assumes nothing.
 use Rattle.basis.proofs.Prelude.{_∙_, _≡_, sym, false, true, eqb, needs, eq-eqb, le-ltb, lt-ltb, ne-eqb, not-false, not-true}
 use Rattle.calendar.specs.Calendar.{isDay}
-use Rattle.spell.proofs.refusal_of.Statement.{statement}
-use Rattle.spell.proofs.refusal_of.Tie as tie
+use Rattle.spell_checks.proofs.refusal_of.Statement.{statement}
+use Rattle.spell_checks.proofs.refusal_of.Tie as tie
 
 -- what the tests that were passed leave: of the numbers, and of the days
 named : (c : tie.Else2) → let s = c .before .before .before .before .args .s in (eqb (s .number) 0 ≡ false) × (eqb (s .candidate) 0 ≡ false)
