@@ -1,3 +1,4 @@
 pub mod Sending
+pub mod Fitting
 pub mod Shapes
 pub mod Cases

@@ -5,7 +5,8 @@ ghost use lib.ListN.{length, take};
 ghost use Rattle.fields.specs.Answers.{Puts};
 ghost use Rattle.outcomes.specs.Outcomes.{answerOf};
 ghost use Rattle.replies.specs.Replies.{okText, malformedText, bytesText, refusedText, refusedLine, listedText, dashedText, severalText, tickedText, writtenText, questionShape, shapeOf, callText};
-ghost use Rattle.replies.specs.Sending.{Sends, Fits};
+ghost use Rattle.replies.specs.Sending.{Sends, fitsIn, replyText};
+ghost use Rattle.replies.specs.Contracts.{Fits};
 use model::Call;
 use model::Question;
 use outcomes::Outcome;
@@ -19,6 +20,11 @@ const DASH: u8 = 45;
 
 // The places of the list that is lent for an answer: every answer is shorter.
 pub const OUT: usize = 131072;
+
+// The most numbers of an answer, and the largest number that has a decimal.
+const MOST: usize = 1024;
+
+const LARGEST: usize = 65535;
 
 // The shape of an accepted call's answer.
 pub enum Shape {
@@ -162,8 +168,30 @@ fn shape_of(call: Call) -> Shape
     }
 }
 
-// The answer of any call.
-pub fn put_reply(out: &mut [u8; OUT], call: Call, o: Outcome, numbers: &[u16], text: &[u8]) -> usize
+// Whether every number of an answer has a decimal, and its lists have as many places as it says.
+fn fits(o: Outcome, numbers: usize, text: usize) -> bool
+    ensures { λ r. ⌜ r ≡ fitsIn o numbers text ⌝ }
+{
+    if o.count > MOST {
+        return false;
+    }
+    if o.count > numbers {
+        return false;
+    }
+    if o.comparisons > LARGEST {
+        return false;
+    }
+    if o.ticked > LARGEST {
+        return false;
+    }
+    if o.length > LARGEST {
+        return false;
+    }
+    o.length <= text
+}
+
+// The answer of a call that fits its lists.
+fn put_fitting(out: &mut [u8; OUT], call: Call, o: Outcome, numbers: &[u16], text: &[u8]) -> usize
     requires { ⌜ Fits (answerOf o (now numbers) (now text)) ⌝ }
     ensures { λ r. ⌜ Sends (callText call (answerOf o (now (numbers .entry)) (now (text .entry)))) (now (out .entry)) r (now (out .exit)) ⌝ }
 {
@@ -180,4 +208,14 @@ pub fn put_reply(out: &mut [u8; OUT], call: Call, o: Outcome, numbers: &[u16], t
         Shape::Several => put_several(out, k as u16, &numbers[..k]),
         Shape::Ticked => put_ticked(out, o.ticked as u16, k as u16, &numbers[..k]),
     }
+}
+
+// The answer of any call, and nothing where it does not fit its lists.
+pub fn put_reply(out: &mut [u8; OUT], call: Call, o: Outcome, numbers: &[u16], text: &[u8]) -> usize
+    ensures { λ r. ⌜ Sends (replyText call o (now (numbers .entry)) (now (text .entry))) (now (out .entry)) r (now (out .exit)) ⌝ }
+{
+    if fits(o, numbers.len(), text.len()) {
+        return put_fitting(out, call, o, numbers, text);
+    }
+    put_bytes(out, OUT, b"")
 }

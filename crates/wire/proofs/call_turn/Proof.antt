@@ -1,28 +1,23 @@
 -- `wire::call_turn` meets its contract. Assumes nothing.
 use Rattle.basis.proofs.Prelude.{arith, needs}
 use Rattle.outcomes.specs.Outcomes.{asking}
+use Rattle.replies.proofs.Fitting.{replied}
 use Rattle.wire.proofs.Replying.{fits, called}
 use Rattle.wire.proofs.call_turn.Statement.{statement}
 use Rattle.wire.proofs.call_turn.Tie as tie
-
-put-reply-requires : tie.Need-put-reply-requires
-put-reply-requires c κs =
-    let stepped = c .before .before .before .before .before .before .before in
-    let start = stepped .before .before .before .before .before .before .before in
-    let a = start .args in
-    fits _ _ (start .pre .0) (asking (a .call) (a .days .now) (a .numbers .now) (a .text .now)) _ _ _ _ (stepped .step .ensures)
 
 returns : tie.Need-returns
 returns c =
     let stepped = c .before .before .before .before .before .before .before .before .before in
     let start = stepped .before .before .before .before .before .before .before in
-    called _ _ _ _ _ _ _ (omega arith) (omega arith) (omega arith) _ _ _ _ _ _ _ (stepped .step .ensures) (c .before .put-reply .ensures)
+    let a = start .args in
+    let fit = fits _ _ (start .pre .0) (asking (a .call) (a .days .now) (a .numbers .now) (a .text .now)) _ _ _ _ (stepped .step .ensures) in
+    called _ _ _ _ _ _ _ (omega arith) (omega arith) (omega arith) _ _ _ _ _ _ _ (stepped .step .ensures) (replied _ fit (c .before .put-reply .ensures))
 
 pub call-turn-spec : {M : Type 1} → statement M
 call-turn-spec =
     tie.close
     (tie.spec
     (λ c κs. search needs)
-    put-reply-requires
-    (λ c. search needs) (λ c. search needs)
+    (λ c κs. search needs) (λ c. search needs) (λ c. search needs)
     returns)
