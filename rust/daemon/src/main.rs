@@ -7,6 +7,7 @@ mod connection;
 mod history;
 mod journal;
 mod options;
+mod patience;
 #[allow(dead_code)]
 #[path = "../../../include/phayaklit.rs"]
 mod phayaklit;

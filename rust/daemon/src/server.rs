@@ -5,6 +5,7 @@ use crate::archive::{Allowed, Came, Lent, State, Whole, PUBLISH, READ};
 use crate::committer::{Committer, Work};
 use crate::connection::Connection;
 use crate::journal::{Change, Head, Snapshot, ROWS_A_SNAPSHOT};
+use crate::patience::Patience;
 use crate::sqlite::Failure;
 use crate::status::Status;
 use crate::system::{self, Poll};
@@ -44,6 +45,7 @@ struct Batch {
 
 pub struct Server {
     poll: Poll,
+    patience: Patience,
     listener: UnixListener,
     committer: Committer,
     woken: UnixStream,
@@ -88,6 +90,7 @@ impl Server {
         poll.add(parts.ending.as_raw_fd(), ENDING)?;
         Ok(Server {
             poll,
+            patience: Patience::new(),
             listener: parts.listener,
             committer: parts.committer,
             woken: parts.woken,
@@ -125,8 +128,11 @@ impl Server {
     /// Takes in what has changed.
     fn look(&mut self) -> Result<(), String> {
         let mut heard = [false; FIRST_CONNECTION as usize];
-        let events = self.poll.wait(!self.ready.is_empty()).map_err(|error| format!("epoll: {error}"))?;
-        for event in events {
+        let events = match self.ready.is_empty() {
+            true => self.patience.wait(&mut self.poll, self.committing.is_some()),
+            false => self.poll.wait(true),
+        };
+        for event in events.map_err(|error| format!("epoll: {error}"))? {
             let token = event.token;
             if token < FIRST_CONNECTION {
                 heard[token as usize] = true;

@@ -1,10 +1,12 @@
-//! What the standard library does not have: epoll, the peer's user, the mask of new files, signals.
+//! What the standard library does not have: epoll, the peer's user, the mask of new files, signals, whether others want the processor.
 
-use std::ffi::{c_int, c_void};
+use std::ffi::{c_int, c_long, c_void};
+use std::hint::spin_loop;
 use std::io;
 use std::os::fd::{AsRawFd, FromRawFd, OwnedFd, RawFd};
 use std::os::unix::net::UnixStream;
 use std::sync::atomic::{AtomicI32, Ordering};
+use std::time::{Duration, Instant};
 
 /// As the system has it: on this machine its fields lie without a gap.
 #[repr(C, packed)]
@@ -27,6 +29,7 @@ unsafe extern "C" {
     fn epoll_ctl(epoll: c_int, operation: c_int, fd: c_int, event: *mut Event) -> c_int;
     fn epoll_wait(epoll: c_int, events: *mut Event, room: c_int, timeout: c_int) -> c_int;
     fn getsockopt(fd: c_int, level: c_int, name: c_int, value: *mut c_void, length: *mut u32) -> c_int;
+    fn getrusage(who: c_int, usage: *mut c_long) -> c_int;
     fn getuid() -> u32;
     fn umask(mask: u32) -> u32;
     fn signal(number: c_int, handler: usize) -> usize;
@@ -42,6 +45,7 @@ const PEER_CLOSED: u32 = 0x2000;
 const ONCE_A_CHANGE: u32 = 1 << 31;
 const SOCKET_LEVEL: c_int = 1;
 const PEER_CREDENTIALS: c_int = 17;
+const OWN_THREAD: c_int = 1;
 const INTERRUPT: c_int = 2;
 const TERMINATE: c_int = 15;
 const FILE_TOO_LARGE: c_int = 25;
@@ -72,16 +76,28 @@ impl Poll {
 
     /// Waits until something changes, or only looks.
     pub fn wait(&mut self, look: bool) -> io::Result<&[Event]> {
-        let timeout = if look { 0 } else { -1 };
+        let found = self.ask(if look { 0 } else { -1 })?;
+        Ok(&self.events[..found])
+    }
+
+    /// Looks again and again, for no longer than a time, until something has changed.
+    pub fn look_for(&mut self, time: Duration) -> io::Result<&[Event]> {
+        let begun = Instant::now();
+        let mut found = self.ask(0)?;
+        while found == 0 && begun.elapsed() < time {
+            spin_loop();
+            found = self.ask(0)?;
+        }
+        Ok(&self.events[..found])
+    }
+
+    fn ask(&mut self, timeout: c_int) -> io::Result<usize> {
         let room = self.events.len() as c_int;
         let found = unsafe { epoll_wait(self.epoll.as_raw_fd(), self.events.as_mut_ptr(), room, timeout) };
-        match usize::try_from(found) {
-            Ok(found) => Ok(&self.events[..found]),
-            Err(_) => match io::Error::last_os_error() {
-                error if error.kind() == io::ErrorKind::Interrupted => Ok(&[]),
-                error => Err(error),
-            },
-        }
+        usize::try_from(found).or_else(|_| match io::Error::last_os_error() {
+            error if error.kind() == io::ErrorKind::Interrupted => Ok(0),
+            error => Err(error),
+        })
     }
 }
 
@@ -101,6 +117,14 @@ pub fn peer(stream: &UnixStream) -> io::Result<u32> {
         0 => Ok(found.user),
         _ => Err(io::Error::last_os_error()),
     }
+}
+
+/// How often this thread had to leave its processor to another that wanted it.
+pub fn times_displaced() -> i64 {
+    // four numbers of times, then fourteen counts, of which this is the last
+    let mut usage: [c_long; 18] = [0; 18];
+    unsafe { getrusage(OWN_THREAD, usage.as_mut_ptr()) };
+    usage[17]
 }
 
 /// The user that this program runs as.
