@@ -4,7 +4,7 @@ use crate::journal::{Change, Head, Journal, Snapshot};
 use crate::sqlite::Failure;
 use std::io::Write;
 use std::os::unix::net::UnixStream;
-use std::sync::mpsc::{channel, Receiver, Sender};
+use std::sync::mpsc::{channel, Receiver, Sender, TryRecvError};
 use std::thread::{self, JoinHandle};
 
 /// Changes to commit together, and the words after them where it is time to keep them.
@@ -43,9 +43,13 @@ impl Committer {
         assert!(given, "the committing thread runs");
     }
 
-    /// How the commit in hand went, where it has ended.
-    pub fn ended(&self) -> Option<Result<Head, Failure>> {
-        self.done.try_recv().ok()
+    /// How the commit in hand went, where it has ended; an error where no commit will end any more.
+    pub fn ended(&self) -> Result<Option<Result<Head, Failure>>, String> {
+        match self.done.try_recv() {
+            Ok(came) => Ok(Some(came)),
+            Err(TryRecvError::Empty) => Ok(None),
+            Err(TryRecvError::Disconnected) => Err("the committing thread has failed".to_string()),
+        }
     }
 
     /// Waits for the end of the commit in hand.

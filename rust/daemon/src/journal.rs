@@ -99,9 +99,18 @@ impl Journal {
         Ok(journal)
     }
 
-    /// The journal of a folder to read.
+    /// The journal of a folder to read, also where nothing can be written: there SQLite needs to be told that nobody else writes either.
     pub fn open_to_read(folder: &Path) -> Result<Journal, Refusal> {
-        let journal = Journal::at(&file_in(folder), Open::ToRead)?;
+        let path = file_in(folder);
+        if !path.exists() {
+            return Err(format!("{} has no journal.db", folder.display()));
+        }
+        let mut journal = Journal::at(&path, Open::ToRead)?;
+        let is_closed = !folder.join("journal.db-wal").exists();
+        let looked = journal.database.number("PRAGMA application_id");
+        if is_closed && looked.is_err_and(|failure| failure.is_unopened()) {
+            journal = Journal::at(&path, Open::Unwritten)?;
+        }
         journal.check_versions()?;
         Ok(journal)
     }

@@ -70,6 +70,7 @@ fn serve(serving: &Serving) -> Result<(), String> {
     let failed = |error: io::Error| error.to_string();
     let (ending, ends) = UnixStream::pair().map_err(failed)?;
     system::heed_signals(&ends);
+    system::keep_files_private();
     let _held = start::lock(&serving.data)?;
     let (journal, state, head) = start::open(serving)?;
     let listener = start::listen(serving.socket.as_deref())?;
@@ -78,7 +79,8 @@ fn serve(serving: &Serving) -> Result<(), String> {
     let parts = Parts { listener, committer, woken, ending, limit: serving.connections, state, head };
     let mut server = Server::new(parts).map_err(failed)?;
     start::tell_ready();
-    eprintln!("phayaklitd: serving {} from change {} on", serving.data.display(), head.sequence);
+    let (folder, limit) = (serving.data.display(), serving.connections);
+    eprintln!("phayaklitd: serving {folder} from change {} on, to at most {limit} connections", head.sequence);
     server.serve()?;
     if let Some(path) = &serving.socket {
         // the next start removes it where this can't be done

@@ -1,6 +1,7 @@
 //! What is asked for on the command line.
 
 use crate::history::Wanted;
+use crate::start::is_handed_over;
 use crate::time;
 use std::path::PathBuf;
 
@@ -8,6 +9,7 @@ pub const USAGE: &str = "\
 usage: phayaklitd --data DIR --socket PATH [--register FILE] [--connections N]
        phayaklitd verify --data DIR
        phayaklitd history --data DIR [--spell N] [--since TIME]
+       phayaklitd --help | --version
 Serves the standing list of DIR to connections on the socket PATH, at most N at a time (256 where it is not said). An empty DIR begins
 fresh, or on the register in FILE. Where systemd hands over a socket, --socket is not needed.
 verify carries the journal out again from its first row and compares every answer. history prints who changed what and when;
@@ -17,6 +19,7 @@ The requests and answers are described in docs/PROTOCOL.md, the rest in docs/OPE
 
 pub struct Serving {
     pub data: PathBuf,
+    /// Where to make a socket; none where one is handed over.
     pub socket: Option<PathBuf>,
     pub register: Option<PathBuf>,
     pub connections: usize,
@@ -62,9 +65,10 @@ pub fn read(arguments: impl Iterator<Item = String>) -> Result<Asked, String> {
     Ok(match command.as_deref() {
         Some("verify") => Asked::Verify(data),
         Some(_) => Asked::History(data, given.wanted),
+        None if given.socket.is_none() && !is_handed_over() => return Err("--socket PATH is needed".to_string()),
         None => Asked::Serve(Serving {
             data,
-            socket: given.socket,
+            socket: given.socket.filter(|_| !is_handed_over()),
             register: given.register,
             connections: given.connections.unwrap_or(256),
         }),

@@ -12,7 +12,7 @@ const AWAKE: Duration = Duration::from_micros(80);
 const SHORT: Duration = Duration::from_micros(160);
 /// So many short waits are needed before one is begun awake, at first and at most.
 const FEW: u16 = 4;
-const MANY: u16 = 1024;
+const MANY: u16 = 256;
 
 /// What is known of the waits up to now.
 #[derive(Clone, Copy)]
@@ -117,7 +117,7 @@ mod tests {
     #[test]
     fn what_was_in_vain_is_seldom_tried_again() {
         let begun = awake(repeat_n(SHORT, 100_000));
-        assert!((90..110).contains(&begun), "{begun}");
+        assert!((380..420).contains(&begun), "{begun}");
         assert_eq!(awake(repeat_n(SHORT + AWAKE, 100_000)), 0);
     }
 

@@ -137,7 +137,7 @@ impl Server {
             if token < FIRST_CONNECTION {
                 heard[token as usize] = true;
             } else if let Some(connection) = self.connections.get_mut(&token) {
-                connection.readable |= event.readable();
+                connection.hear(event);
                 self.ready.push(token);
             }
         }
@@ -146,7 +146,7 @@ impl Server {
         }
         if heard[WOKEN as usize] {
             drain(&mut self.woken);
-            if let Some(came) = self.committer.ended() {
+            if let Some(came) = self.committer.ended()? {
                 self.commit_ended(came)?;
             }
         }
@@ -186,7 +186,7 @@ impl Server {
     fn go_on(&mut self, token: u64) {
         let mut filled = false;
         while let Some(connection) = self.connections.get_mut(&token) {
-            let waits = connection.held > 0 && self.committing.is_some();
+            let waits = connection.holds() && self.committing.is_some();
             if waits || connection.is_slow() {
                 break;
             }
@@ -195,7 +195,7 @@ impl Server {
                     break;
                 }
             } else if filled {
-                if connection.readable {
+                if connection.has_more() {
                     self.ready.push(token);
                 }
                 break;
@@ -231,22 +231,22 @@ impl Server {
         let line = connection.framing.line(&request);
         let payload = connection.framing.payload(&request);
         if line == b"status\n" {
-            if connection.held > 0 {
+            if connection.holds() {
                 return self.park(token, request);
             }
             let text = self.status.shown(&mut self.lent, &mut self.live, &self.head, self.connections.len());
             self.give(token, text.into_bytes(), true);
             return true;
         }
-        let state = if connection.held > 0 { &mut self.working } else { &mut self.live };
+        let state = if connection.holds() { &mut self.working } else { &mut self.live };
         let word = match self.lent.request(state, connection.room, Allowed::Reading, line, payload) {
             Came::Answered { word, room, answer, .. } => {
                 connection.room = room;
-                if connection.held == 0 {
-                    connection.answer(answer);
-                } else {
+                if connection.holds() {
                     let answer = answer.to_vec();
                     self.give(token, answer, word < READ);
+                } else {
+                    connection.answer(answer);
                 }
                 return true;
             }
@@ -296,7 +296,7 @@ impl Server {
         if self.batch.changes.is_empty() {
             connection.answer(&answer);
         } else {
-            connection.held += 1;
+            connection.hold(&answer);
             self.batch.held.push(Held { connection: token, answer, certain: false });
         }
     }
@@ -304,11 +304,11 @@ impl Server {
     /// An answer in its turn: behind those of its connection that wait for a commit.
     fn give(&mut self, token: u64, answer: Vec<u8>, certain: bool) {
         let Some(connection) = self.connections.get_mut(&token) else { return };
-        if connection.held == 0 {
-            connection.answer(&answer);
-        } else {
-            connection.held += 1;
+        if connection.holds() {
+            connection.hold(&answer);
             self.batch.held.push(Held { connection: token, answer, certain });
+        } else {
+            connection.answer(&answer);
         }
     }
 
@@ -349,8 +349,8 @@ impl Server {
         };
         for held in batch.held {
             if let Some(connection) = self.connections.get_mut(&held.connection) {
-                connection.answer(if made || held.certain { &held.answer } else { UNAVAILABLE });
-                connection.held -= 1;
+                let answer = if made || held.certain { &held.answer } else { UNAVAILABLE };
+                connection.release(&held.answer, answer);
                 self.ready.push(held.connection);
             }
         }

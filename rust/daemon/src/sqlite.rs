@@ -52,11 +52,13 @@ const ROW: c_int = 100;
 const DONE: c_int = 101;
 const BUSY: c_int = 5;
 const FULL: c_int = 13;
+const UNOPENED: c_int = 14;
 const NOT_A_DATABASE: c_int = 26;
 const WRITE_FAILED: c_int = 778;
 const OPEN_READ: c_int = 0x0000_0001;
 const OPEN_WRITE: c_int = 0x0000_0002;
 const OPEN_CREATE: c_int = 0x0000_0004;
+const OPEN_BY_URI: c_int = 0x0000_0040;
 const EXTENDED_CODES: c_int = 0x0200_0000;
 
 /// What SQLite says of a failure.
@@ -70,6 +72,10 @@ impl Failure {
     /// Whether SQLite says that nothing was written: the disk is full, the database is held by another, a write failed.
     pub fn nothing_written(&self) -> bool {
         self.code & 0xFF == BUSY || self.code == FULL || self.code == WRITE_FAILED
+    }
+
+    pub fn is_unopened(&self) -> bool {
+        self.code & 0xFF == UNOPENED
     }
 
     pub fn is_foreign(&self) -> bool {
@@ -86,8 +92,19 @@ impl std::fmt::Display for Failure {
 #[derive(Clone, Copy)]
 pub enum Open {
     ToRead,
+    /// Where nobody writes, on a medium that can't be written.
+    Unwritten,
     ToWrite,
     OrCreate,
+}
+
+/// The name of a file that nobody writes, as SQLite takes it.
+fn unwritten(path: &Path) -> Vec<u8> {
+    let escaped = path.as_os_str().as_bytes().iter().map(|byte| match byte {
+        b'/' | b'.' | b'-' | b'_' | b'0'..=b'9' | b'A'..=b'Z' | b'a'..=b'z' => char::from(*byte).to_string(),
+        other => format!("%{other:02X}"),
+    });
+    format!("file:{}?immutable=1", escaped.collect::<String>()).into_bytes()
 }
 
 /// An open database.
@@ -98,12 +115,14 @@ unsafe impl Send for Database {}
 
 impl Database {
     pub fn open(path: &Path, how: Open) -> Result<Database, Failure> {
-        let name = CString::new(path.as_os_str().as_bytes()).expect("a path has no NUL");
-        let flags = match how {
-            Open::ToRead => OPEN_READ,
-            Open::ToWrite => OPEN_WRITE,
-            Open::OrCreate => OPEN_WRITE | OPEN_CREATE,
+        let plain = path.as_os_str().as_bytes().to_vec();
+        let (name, flags) = match how {
+            Open::ToRead => (plain, OPEN_READ),
+            Open::Unwritten => (unwritten(path), OPEN_READ | OPEN_BY_URI),
+            Open::ToWrite => (plain, OPEN_WRITE),
+            Open::OrCreate => (plain, OPEN_WRITE | OPEN_CREATE),
         };
+        let name = CString::new(name).expect("a path has no NUL");
         let mut handle = null_mut();
         let code = unsafe { sqlite3_open_v2(name.as_ptr(), &mut handle, flags | EXTENDED_CODES, null()) };
         let database = Database(handle);

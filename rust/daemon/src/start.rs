@@ -4,11 +4,11 @@ use crate::archive::{Allowed, Came, Lent, State, ROOM};
 use crate::journal::{Change, Head, Journal};
 use crate::options::Serving;
 use crate::{replay, system, time};
-use std::fs::{self, DirBuilder, File, OpenOptions};
+use std::fs::{self, File, OpenOptions};
 use std::io::ErrorKind;
 use std::os::fd::FromRawFd;
 use std::os::linux::net::SocketAddrExt;
-use std::os::unix::fs::{DirBuilderExt, FileTypeExt, OpenOptionsExt};
+use std::os::unix::fs::FileTypeExt;
 use std::os::unix::net::{SocketAddr, UnixDatagram, UnixListener, UnixStream};
 use std::path::Path;
 use std::{env, process};
@@ -16,10 +16,9 @@ use std::{env, process};
 /// Takes the folder for this service alone, as long as the file is open.
 pub fn lock(folder: &Path) -> Result<File, String> {
     let shown = folder.display();
-    let made = DirBuilder::new().recursive(true).mode(0o700).create(folder);
-    made.map_err(|error| format!("{shown}: {error}"))?;
+    fs::create_dir_all(folder).map_err(|error| format!("{shown}: {error}"))?;
     let path = folder.join("lock");
-    let file = OpenOptions::new().create(true).truncate(false).write(true).mode(0o600).open(&path);
+    let file = OpenOptions::new().create(true).truncate(false).write(true).open(&path);
     let file = file.map_err(|error| format!("{}: {error}", path.display()))?;
     file.try_lock().map_err(|_| format!("{shown} is in use: another phayaklitd serves it"))?;
     Ok(file)
@@ -64,14 +63,15 @@ fn reading(text: &[u8]) -> Result<(State, Change), String> {
     Ok((state, change))
 }
 
-/// The socket that systemd hands over, or a new one at the path.
-pub fn listen(path: Option<&Path>) -> Result<UnixListener, String> {
+/// Whether systemd hands over a socket.
+pub fn is_handed_over() -> bool {
     let given = env::var("LISTEN_FDS").is_ok_and(|count| count == "1");
-    let ours = env::var("LISTEN_PID").is_ok_and(|pid| pid == process::id().to_string());
-    if given && ours {
-        return Ok(unsafe { UnixListener::from_raw_fd(3) });
-    }
-    let path = path.ok_or("--socket PATH is needed")?;
+    given && env::var("LISTEN_PID").is_ok_and(|pid| pid == process::id().to_string())
+}
+
+/// A new socket at the path, or the one that is handed over where there is no path.
+pub fn listen(path: Option<&Path>) -> Result<UnixListener, String> {
+    let Some(path) = path else { return Ok(unsafe { UnixListener::from_raw_fd(3) }) };
     let shown = path.display();
     clear(path)?;
     system::for_owner_and_group(|| UnixListener::bind(path)).map_err(|error| format!("{shown}: {error}"))

@@ -106,6 +106,12 @@ impl Event {
         let kinds = self.kinds;
         kinds & (INPUT | HANGUP | PEER_CLOSED) != 0
     }
+
+    /// Whether the other end sends no more.
+    pub fn closing(&self) -> bool {
+        let kinds = self.kinds;
+        kinds & (HANGUP | PEER_CLOSED) != 0
+    }
 }
 
 /// The user at the other end of a connection.
@@ -130,6 +136,11 @@ pub fn times_displaced() -> i64 {
 /// The user that this program runs as.
 pub fn own_user() -> u32 {
     unsafe { getuid() }
+}
+
+/// From here on new files are for their owner alone.
+pub fn keep_files_private() {
+    unsafe { umask(0o077) };
 }
 
 /// Makes a file that its owner and group may read and write, and nobody else.
