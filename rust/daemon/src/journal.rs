@@ -226,9 +226,9 @@ impl Journal {
 
     /// Writes changes in one commit, with the words after them where they are handed over. Where it fails nothing of it is kept.
     pub fn append(&mut self, head: &Head, changes: &[Change], snapshot: Option<&Snapshot>) -> Result<Head, Failure> {
-        self.database.run("BEGIN IMMEDIATE")?;
+        self.database.kept("BEGIN IMMEDIATE")?.carry_out()?;
         let written = self.insert(head, changes, snapshot).and_then(|head| {
-            self.database.run("COMMIT")?;
+            self.database.kept("COMMIT")?.carry_out()?;
             Ok(head)
         });
         if written.is_err() {
@@ -240,7 +240,7 @@ impl Journal {
 
     fn insert(&self, head: &Head, changes: &[Change], snapshot: Option<&Snapshot>) -> Result<Head, Failure> {
         let mut head = *head;
-        let mut row = self.database.prepare("INSERT INTO journal VALUES (?1, ?2, ?3, ?4, ?5, ?6)")?;
+        let mut row = self.database.kept("INSERT INTO journal VALUES (?1, ?2, ?3, ?4, ?5, ?6)")?;
         for change in changes {
             let sequence = head.sequence + 1;
             let checksum = chained(&head.checksum, sequence, change);
@@ -253,7 +253,7 @@ impl Journal {
             row.carry_out()?;
             head = Head { sequence, time: change.time, checksum };
         }
-        let mut stored = self.database.prepare("UPDATE head SET sequence = ?1, checksum = ?2")?;
+        let mut stored = self.database.kept("UPDATE head SET sequence = ?1, checksum = ?2")?;
         stored.bind_integer(1, head.sequence)?;
         stored.bind_bytes(2, &head.checksum)?;
         stored.carry_out()?;

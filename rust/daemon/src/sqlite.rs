@@ -1,5 +1,7 @@
 //! SQLite, by the few functions of its library that a journal needs.
 
+use std::cell::RefCell;
+use std::collections::HashMap;
 use std::ffi::{c_char, c_int, c_void, CStr, CString};
 use std::os::unix::ffi::OsStrExt;
 use std::path::Path;
@@ -107,8 +109,11 @@ fn unwritten(path: &Path) -> Vec<u8> {
     format!("file:{}?immutable=1", escaped.collect::<String>()).into_bytes()
 }
 
-/// An open database.
-pub struct Database(*mut Handle);
+/// An open database, and statements that are kept prepared.
+pub struct Database {
+    handle: *mut Handle,
+    kept: RefCell<HashMap<&'static str, *mut Prepared>>,
+}
 
 /// A handle may be used by any thread, by one at a time.
 unsafe impl Send for Database {}
@@ -125,36 +130,51 @@ impl Database {
         let name = CString::new(name).expect("a path has no NUL");
         let mut handle = null_mut();
         let code = unsafe { sqlite3_open_v2(name.as_ptr(), &mut handle, flags | EXTENDED_CODES, null()) };
-        let database = Database(handle);
+        let database = Database { handle, kept: RefCell::default() };
         database.checked(code)?;
         Ok(database)
     }
 
     /// How long a statement waits for another program that holds the database.
     pub fn wait_at_most(&self, milliseconds: i32) {
-        unsafe { sqlite3_busy_timeout(self.0, milliseconds) };
+        unsafe { sqlite3_busy_timeout(self.handle, milliseconds) };
     }
 
     fn checked(&self, code: c_int) -> Result<(), Failure> {
         if code == OK {
             return Ok(());
         }
-        let said = unsafe { CStr::from_ptr(sqlite3_errmsg(self.0)) };
+        let said = unsafe { CStr::from_ptr(sqlite3_errmsg(self.handle)) };
         Err(Failure { code, said: said.to_string_lossy().into_owned() })
     }
 
     /// Carries out statements that give no rows.
     pub fn run(&self, sql: &str) -> Result<(), Failure> {
         let sql = CString::new(sql).expect("a statement has no NUL");
-        self.checked(unsafe { sqlite3_exec(self.0, sql.as_ptr(), null(), null_mut(), null_mut()) })
+        self.checked(unsafe { sqlite3_exec(self.handle, sql.as_ptr(), null(), null_mut(), null_mut()) })
     }
 
     pub fn prepare(&self, sql: &str) -> Result<Statement<'_>, Failure> {
+        Ok(Statement { database: self, made: self.prepared(sql)?, kept: false })
+    }
+
+    /// A statement that is carried out often: it is prepared once.
+    pub fn kept(&self, sql: &'static str) -> Result<Statement<'_>, Failure> {
+        let known = self.kept.borrow().get(sql).copied();
+        let made = match known {
+            Some(made) => made,
+            None => self.prepared(sql)?,
+        };
+        self.kept.borrow_mut().insert(sql, made);
+        Ok(Statement { database: self, made, kept: true })
+    }
+
+    fn prepared(&self, sql: &str) -> Result<*mut Prepared, Failure> {
         let mut made = null_mut();
         let length = c_int::try_from(sql.len()).expect("a statement is short");
-        let code = unsafe { sqlite3_prepare_v2(self.0, sql.as_ptr().cast(), length, &mut made, null_mut()) };
+        let code = unsafe { sqlite3_prepare_v2(self.handle, sql.as_ptr().cast(), length, &mut made, null_mut()) };
         self.checked(code)?;
-        Ok(Statement { database: self, made })
+        Ok(made)
     }
 
     /// The number that a statement gives in its first row.
@@ -166,7 +186,10 @@ impl Database {
 
 impl Drop for Database {
     fn drop(&mut self) {
-        unsafe { sqlite3_close_v2(self.0) };
+        for made in self.kept.get_mut().values() {
+            unsafe { sqlite3_finalize(*made) };
+        }
+        unsafe { sqlite3_close_v2(self.handle) };
     }
 }
 
@@ -174,6 +197,7 @@ impl Drop for Database {
 pub struct Statement<'a> {
     database: &'a Database,
     made: *mut Prepared,
+    kept: bool,
 }
 
 impl Statement<'_> {
@@ -222,6 +246,11 @@ impl Statement<'_> {
 
 impl Drop for Statement<'_> {
     fn drop(&mut self) {
-        unsafe { sqlite3_finalize(self.made) };
+        unsafe {
+            match self.kept {
+                true => sqlite3_reset(self.made),
+                false => sqlite3_finalize(self.made),
+            }
+        };
     }
 }
