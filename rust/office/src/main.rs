@@ -1,13 +1,16 @@
 //! What phayaklitd is tried with, by name; tests/office.sh builds both and says what there is.
 
+mod clients;
 mod damage;
 mod disk;
+mod failures;
 mod kills;
 mod manners;
 mod many;
 mod order;
 mod rows;
 mod service;
+mod tracer;
 
 use check::options::{exit, Options};
 use service::Program;
@@ -24,6 +27,8 @@ fn tried(own: &str, name: &str, words: &[String]) -> Result<String, String> {
         "order" => order::check(&program)?,
         "damage" => damage::check(&program)?,
         "manners" => manners::check(&program, own)?,
+        "failures" => failures::check(&program)?,
+        "clients" => clients::check(&program)?,
         _ => return Err("there is no such test: tests/office.sh has the names".to_string()),
     };
     Ok(format!("{name}: {told}"))

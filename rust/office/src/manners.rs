@@ -1,6 +1,6 @@
 //! How the service begins, ends, and treats its clients.
 
-use crate::service::{Client, Place, Program, Service};
+use crate::service::{expect, Client, Place, Program, Service};
 use std::fs;
 use std::os::unix::fs::PermissionsExt;
 use std::os::unix::net::UnixDatagram;
@@ -13,18 +13,9 @@ const NOBODY: u32 = 65_534;
 pub fn check(program: &Program, own: &str) -> Result<String, String> {
     begins(program)?;
     others(program, own)?;
-    slow_and_rude(program)?;
     limit(program)?;
     systemd(program)?;
     Ok("it begins, ends and treats its clients as it should".to_string())
-}
-
-fn expect(what: &str, is: bool) -> Result<(), String> {
-    if is {
-        Ok(())
-    } else {
-        Err(what.to_string())
-    }
 }
 
 fn ended_with(command: &mut Command, told: &str) -> Result<(), String> {
@@ -84,35 +75,6 @@ pub fn send(socket: &str, requests: &str) -> Result<String, String> {
         heard.extend(client.answer()?.unwrap_or_default());
     }
     Ok(String::from_utf8_lossy(&heard).into_owned())
-}
-
-/// A client that takes no answers, one that sends half a request, one that sends garbage: others do not notice.
-fn slow_and_rude(program: &Program) -> Result<(), String> {
-    let place = Place::new("rude");
-    let service = program.start(&place)?;
-    let mut other = service.connect()?;
-    for number in 1..=400 {
-        other.ask(format!("enter\t{number}\t7\t1\t10\tG\t2\n").as_bytes())?;
-    }
-    let mut slow = service.connect()?;
-    slow.send(&b"write\n".repeat(2000))?;
-    let mut half = service.connect()?;
-    half.send(b"enter\t900\t7\t1")?;
-    let mut garbage = service.connect()?;
-    garbage.send(&[0xFF; 50_000])?;
-    garbage.send(b"\n")?;
-    expect("garbage is not malformed", garbage.answer()?.as_deref() == Some(b"malformed\n"))?;
-    drop(garbage);
-    for number in 401..=600 {
-        let answer = other.ask(format!("enter\t{number}\t7\t1\t10\tG\t2\n").as_bytes())?;
-        expect("another client is held up", answer == b"ok\n")?;
-    }
-    half.send(b"\t10\tG\t2\n")?;
-    expect("the rest of a request is lost", half.answer()?.as_deref() == Some(b"ok\n"))?;
-    for _ in 0..2000 {
-        expect("a slow client loses answers", slow.answer()?.is_some_and(|answer| answer.starts_with(b"text\t")))?;
-    }
-    Ok(())
 }
 
 /// One connection more than may be.

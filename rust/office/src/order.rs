@@ -1,31 +1,23 @@
-//! The system calls of a change: its commit is synchronised before its answer is written.
+//! The system calls of changes and questions: a commit is synchronised before its answer is written, and what is sent at once shares one
+//! commit and few writes.
 
-use crate::service::{Place, Program};
-use std::fs;
-use std::process::{Command, Stdio};
-use std::thread::sleep;
-use std::time::Duration;
+use crate::service::{expect, Client, Place, Program};
+use crate::tracer::Tracer;
+
+/// So many requests are sent at once.
+const AT_ONCE: usize = 64;
 
 pub fn check(program: &Program) -> Result<String, String> {
     let place = Place::new("order");
-    let trace = place.folder().join("trace");
     let service = program.start(&place)?;
     let mut client = service.connect()?;
-    let tracer = Command::new("strace")
-        .args(["-f", "-y", "-s", "64", "-e", "trace=read,recvfrom,write,sendto,fsync,fdatasync", "-o"])
-        .arg(&trace)
-        .args(["-p", &service.process().to_string()])
-        .stderr(Stdio::null())
-        .spawn();
-    let mut tracer = tracer.map_err(|error| format!("strace: {error}"))?;
-    await_tracer(service.process())?;
-    let answer = client.ask(b"enter\t31\t502\t100\t465\tG\t1\n")?;
-    if answer != b"ok\n" {
-        return Err("the change is not accepted".to_string());
-    }
+    let calls = "trace=read,recvfrom,write,sendto,fsync,fdatasync";
+    let tracer = Tracer::of(&service, place.folder(), &["-y", "-s", "64", "-e", calls])?;
+    expect("the change is not accepted", client.ask(b"enter\t31\t502\t100\t465\tG\t1\n")? == b"ok\n")?;
+    all_at_once(&mut client, |number| format!("enter\t{}\t7\t1\t10\tG\t2\n", number + 100), b"ok\n")?;
+    all_at_once(&mut client, |number| format!("cover\t{}\n", number + 2000), b"refused\t7\n")?;
     service.kill()?;
-    tracer.wait().map_err(|error| error.to_string())?;
-    let traced = fs::read_to_string(&trace).map_err(|error| error.to_string())?;
+    let traced = tracer.ended()?;
     let lines: Vec<&str> = traced.lines().collect();
     let find =
         |from: usize, what: &dyn Fn(&str) -> bool| lines[from..].iter().position(|line| what(line)).map(|at| at + from);
@@ -34,24 +26,20 @@ pub fn check(program: &Program) -> Result<String, String> {
     let synced = synced.ok_or("no synchronisation is seen")?;
     let done = find(synced, &|line| line.contains("sync") && line.contains("= 0")).ok_or("it does not end well")?;
     let answered = find(arrived, &|line| line.contains("\"ok\\n\"")).ok_or("the answer is not seen")?;
-    if done > answered {
-        return Err("the answer is written before the commit is synchronised".to_string());
-    }
+    expect("the answer is written before the commit is synchronised", done < answered)?;
+    let count =
+        |what: &[&str]| lines[answered + 1..].iter().filter(|line| what.iter().all(|part| line.contains(part))).count();
+    let commits = count(&["sync(", "journal.db-wal"]);
+    expect(&format!("{AT_ONCE} changes sent at once take {commits} commits"), commits <= 2)?;
+    let writes = count(&["\"refused\\t7"]) + count(&["\"ok\\nok"]);
+    expect(&format!("two times {AT_ONCE} requests sent at once take {writes} writes"), writes <= 4)?;
     Ok("the commit is synchronised before its answer is written".to_string())
 }
 
-/// Waits until all threads of a process are traced.
-fn await_tracer(process: u32) -> Result<(), String> {
-    for _ in 0..2000 {
-        let threads = fs::read_dir(format!("/proc/{process}/task")).map_err(|error| error.to_string())?;
-        let traced = |thread: fs::DirEntry| {
-            let status = fs::read_to_string(thread.path().join("status")).unwrap_or_default();
-            status.lines().any(|line| line.starts_with("TracerPid:") && !line.ends_with("\t0"))
-        };
-        if threads.filter_map(Result::ok).all(traced) {
-            return Ok(());
-        }
-        sleep(Duration::from_millis(5));
+fn all_at_once(client: &mut Client, request: impl Fn(usize) -> String, answer: &[u8]) -> Result<(), String> {
+    client.send((0..AT_ONCE).map(request).collect::<String>().as_bytes())?;
+    for _ in 0..AT_ONCE {
+        expect("another answer comes", client.answer()?.as_deref() == Some(answer))?;
     }
-    Err("strace does not trace it".to_string())
+    Ok(())
 }

@@ -2,6 +2,7 @@
 
 use std::fs;
 use std::io::{BufRead, BufReader, Read, Write};
+use std::net::Shutdown;
 use std::os::unix::net::UnixStream;
 use std::path::{Path, PathBuf};
 use std::process::{Child, Command, ExitStatus, Stdio};
@@ -9,6 +10,15 @@ use std::thread::sleep;
 use std::time::{Duration, Instant};
 
 const PATIENCE: Duration = Duration::from_secs(20);
+
+/// An error where something is not so.
+pub fn expect(otherwise: &str, is: bool) -> Result<(), String> {
+    if is {
+        Ok(())
+    } else {
+        Err(otherwise.to_string())
+    }
+}
 
 /// Where a service is: a folder of its own, removed at the end.
 pub struct Place {
@@ -102,9 +112,14 @@ impl Service {
     }
 
     /// Asks it to end: its status, and what it told.
-    pub fn end(mut self) -> Result<(ExitStatus, String), String> {
+    pub fn end(self) -> Result<(ExitStatus, String), String> {
         let asked = Command::new("kill").arg(self.child.id().to_string()).status();
         asked.map_err(|error| error.to_string())?;
+        self.ended()
+    }
+
+    /// Waits for its end: its status, and what it told.
+    pub fn ended(mut self) -> Result<(ExitStatus, String), String> {
         let status = self.child.wait().map_err(|error| error.to_string())?;
         Ok((status, self.told()))
     }
@@ -142,6 +157,11 @@ impl Client {
 
     pub fn send(&mut self, request: &[u8]) -> Result<(), String> {
         self.stream.write_all(request).map_err(|error| error.to_string())
+    }
+
+    /// Closes its half of the connection.
+    pub fn send_no_more(&mut self) -> Result<(), String> {
+        self.stream.shutdown(Shutdown::Write).map_err(|error| error.to_string())
     }
 
     /// The next answer; none where the connection ended.
