@@ -9,18 +9,13 @@ use std::process::Command;
 const UNAVAILABLE: &[u8] = b"unavailable\n";
 
 pub fn check(program: &Program) -> Result<String, String> {
+    let limited = limited(program)?;
     let place = Place::new("disk");
-    fs::create_dir(place.data()).map_err(|error| error.to_string())?;
-    let mounted = Command::new("mount").args(["-t", "tmpfs", "-o", "size=1m", "tmpfs"]).arg(place.data()).output();
-    if !mounted.is_ok_and(|out| out.status.success()) {
-        return limited(program, &place);
-    }
-    let came = full(program, &place);
-    let _ = Command::new("umount").arg("-l").arg(place.data()).status();
-    came
+    let full = place.with_disk(|place| full(program, place))?;
+    Ok(format!("{limited}; {}", full.unwrap_or("no disk can be mounted here".to_string())))
 }
 
-/// On a small disk, with a file that takes half of it until it is full.
+/// On a small disk, with a file that takes half of it until it is full; when there is space again the service goes on.
 fn full(program: &Program, place: &Place) -> Result<String, String> {
     let ballast = place.data().join("ballast");
     fs::write(&ballast, vec![1; 400_000]).map_err(|error| error.to_string())?;
@@ -38,11 +33,12 @@ fn full(program: &Program, place: &Place) -> Result<String, String> {
     service.kill()?;
     let service = program.start(place)?;
     same(&mut service.connect()?, &mut wire)?;
-    Ok(format!("full after {before} changes, and {after} more when there was space again"))
+    Ok(format!("a disk is full after {before} changes, and takes {after} more when there is space again"))
 }
 
-/// Where no disk can be mounted: a limit on the size of files, which must not kill it.
-fn limited(program: &Program, place: &Place) -> Result<String, String> {
+/// A limit on the size of files, which must not kill it.
+fn limited(program: &Program) -> Result<String, String> {
+    let place = &Place::new("limited");
     let mut command = Command::new("sh");
     command.arg("-c").arg("ulimit -f 600; exec \"$0\" --data \"$1\" --socket \"$2\"");
     command.arg(&program.0).arg(place.data()).arg(place.socket());
@@ -53,7 +49,7 @@ fn limited(program: &Program, place: &Place) -> Result<String, String> {
     same(&mut client, &mut wire)?;
     service.kill()?;
     same(&mut program.start(place)?.connect()?, &mut wire)?;
-    Ok(format!("at its limit after {before} changes"))
+    Ok(format!("a file is at its limit after {before} changes"))
 }
 
 /// Enters and strikes until it can't: the last number that was taken.

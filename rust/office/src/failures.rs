@@ -46,7 +46,7 @@ fn write_fails(program: &Program) -> Result<(), String> {
     expect("it does not go on", enter(&mut client, 2)? == b"ok\n")?;
     let (status, told) = service.end()?;
     expect(&format!("it ended with {status}: {told}"), status.success() && told.contains("nothing was written"))?;
-    verified(program, &place, 2)
+    program.verified(&place, 2)
 }
 
 /// A synchronisation that fails: an end with an error, and no answer; the row may be there after the next start.
@@ -62,11 +62,11 @@ fn synchronisation_fails(program: &Program) -> Result<(), String> {
     drop(tracer);
     let service = program.start(&place)?;
     let mut client = service.connect()?;
-    let rows: usize = client.status("sequence")?.parse().map_err(|_| "no sequence".to_string())?;
-    let standing: usize = client.status("standing")?.parse().map_err(|_| "no count".to_string())?;
+    let rows: u64 = client.status("sequence")?.parse().map_err(|_| "no sequence".to_string())?;
+    let standing: u64 = client.status("standing")?.parse().map_err(|_| "no count".to_string())?;
     expect(&format!("{standing} stand after {rows} changes"), standing == rows && (1..=2).contains(&rows))?;
     service.end()?;
-    verified(program, &place, rows)
+    program.verified(&place, rows)
 }
 
 /// Another program holds the database for longer than the service waits; questions are answered meanwhile.
@@ -91,10 +91,5 @@ fn held_by_another(program: &Program) -> Result<(), String> {
     holder.join().map_err(|_| "the holder failed".to_string())??;
     expect("it does not go on", enter(&mut client, 2)? == b"ok\n")?;
     service.end()?;
-    verified(program, &place, 2)
-}
-
-fn verified(program: &Program, place: &Place, rows: usize) -> Result<(), String> {
-    let (status, printed, told) = program.run(&["verify", "--data", &place.data().display().to_string()])?;
-    expect(&format!("{printed}{told}"), status.success() && printed.starts_with(&format!("{rows} changes")))
+    program.verified(&place, 2)
 }

@@ -1,7 +1,7 @@
 //! The service is killed at random moments, also with requests in flight, and started again: nothing that was acknowledged is lost, and
 //! every answer is the plain account's.
 
-use crate::service::{Client, Place, Program};
+use crate::service::{Client, Place, Program, Service};
 use account::account::Account;
 use account::call::{Answer, Call, Lists, Question};
 use account::limits::LARGEST_ROOM;
@@ -61,8 +61,15 @@ pub fn check(program: &Program, kills: usize, seed: u64) -> Result<String, Strin
             return Err(wrong);
         }
         unanswered += calls.len() - answered;
-        known = found(program, &place, known, &calls[answered..]).map_err(|why| format!("kill {kill}: {why}"))?;
+        let service = program.start(&place)?;
+        known = found(&service, known, &calls[answered..]).map_err(|why| format!("kill {kill}: {why}"))?;
+        // now and then it ends as it should, so that the next start begins on the words that are kept then
+        match kill % 4 {
+            0 => service.end().map(|_| ())?,
+            _ => service.kill()?,
+        }
     }
+    program.verified(&place, known.changes)?;
     Ok(format!("{kills} kills, {} changes, {unanswered} requests in flight", known.changes))
 }
 
@@ -79,8 +86,7 @@ fn calls_from(generator: &mut Generator, account: &Account, count: usize) -> Vec
 }
 
 /// The account after a start: some of the requests that were in flight may have been carried out, from the first on.
-fn found(program: &Program, place: &Place, mut known: Known, in_flight: &[Call]) -> Result<Known, String> {
-    let service = program.start(place)?;
+fn found(service: &Service, mut known: Known, in_flight: &[Call]) -> Result<Known, String> {
     let changes: u64 = service.connect()?.status("sequence")?.parse().map_err(|_| "no sequence".to_string())?;
     if changes < known.changes {
         return Err(format!("{changes} changes are left of {} that were acknowledged", known.changes));
@@ -94,7 +100,6 @@ fn found(program: &Program, place: &Place, mut known: Known, in_flight: &[Call])
     if known.changes != changes {
         return Err(format!("{changes} changes, and {} were asked for", known.changes));
     }
-    service.kill()?;
     Ok(known)
 }
 

@@ -33,6 +33,18 @@ impl Place {
         Place { folder }
     }
 
+    /// Does something with a small disk of its own for the data, where this user may mount one.
+    pub fn with_disk<T>(&self, work: impl FnOnce(&Place) -> Result<T, String>) -> Result<Option<T>, String> {
+        fs::create_dir(self.data()).map_err(|error| error.to_string())?;
+        let mounted = Command::new("mount").args(["-t", "tmpfs", "-o", "size=1m", "tmpfs"]).arg(self.data()).output();
+        if !mounted.is_ok_and(|out| out.status.success()) {
+            return Ok(None);
+        }
+        let came = work(self);
+        let _ = Command::new("umount").arg("-l").arg(self.data()).status();
+        came.map(Some)
+    }
+
     pub fn folder(&self) -> &Path {
         &self.folder
     }
@@ -73,6 +85,13 @@ impl Program {
         let out = Command::new(&self.0).args(arguments).output().map_err(|error| format!("{}: {error}", self.0))?;
         let text = |bytes: &[u8]| String::from_utf8_lossy(bytes).into_owned();
         Ok((out.status, text(&out.stdout), text(&out.stderr)))
+    }
+
+    /// A journal of so many changes, each of which is answered now as it was.
+    pub fn verified(&self, place: &Place, changes: u64) -> Result<(), String> {
+        let (status, printed, told) = self.run(&["verify", "--data", &place.data().display().to_string()])?;
+        let is_well = status.success() && printed.starts_with(&format!("{changes} changes, "));
+        expect(&format!("{changes} changes are not verified: {printed}{told}"), is_well)
     }
 }
 
