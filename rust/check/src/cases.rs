@@ -14,6 +14,10 @@ use std::fmt::Write;
 const MARK: u16 = 60_001;
 /// A list of so many places is never short.
 const PLACES: usize = MOST_SPELLS + 1;
+/// How many days are asked about, how many of them in pairs, and how far apart those of several days are.
+const DAYS: u16 = 120;
+const PAIRED: usize = 15;
+const STEPS: [u16; 5] = [1, 7, 30, 365, 4000];
 
 fn mix(hash: u64, x: u64) -> u64 {
     (hash * 31 + x) % 1_000_003
@@ -64,21 +68,6 @@ fn pick(i: u16, far: bool) -> u16 {
     }
 }
 
-/// The questions of each kind.
-fn questions(family: &Family) -> [(&'static str, Vec<Question>); 5] {
-    let picks: Vec<u16> = (0..120).map(|i| pick(i, family.far)).collect();
-    let twos: Vec<(u16, u16)> = picks[..15].iter().flat_map(|&a| picks[..15].iter().map(move |&b| (a, b))).collect();
-    let covered = (1..).zip(&family.rows).flat_map(|(position, &(number, _, _))| [number, position]);
-    let steps = [1, 7, 30, 365, 4000].map(|step| (1..=LAST_DAY).step_by(step).collect());
-    [
-        ("day", picks.iter().map(|&d| Question::Day(d)).collect()),
-        ("span", twos.iter().map(|&(a, b)| Question::Span(a, b)).collect()),
-        ("cover", [0].into_iter().chain(covered).map(Question::Cover).collect()),
-        ("two", twos.iter().map(|&(a, b)| Question::Days(vec![a, b])).collect()),
-        ("days", [vec![]].into_iter().chain(steps).map(Question::Days).collect()),
-    ]
-}
-
 fn published(family: &Family) -> Account {
     let spell = |&(number, first, last): &_| Spell { number, candidate: 1, first, last, urgency: Urgency::Grade(1) };
     let spells: Vec<Spell> = family.rows.iter().map(spell).collect();
@@ -86,13 +75,65 @@ fn published(family: &Family) -> Account {
     Account { published: Published::of(&spells, 1), ..Account::default() }
 }
 
-/// How many families there are, and each: its name, whether it is a far one, how many rows, and these.
+/// The questions that do not depend on the rows, each as two days and how many days it has. Those of several days go on in
+/// equal steps, and spans and questions of two days are of the same pairs.
+fn table(far: bool) -> Vec<[u16; 3]> {
+    let picks: Vec<u16> = (0..DAYS).map(|i| pick(i, far)).collect();
+    let days = picks.iter().map(|&d| [d, 0, 0]);
+    let twos = picks[..PAIRED].iter().flat_map(|&a| picks[..PAIRED].iter().map(move |&b| [a, b, 2]));
+    let steps = STEPS.map(|step| [1, 1 + step, LAST_DAY.div_ceil(step)]);
+    days.chain(twos).chain([[0, 0, 0]]).chain(steps).collect()
+}
+
+fn tables() -> Vec<[u16; 3]> {
+    [table(false), table(true)].concat()
+}
+
+/// Of each kind that a family is asked its name, and its number, the line of its first question, and how many there are.
+fn kinds(family: &Family) -> Vec<(&'static str, [usize; 3])> {
+    let begin = if family.far { table(false).len() } else { 0 };
+    let (days, pairs) = (DAYS as usize, PAIRED * PAIRED);
+    let covers = 2 * family.rows.len() + 1;
+    let all = [
+        ("day", [0, begin, days]),
+        ("span", [1, begin + days, pairs]),
+        ("cover", [2, 0, covers]),
+        ("two", [3, begin + days, pairs]),
+        ("days", [3, begin + days + pairs, STEPS.len() + 1]),
+    ];
+    all.into_iter().filter(|_| family.fit).collect()
+}
+
+/// The questions of a kind. The covers are of each place among the rows, and between two of these of a row's number.
+fn questions(family: &Family, [kind, from, count]: [usize; 3]) -> Vec<Question> {
+    if kind == 2 {
+        let covered = (1..).zip(&family.rows).flat_map(|(position, &(number, _, _))| [number, position]);
+        return [0].into_iter().chain(covered).map(Question::Cover).collect();
+    }
+    let question = |&[a, b, n]: &[u16; 3]| match kind {
+        0 => Question::Day(a),
+        1 => Question::Span(a, b),
+        _ => Question::Days((0..n).map(|i| a.wrapping_add(i.wrapping_mul(b.wrapping_sub(a)))).collect()),
+    };
+    tables()[from..from + count].iter().map(question).collect()
+}
+
+/// How many questions and how many families there are, and these. A line is a name, or three numbers.
 pub fn rows() -> String {
-    let families = families();
-    let mut text = format!("{}\n", families.len());
-    for Family { name, rows, far, .. } in families {
-        writeln!(text, "{name} {} {}", u8::from(far), rows.len()).expect("a text grows");
-        text.extend(rows.iter().map(|(number, first, last)| format!("{number} {first} {last}\n")));
+    let numbers = |[a, b, c]: [usize; 3]| format!("{a:5} {b:5} {c:5}\n");
+    let named = |name| format!("{name:<17}\n");
+    let (table, families) = (tables(), families());
+    let mut text = numbers([table.len(), families.len(), 0]);
+    text.extend(table.into_iter().map(|question| numbers(question.map(usize::from))));
+    for family in families {
+        let kinds = kinds(&family);
+        let held = family.rows.len().min(MOST_SPELLS);
+        text += &named(family.name);
+        text += &numbers([kinds.len(), held, family.rows.len()]);
+        text.extend(
+            family.rows[..held].iter().map(|&(number, first, last)| numbers([number, first, last].map(usize::from))),
+        );
+        text.extend(kinds.into_iter().flat_map(|(name, kind)| [named(name), numbers(kind)]));
     }
     text
 }
@@ -110,11 +151,11 @@ pub fn printed() -> String {
             continue;
         }
         let mut account = published(&family);
-        for (kind, questions) in questions(&family) {
+        for (name, kind) in kinds(&family) {
             let mut tally = Tally::default();
-            questions.into_iter().for_each(|question| tally.ask(&mut account, question));
+            questions(&family, kind).into_iter().for_each(|question| tally.ask(&mut account, question));
             let Tally { asked, listed, looks, hash } = tally;
-            writeln!(text, "{kind} {asked} {listed} {looks} {hash}").expect("a text grows");
+            writeln!(text, "{name} {asked} {listed} {looks} {hash}").expect("a text grows");
         }
     }
     text

@@ -1,6 +1,5 @@
--- `stabbing_cases::family` is safe and ends: where the builder answers true and each number is its row's own, the block may be asked. Assumes nothing.
-use Rattle.basis.proofs.Prelude.{needs, not-false}
-use Rattle.stabbing_cases.proofs.Building.{block}
+-- `stabbing_cases::family` is safe and ends: what may be asked is asked. Assumes nothing.
+use Rattle.basis.proofs.Prelude.{needs}
 use Rattle.stabbing_cases.proofs.family.Statement.{statement}
 use Rattle.stabbing_cases.proofs.family.Tie as tie
 
@@ -8,11 +7,8 @@ pub family-spec : {M : Type 1} → statement M
 family-spec =
     tie.close
     (tie.spec
-    (λ c κs. search needs) (λ c κs. search needs) (λ c κs. search needs) (λ c κs. search needs)
-    (λ c. search needs) (λ c κs. search needs)
-    (λ c κs. search needs) (λ c κs. search needs) (λ c κs. search needs) (λ c. search needs)
-    -- own_numbers(index), and ask_all of it
-    (λ c κs. block _ _ _ _ _ _ _ (c .before .before .build .ensures) (not-false _ (c .before .if1 .left)) (search needs) (search needs))
-    (λ c. search needs) (λ c κs. search needs) (λ c. search needs)
-    (λ c κs. c .before .before .own-numbers .ensures (not-false _ (c .before .if2 .left)))
-    (λ c. search needs))
+    (λ c κs. search needs) (λ c κs. search needs) (λ c κs. search needs) (λ c. search needs) (λ c κs. search needs)
+    (λ c κs. search needs) (λ c κs. search needs) (λ c. search needs) (λ c κs. search needs)
+    -- ask_all(index, ..)
+    (λ c κs. let t = c .before .before in t .before .built .ensures (t .if1 .taken))
+    (λ c. search needs) (λ c. search needs))

@@ -1,0 +1,12 @@
+-- `stabbing_cases::hear` is safe and ends. Assumes nothing.
+use Rattle.basis.proofs.Prelude.{sym, length-take-le, needs}
+use Rattle.stabbing_cases.proofs.hear.Statement.{statement}
+use Rattle.stabbing_cases.proofs.hear.Tie as tie
+
+pub hear-spec : {M : Type 1} → statement M
+hear-spec =
+    tie.close
+    (tie.spec
+    (λ c. search needs) (λ c. sym (length-take-le _ _ (search needs))) (λ c κs. search needs) (λ c κs. search needs)
+    (λ c κs. search needs) (λ c κs. search needs) (λ c κs. search needs) (λ c κs. search needs)
+    (λ c κs. search needs) (λ c. search needs))
