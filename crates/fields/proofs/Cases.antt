@@ -1,6 +1,6 @@
 -- Worked examples of each field, read and written. Assumes nothing.
 use Rattle.basis.proofs.Prelude.{_≡_, refl, [], _∷_}
-use Rattle.fields.specs.Fields.{digitsOf, decimalOf, numberText, wideText, numbersText, hexDigit, hexOf, bitsText, found, unreadable, passed, readDigits, readDecimal, readLength, readNumber, hexValue, readHex, readBits}
+use Rattle.fields.specs.Fields.{digitsOf, decimalOf, numberText, wideText, numbersText, hexDigit, hexOf, bitsText, found, unreadable, passed, readDigits, readDecimal, readLength, readNumber, hexValue, readHex, readBits, readMask}
 
 written :
     (numberText 0 9 [] ≡ 48 ∷ 9 ∷ [])
@@ -25,5 +25,8 @@ read :
     × (readLength 131072 10 (49 ∷ 51 ∷ 49 ∷ 48 ∷ 55 ∷ 50 ∷ 10 ∷ []) ≡ found 131072 [])
     × (readLength 131072 10 (49 ∷ 51 ∷ 49 ∷ 48 ∷ 55 ∷ 51 ∷ 10 ∷ []) ≡ unreadable)
     × (readBits 10 (51 ∷ 70 ∷ 56 ∷ 48 ∷ 48 ∷ 48 ∷ 65 ∷ 70 ∷ 10 ∷ []) ≡ found 0x3F80_00AF [])
+    × (readMask 10 (56 ∷ 48 ∷ 48 ∷ 48 ∷ 48 ∷ 48 ∷ 48 ∷ 48 ∷ 48 ∷ 48 ∷ 48 ∷ 48 ∷ 48 ∷ 48 ∷ 48 ∷ 49 ∷ 10 ∷ []) ≡ found 0x8000_0000_0000_0001 [])
+    -- a digit too few
+    × (readMask 10 (56 ∷ 48 ∷ 48 ∷ 48 ∷ 48 ∷ 48 ∷ 48 ∷ 48 ∷ 48 ∷ 48 ∷ 48 ∷ 48 ∷ 48 ∷ 48 ∷ 49 ∷ 10 ∷ []) ≡ unreadable)
 unfolding passed readDigits readDecimal hexValue readHex
-read = (refl, refl, refl, refl, refl, refl, refl, refl, refl, refl)
+read = (refl, refl, refl, refl, refl, refl, refl, refl, refl, refl, refl, refl)

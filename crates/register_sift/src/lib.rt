@@ -44,7 +44,7 @@ fn judge(text: &[u8], at: usize, seen: &[bool; 65536], count: usize) -> Judged
     ensures { λ r. ⌜ Judges (now (text .entry)) at (now (seen .entry)) count r ⌝ }
 {
     let none = spell_checks::blank();
-    let Line::Value(s, _) = register_read::read_line(text, at) else {
+    let Line::Value(s, _) = register_line::read_line(text, at) else {
         return Judged {
             number: MALFORMED,
             spell: none,

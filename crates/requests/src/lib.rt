@@ -155,7 +155,7 @@ fn spell_call(w: SpellWord, s: Spell) -> Call
 fn spell_asked(line: &[u8], at: usize, w: SpellWord) -> Request
     ensures { λ r. ⌜ Asks (Layout.Spell w) (drop at (now (line .entry))) r ⌝ }
 {
-    let Line::Value(s, next) = register_read::read_line(line, at) else {
+    let Line::Value(s, next) = register_line::read_line(line, at) else {
         return Request::Malformed;
     };
     if_ended(line, next, Request::Call(spell_call(w, s), 0))

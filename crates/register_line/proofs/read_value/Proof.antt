@@ -1,13 +1,13 @@
--- `register_read::read_value` meets its contract. Assumes nothing.
+-- `register_line::read_value` meets its contract. Assumes nothing.
 use Rattle.basis.proofs.Prelude.{ap, refl, ℕ, drop, arith, needs, eq-eqb, ne-eqb}
 use Rattle.spell.specs.declared.Urgency.the-variants.{Grade, Reading}
 use Rattle.fields.specs.Fields.{found, unreadable}
 use Rattle.fields.proofs.Places.{reads-as, said, field-next, length-next}
 use Rattle.hex.proofs.Hex.{write-bits}
-use Rattle.register_read.specs.declared.Kind.the-variants.{Value}
+use Rattle.register_line.specs.declared.Kind.the-variants.{Value}
 use Rattle.register.specs.Text.{readValue}
-use Rattle.register_read.proofs.read_value.Statement.{statement}
-use Rattle.register_read.proofs.read_value.Tie as tie
+use Rattle.register_line.proofs.read_value.Statement.{statement}
+use Rattle.register_line.proofs.read_value.Tie as tie
 
 pub read-value-spec : {M : Type 1} → statement M
 unfolding readValue

@@ -5,8 +5,8 @@ use lib.ListN.{drop}
 use Rattle.spell.specs.declared.Urgency.{Urgency}
 use Rattle.fields.specs.Fields.{Found, found, unreadable}
 use Rattle.fields.specs.Answers.{placeOf}
-use Rattle.register_read.specs.declared.Kind.{Kind}
-use Rattle.register_read.specs.declared.Kind.the-variants.{Value as KindValue, Malformed as KindMalformed}
+use Rattle.register_line.specs.declared.Kind.{Kind}
+use Rattle.register_line.specs.declared.Kind.the-variants.{Value as KindValue, Malformed as KindMalformed}
 
 abbrev pub kindAt : List ℕ → Found Urgency → Kind
 kindAt text (found u rest) = KindValue u (placeOf text rest)

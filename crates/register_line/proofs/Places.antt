@@ -5,11 +5,11 @@ use Rattle.fields.specs.Answers.{placeOf, Reads}
 use Rattle.fields.proofs.Places.{here, past-end, reads-as, said}
 use Rattle.spell.specs.declared.Urgency.{Urgency}
 use Rattle.spell.specs.declared.Spell.{Spell}
-use Rattle.register_read.specs.declared.Kind.{Kind}
-use Rattle.register_read.specs.declared.Kind.the-variants.{Value}
+use Rattle.register_line.specs.declared.Kind.{Kind}
+use Rattle.register_line.specs.declared.Kind.the-variants.{Value}
 use Rattle.register.specs.declared.Line.the-variants.{Value as LineValue}
 use Rattle.register.specs.Answers.{lineAt, lineOf}
-use Rattle.register_read.specs.Contracts.{kindAt, kindOf}
+use Rattle.register_line.specs.Contracts.{kindAt, kindOf}
 use Rattle.register.specs.Text.{isLetter, readLetter}
 
 module _ (s : List ℕ) (i : ℕ) where

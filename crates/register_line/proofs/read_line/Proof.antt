@@ -1,13 +1,13 @@
--- `register_read::read_line` meets its contract: each field is read where the one before it ended. Assumes nothing.
+-- `register_line::read_line` meets its contract: each field is read where the one before it ended. Assumes nothing.
 use Rattle.basis.proofs.Prelude.{_∙_, _≡_, ap, refl, sym, drop, needs}
 use Rattle.fields.specs.Fields.{found, unreadable, readNumber}
 use Rattle.fields.specs.Answers.{fieldOf}
 use Rattle.fields.proofs.Places.{reads-as, said}
 use Rattle.register.specs.Text.{readLetter, readUrgency, readLine}
 use Rattle.register.proofs.Lines.{line-found}
-use Rattle.register_read.proofs.Places.{kind-next, line-reads}
-use Rattle.register_read.proofs.read_line.Statement.{statement}
-use Rattle.register_read.proofs.read_line.Tie as tie
+use Rattle.register_line.proofs.Places.{kind-next, line-reads}
+use Rattle.register_line.proofs.read_line.Statement.{statement}
+use Rattle.register_line.proofs.read_line.Tie as tie
 
 -- what each field that was read says
 read1 : (c : tie.After-known-told) →

@@ -1,11 +1,11 @@
--- `register_read::read_letter` meets its contract. Assumes nothing.
+-- `register_line::read_letter` meets its contract. Assumes nothing.
 use Rattle.basis.proofs.Prelude.{_∙_, _≡_, sym, _+_, true, drop, getD, arith, needs, not-false, not-true}
 use Rattle.fields.specs.Fields.{passed, isAt}
 use Rattle.register.specs.Text.{readLetter}
 use Rattle.fields.proofs.Places.{at-inside, passed-not, passed-at}
-use Rattle.register_read.proofs.Places.{letter-past, letter-other, letter-at}
-use Rattle.register_read.proofs.read_letter.Statement.{statement}
-use Rattle.register_read.proofs.read_letter.Tie as tie
+use Rattle.register_line.proofs.Places.{letter-past, letter-other, letter-at}
+use Rattle.register_line.proofs.read_letter.Statement.{statement}
+use Rattle.register_line.proofs.read_letter.Tie as tie
 
 -- past the letter
 lettered : (c : tie.Else2) →
