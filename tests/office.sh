@@ -1,10 +1,13 @@
 #!/usr/bin/env bash
-# tests/office.sh [NAME [OPTION..]]: phayaklitd, proved and built first where that is needed, tried by one of these, or by all:
+# tests/office.sh [NAME [OPTION..]]: phayaklitd, proved and built first where that is needed, tried by one of these, or by all, two at a time:
 #
-#     manners                      how it begins, ends and treats its clients: register, lock, limits, slow and rude clients, systemd
-#     order                        the commit's synchronisation comes before the answer's write, by its system calls
-#     damage                       a damaged, foreign or other journal is refused, and nothing is changed
-#     disk                         a full disk, or a limit on the size of files
+#     manners                      how it begins and ends: register, lock, limit, sockets, arguments, a folder that can't be written, systemd
+#     record                       status, history, the users and times of changes, and what another user may do
+#     clients                      slow, silent and rude clients, half-closed connections, bursts, no descriptors left
+#     order                        by its system calls: the commit's synchronisation before the answer's write, one commit and few writes
+#     damage                       a damaged, forged, foreign or other journal is refused, and nothing is changed
+#     failures                     a write or a synchronisation that fails, another program that holds the journal
+#     disk                         a full disk, and a limit on the size of files
 #     many [--length N --seed N]   16 connections that edit and ask at once, N requests each
 #     kills [--length N --seed N]  killed N times at random moments, with requests in flight, and compared with the plain account
 set -euo pipefail
@@ -18,9 +21,32 @@ if [ $# -gt 0 ]; then
     try "$@"
     exit
 fi
+
+# What the command needs and does not find is told by its package.
+work=$(mktemp -d)
+trap 'wait; rm -rf "$work"' EXIT
+ln -s "$(type -P bash)" "$(type -P dirname)" "$work"
+# missing PACKAGE: with the programs of $work alone, it asks for this package
+missing() {
+    ! PATH=$work "$top/bin/phayaklitd" --build 2> "$work/told" || { echo "office.sh: built without $1" >&2; exit 1; }
+    grep -qF "$1" "$work/told" || { cat "$work/told" >&2; exit 1; }
+}
+missing cargo
+ln -s "$(type -P true)" "$work/cargo"
+missing gcc
+ln -s "$(type -P false)" "$work/cc"
+missing libsqlite3-dev
+
+{
+    try kills --length 50
+    try many --length 200
+} > "$work/said" 2>&1 &
+others=$!
 (cd "$top/rust" && cargo test --quiet --release --package daemon > /dev/null)
-for name in manners order damage disk; do
+for name in manners record clients order damage failures disk; do
     try "$name"
 done
-try many --length 200
-try kills --length 50
+came=0
+wait "$others" || came=1
+cat "$work/said"
+exit "$came"

@@ -8,6 +8,7 @@ mod kills;
 mod manners;
 mod many;
 mod order;
+mod record;
 mod rows;
 mod service;
 mod tracer;
@@ -26,7 +27,8 @@ fn tried(own: &str, name: &str, words: &[String]) -> Result<String, String> {
         "disk" => disk::check(&program)?,
         "order" => order::check(&program)?,
         "damage" => damage::check(&program)?,
-        "manners" => manners::check(&program, own)?,
+        "manners" => manners::check(&program)?,
+        "record" => record::check(&program, own)?,
         "failures" => failures::check(&program)?,
         "clients" => clients::check(&program)?,
         _ => return Err("there is no such test: tests/office.sh has the names".to_string()),
@@ -38,7 +40,7 @@ fn main() -> ExitCode {
     let words: Vec<String> = std::env::args().collect();
     let names: Vec<&str> = words.iter().map(String::as_str).collect();
     match names[..] {
-        [_, "send", socket, requests] => match manners::send(socket, requests) {
+        [_, "send", socket, requests] => match record::send(socket, requests) {
             Ok(heard) => {
                 print!("{heard}");
                 ExitCode::SUCCESS

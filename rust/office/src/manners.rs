@@ -1,21 +1,18 @@
-//! How the service begins, ends, and treats its clients.
+//! How the service begins and ends.
 
 use crate::service::{expect, Client, Place, Program, Service};
 use std::fs;
 use std::os::unix::fs::PermissionsExt;
 use std::os::unix::net::UnixDatagram;
-use std::os::unix::process::CommandExt;
 use std::process::Command;
 
-/// A user that is neither the service's own nor root.
-const NOBODY: u32 = 65_534;
-
-pub fn check(program: &Program, own: &str) -> Result<String, String> {
+pub fn check(program: &Program) -> Result<String, String> {
     begins(program)?;
-    others(program, own)?;
+    begins_again(program)?;
+    refuses(program)?;
     limit(program)?;
     systemd(program)?;
-    Ok("it begins, ends and treats its clients as it should".to_string())
+    Ok("it begins and ends as it should".to_string())
 }
 
 fn ended_with(command: &mut Command, told: &str) -> Result<(), String> {
@@ -42,39 +39,85 @@ fn begins(program: &Program) -> Result<(), String> {
     let (status, told) = service.end()?;
     expect(&format!("it ended with {status}: {told}"), status.success())?;
     ended_with(program.command(&place).arg("--register").arg(&file), "--register is for an empty folder")?;
-    let history = program.run(&["history", "--data", &place.data().display().to_string(), "--spell", "11"])?;
-    expect(&format!("the history is {}", history.1), history.1.contains("began anew on a register of 14 bytes"))
+    let (_, history, _) = program.run(&["history", "--data", &place.data().display().to_string(), "--spell", "11"])?;
+    expect(&format!("the history is {history}"), history.contains("began anew on a register of 14 bytes"))
 }
 
-/// Another user may ask and edit, and may not replace everything.
-fn others(program: &Program, own: &str) -> Result<(), String> {
-    let place = Place::new("others");
+/// What can't be served is told, and what stands there is left alone.
+fn refuses(program: &Program) -> Result<(), String> {
+    let place = Place::new("refuses");
+    let (data, socket) = (place.data().display().to_string(), place.socket().display().to_string());
+    for wrong in [&[][..], &["--data", &data], &["--socket", &socket], &["--data"], &["serve"], &["verify"]] {
+        let (status, printed, told) = program.run(wrong)?;
+        let is_told = status.code() == Some(2) && printed.is_empty() && told.contains("usage: phayaklitd");
+        expect(&format!("{wrong:?} told {told:?}"), is_told)?;
+    }
+    for (asked, begins) in [("--help", "usage: phayaklitd --data"), ("--version", "phayaklitd 0")] {
+        let (status, printed, _) = program.run(&[asked])?;
+        expect(&format!("{asked} printed {printed:?}"), status.success() && printed.starts_with(begins))?;
+    }
+    expect("a folder is made for nothing", !place.data().exists())?;
+    for command in ["verify", "history"] {
+        let (status, _, told) = program.run(&[command, "--data", &data])?;
+        expect(&format!("{command} told {told:?}"), status.code() == Some(1) && told.contains("has no journal.db"))?;
+    }
+    fs::write(place.socket(), "kept").map_err(|error| error.to_string())?;
+    ended_with(&mut program.command(&place), "is there, and is no socket")?;
+    expect("a file is removed", fs::read(place.socket()).is_ok_and(|text| text == b"kept"))?;
+    ended_with(program.command(&place).arg("--register").arg(place.folder().join("none")), "No such file")?;
+    ended_with(Command::new(&program.0).args(["--data", &socket, "--socket", &data]), "File exists")?;
+    let read_only = Place::new("read-only");
+    let tried = read_only.with_disk(|place| {
+        let service = program.start(place)?;
+        expect("a change is refused", service.connect()?.ask(b"publish\t1\n")? == b"ok\n")?;
+        service.end()?;
+        let remounted = Command::new("mount").args(["-o", "remount,ro"]).arg(place.data()).status();
+        remounted.map_err(|error| error.to_string())?;
+        ended_with(&mut program.command(place), "Read-only file system")?;
+        program.verified(place, 1)
+    });
+    tried.map(|_| ())
+}
+
+/// A folder that is missing, with the one above it; files for the owner alone; no address of a network; a socket that was left behind.
+fn begins_again(program: &Program) -> Result<(), String> {
+    let place = Place::new("again");
     let service = program.start(&place)?;
-    if fs::metadata("/proc/self").map(|own| std::os::unix::fs::MetadataExt::uid(&own)).unwrap_or(1) != 0 {
-        return Ok(());
+    for name in ["journal.db", "journal.db-wal", "lock"] {
+        let mode = fs::metadata(place.data().join(name)).map_err(|error| error.to_string())?.permissions().mode();
+        expect(&format!("{name} is {mode:o}"), mode & 0o777 == 0o600)?;
     }
-    for (path, mode) in [(place.folder().to_path_buf(), 0o755), (place.socket(), 0o666)] {
-        fs::set_permissions(path, fs::Permissions::from_mode(mode)).map_err(|error| error.to_string())?;
-    }
-    let mut command = Command::new(own);
-    command.arg("send").arg(place.socket()).arg("enter\t1\t7\t1\t10\tG\t2\nread\t0\nread\t3\nabcwrite\n").uid(NOBODY);
-    let out = command.output().map_err(|error| error.to_string())?;
-    let heard = String::from_utf8_lossy(&out.stdout).into_owned();
-    expect(&format!("another user heard {heard:?}"), heard == "ok\ndenied\ndenied\ntext\t13\n1\t7\t1\t10\tG\t2\n")?;
-    expect("the service's own user is denied", service.connect()?.ask(b"read\t0\n")? == b"ok\n")
+    expect("a socket is not of this machine alone", all_local(service.process())?)?;
+    expect("a change is refused", service.connect()?.ask(b"enter\t1\t7\t1\t10\tG\t2\n")? == b"ok\n")?;
+    service.kill()?;
+    expect("no socket is left behind", place.socket().exists())?;
+    let service = program.start(&place)?;
+    expect("a change is lost", service.connect()?.status("standing")? == "1")?;
+    let other = Place::new("other");
+    let mut command = Command::new(&program.0);
+    command.arg("--data").arg(other.data()).arg("--socket").arg(place.socket());
+    ended_with(&mut command, "is in use: another program listens there")?;
+    service.end()?;
+    expect("the socket is not removed", !place.socket().exists())
 }
 
-/// Sends and prints what comes, until there is no more.
-pub fn send(socket: &str, requests: &str) -> Result<String, String> {
-    let mut client = Client::to(socket.as_ref())?;
-    client.send(requests.as_bytes())?;
-    let mut heard = Vec::new();
-    for _ in
-        0..requests.lines().count() - usize::from(requests.contains("abc")) + usize::from(requests.contains("abcwrite"))
-    {
-        heard.extend(client.answer()?.unwrap_or_default());
+/// Whether every socket of a process is a Unix one.
+fn all_local(process: u32) -> Result<bool, String> {
+    let failed = |error: std::io::Error| error.to_string();
+    let local = fs::read_to_string(format!("/proc/{process}/net/unix")).map_err(failed)?;
+    let known: Vec<&str> = local.lines().filter_map(|line| line.split_whitespace().nth(6)).collect();
+    let mut sockets = 0;
+    for open in fs::read_dir(format!("/proc/{process}/fd")).map_err(failed)? {
+        let link = fs::read_link(open.map_err(failed)?.path()).unwrap_or_default();
+        let link = link.to_string_lossy();
+        if let Some(node) = link.strip_prefix("socket:[").and_then(|rest| rest.strip_suffix(']')) {
+            sockets += 1;
+            if !known.contains(&node) {
+                return Ok(false);
+            }
+        }
     }
-    Ok(String::from_utf8_lossy(&heard).into_owned())
+    Ok(sockets > 0)
 }
 
 /// One connection more than may be.

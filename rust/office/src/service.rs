@@ -35,7 +35,7 @@ impl Place {
 
     /// Does something with a small disk of its own for the data, where this user may mount one.
     pub fn with_disk<T>(&self, work: impl FnOnce(&Place) -> Result<T, String>) -> Result<Option<T>, String> {
-        fs::create_dir(self.data()).map_err(|error| error.to_string())?;
+        fs::create_dir_all(self.data()).map_err(|error| error.to_string())?;
         let mounted = Command::new("mount").args(["-t", "tmpfs", "-o", "size=1m", "tmpfs"]).arg(self.data()).output();
         if !mounted.is_ok_and(|out| out.status.success()) {
             return Ok(None);
@@ -49,8 +49,9 @@ impl Place {
         &self.folder
     }
 
+    /// The folder of the data; it is missing at first, with the one above it.
     pub fn data(&self) -> PathBuf {
-        self.folder.join("data")
+        self.folder.join("office").join("data")
     }
 
     pub fn socket(&self) -> PathBuf {
