@@ -112,7 +112,7 @@ fn text_length(line: &[u8], n: usize) -> u64
     requires { ⌜ n ≤ length (now line) ⌝ }
     ensures { λ r. ⌜ r ≡ wants (take n (now (line .entry))) ⌝ }
 {
-    requests::text_length(&line[..n])
+    request_lines::text_length(&line[..n])
 }
 
 // The place n of a list, or its end where it has fewer places.

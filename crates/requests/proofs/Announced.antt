@@ -1,5 +1,5 @@
 -- How many bytes follow a line: only the word `read` has any, the first of the table. Assumes nothing.
-use Rattle.requests.proofs.Names.{String, Found, found, unreadable, readLength, readNumber, readMask, readLine, Ask, Layout, Alone, Number, Pair, MaskFields, DayFields, Length, Unknown, Room, Read, Request, table, begins, bytesOf, headOf, Asked, asksCall, asksRoom, asksRead, malformed, asking, ended, DayList, readDays, askDays, askedBy, askedOf, following, requestOf, Announces, Asks, followingIn}
+use Rattle.requests.proofs.Names.{String, Found, found, unreadable, readLength, readNumber, readMask, readLine, Ask, Layout, Alone, Number, Pair, MaskFields, DayFields, Length, Unknown, Room, Read, limitOf, Request, table, begins, bytesOf, headOf, Asked, asksCall, asksRoom, asksRead, malformed, asking, ended, DayList, readDays, askDays, askedBy, askedOf, following, requestOf, Announces, Asks, followingIn}
 use Rattle.basis.proofs.Prelude.{_≡_, refl, sym, _<_, _≤_, ℕ, List, [], _∷_, Bool, _&&_, both, cond, false, true, drop, length, arith, le-leb, lt-leb}
 use Rattle.model.specs.declared.Question.the-variants.{Days}
 use Rattle.requests.specs.declared.Layout.the-variants.{Spell}
@@ -8,7 +8,7 @@ use Rattle.requests.specs.declared.Layout.the-variants.{Spell}
 
 -- the layout is not that of `read`
 unfoldable silent : Layout → Bool
-silent (Alone c) = true
+silent (Alone w) = true
 silent (Spell w) = true
 silent (Number w) = true
 silent Pair = true
@@ -38,13 +38,13 @@ none-days l = go (l .whole)
 
 none-by : (l : Layout) (room : ℕ) (s : List ℕ) → silent l ≡ true → following (askedBy l room s) ≡ 0
 unfolding askedBy silent following
-none-by (Alone c) room s e = none-ended _ s refl
+none-by (Alone w) room s e = none-ended _ s refl
 none-by (Spell w) room s e = none-asking (readLine s) _ (λ x rest. none-ended _ rest refl)
 none-by (Number w) room s e = none-asking (readNumber 10 s) _ (λ n rest. none-ended _ rest refl)
 none-by Pair room s e = none-asking (readNumber 9 s) _ (λ a s1. none-asking (readNumber 10 s1) _ (λ b rest. none-ended _ rest refl))
 none-by MaskFields room s e = none-asking (readNumber 9 s) _ (λ b s1. none-asking (readMask 10 s1) _ (λ k rest. none-ended _ rest refl))
 none-by DayFields room s e = none-days (readDays room s)
-none-by (Length Room) room s e = none-asking (readLength 65536 10 s) _ (λ n rest. none-ended _ rest refl)
+none-by (Length Room) room s e = none-asking (readLength (limitOf Room) 10 s) _ (λ n rest. none-ended _ rest refl)
 none-by (Length Read) room s e = absurd (let z : _≡_ {A = ℕ} 0 1 = cc in omega arith)
 none-by Unknown room s e = refl
 

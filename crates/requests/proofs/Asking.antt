@@ -1,6 +1,6 @@
 -- What a line asks, as the program holds it: its days stand in the lent list, and its room is one that can be lent. Assumes nothing.
 use Rattle.basis.proofs.Prelude.{_≡_, ap, refl, _≤_, suc, zero, ℕ, List, [], _++_, _∷_, Bool, cond, false, true, leb, drop, length, take, take-at, arith}
-use Rattle.requests.proofs.Names.{Found, found, unreadable, readNumber, readLength, readMask, length-within, readLine, Call, Ask, Request, Layout, Alone, Number, Pair, MaskFields, DayFields, Length, Unknown, LengthWord, Room, Read, Head, table, headOf, spellCall, numberCall, pairCall, limitOf, Asked, asksCall, asksRoom, asksRead, malformed, asks, asking, ended, lengthAsks, DayList, lastDay, nextDay, readDays, askDays, askedBy, daysBy, askedOf, daysOf, requestOf, askedFrom, daysIn, roomIn, Parses}
+use Rattle.requests.proofs.Names.{Found, found, unreadable, readNumber, readLength, readMask, length-within, readLine, Call, Ask, Request, Layout, Alone, Number, Pair, MaskFields, DayFields, Length, Unknown, LengthWord, Room, Read, Head, table, headOf, aloneCall, spellCall, numberCall, pairCall, limitOf, Asked, asksCall, asksRoom, asksRead, malformed, asks, asking, ended, lengthAsks, DayList, lastDay, nextDay, readDays, askDays, askedBy, daysBy, askedOf, daysOf, requestOf, askedFrom, daysIn, roomIn, Parses}
 use Rattle.model.specs.declared.Question.the-variants.{Days, Mask}
 use Rattle.requests.specs.declared.Layout.the-variants.{Spell}
 
@@ -53,7 +53,7 @@ sound-days l n h = go (l .whole)
 
 sound-by : (l : Layout) (n : ℕ) (s : List ℕ) → Sound (askedBy l n s) (daysBy l n s) n
 unfolding askedBy daysBy
-sound-by (Alone c) n s = sound-ended _ s [] n (sound-call c n)
+sound-by (Alone w) n s = sound-ended _ s [] n (sound-call (aloneCall w) n)
 sound-by (Spell w) n s = sound-asking (readLine s) _ n (λ x rest e. sound-ended _ rest [] n (sound-call (spellCall w x) n))
 sound-by (Number w) n s = sound-asking (readNumber 10 s) _ n (λ k rest e. sound-ended _ rest [] n (sound-call (numberCall w k) n))
 sound-by Pair n s = sound-asking (readNumber 9 s) _ n (λ a s1 e. sound-asking (readNumber 10 s1) _ n (λ b rest e1. sound-ended _ rest [] n (sound-call (pairCall a b) n)))

@@ -36,7 +36,7 @@ days-enough (suc n) j s h =
 
 by-enough : (l : Layout) (n j : ℕ) (s : List ℕ) → length s ≤ 2 * n + 1 → askedBy l n s ≡ askedBy l (n + j) s
 unfolding askedBy
-by-enough (Alone c) n j s h = refl
+by-enough (Alone w) n j s h = refl
 by-enough (Spell w) n j s h = refl
 by-enough (Number w) n j s h = refl
 by-enough Pair n j s h = refl

@@ -13,11 +13,10 @@ pub use Rattle.model.specs.declared.Call.the-variants.{Amend, Ask, Enter, Publi
 pub use Rattle.model.specs.declared.Question.the-variants.{Cover, Day, Span}
 pub use Rattle.register.specs.Answers.{lineOf}
 unfoldable pub use Rattle.register.specs.Text.{readLetter, readLine, readUrgency, readValue}
-pub use Rattle.requests.specs.Contracts.{Asks, ReadsDays, after, followingIn, ifEnded}
-pub use Rattle.requests.specs.Parsing.{Announces, Parses, askedFrom, daysIn, requestOf, roomIn}
+pub use Rattle.requests.specs.Parsing.{Announces, Asks, Parses, askedFrom, daysIn, followingIn, ifEnded, requestOf, roomIn}
 pub use Rattle.requests.specs.Requests.{Asked, DayList, askDays, asking, asks, asksCall, asksRead, asksRoom, ended, lastDay, lengthAsks, malformed, nextDay}
 unfoldable pub use Rattle.requests.specs.Requests.{askedBy, askedOf, daysBy, daysOf, following, readDays}
-pub use Rattle.requests.specs.Words.{bytesOf, headOr, limitOf, numberCall, pairCall, spellCall}
+pub use Rattle.requests.specs.Words.{aloneCall, bytesOf, callWords, headOr, limitOf, numberCall, pairCall, questionWords, spellCall}
 unfoldable pub use Rattle.requests.specs.Words.{begins, headOf, table, table as words}
 pub use Rattle.requests.specs.declared.Head.{Head}
 pub use Rattle.requests.specs.declared.Layout.{Layout}

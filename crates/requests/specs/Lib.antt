@@ -1,4 +1,3 @@
 pub mod Words
 pub mod Requests
 pub mod Parsing
-pub mod Contracts

@@ -1,12 +1,14 @@
 -- What the program's answer says of a request's line, and what is left in the list lent for days. Assumes nothing.
 use Prim.Native.Nat.{ℕ}
 use mathlib.Core.Path.{_≡_}
-use mathlib.Core.List.{List}
+use mathlib.Core.List.{List, [], _∷_}
 use lib.ListN.{length, take}
 use Rattle.buffer.specs.Buffer.{over}
+use Rattle.requests.specs.declared.Layout.{Layout}
+use Rattle.requests.specs.declared.LengthWord.{LengthWord}
 use Rattle.requests.specs.declared.Request.{Request}
 use Rattle.requests.specs.declared.Request.the-variants.{Call as RequestCall, Room as RequestRoom, Read as RequestRead, Malformed as RequestMalformed}
-use Rattle.requests.specs.Requests.{Asked, asksCall, asksRoom, asksRead, malformed, askedOf, following, daysOf}
+use Rattle.requests.specs.Requests.{Asked, asksCall, asksRoom, asksRead, malformed, lengthAsks, askedBy, askedOf, following, daysOf}
 
 -- the program's form of what is asked: the days of a call stand in the first places of the lent list, and their count beside it
 abbrev pub requestOf : Asked → Request
@@ -47,3 +49,25 @@ roomIn (RequestCall c k) = 0
 roomIn (RequestRoom n) = n
 roomIn (RequestRead n) = 0
 roomIn RequestMalformed = 0
+
+-- ---- The parts of a line
+
+-- the fields s of a layout ask r, whatever room there is for days
+abbrev pub Asks : Layout → List ℕ → Request → Type 0
+Asks l s r = (room : ℕ) → r ≡ requestOf (askedBy l room s)
+
+-- a request where nothing comes after
+abbrev pub ifEnded : Request → List ℕ → Request
+ifEnded q [] = q
+ifEnded q (b ∷ rest) = RequestMalformed
+
+-- what a decimal asks
+abbrev pub lengthRequest : LengthWord → ℕ → Request
+lengthRequest w n = requestOf (lengthAsks w n)
+
+-- the length of the text that a request announces
+abbrev pub followingIn : Request → ℕ
+followingIn (RequestCall c k) = 0
+followingIn (RequestRoom n) = 0
+followingIn (RequestRead n) = n
+followingIn RequestMalformed = 0

@@ -13,7 +13,7 @@ use Rattle.requests.specs.declared.Layout.{Layout}
 use Rattle.requests.specs.declared.Layout.the-variants.{Alone, Spell, Number, Pair, Mask as MaskFields, Days as DayFields, Length, Unknown}
 use Rattle.requests.specs.declared.LengthWord.{LengthWord}
 use Rattle.requests.specs.declared.LengthWord.the-variants.{Room, Read}
-use Rattle.requests.specs.Words.{table, headOf, spellCall, numberCall, pairCall, limitOf}
+use Rattle.requests.specs.Words.{table, headOf, aloneCall, spellCall, numberCall, pairCall, limitOf}
 
 -- a call of the account, with the days of a days question; a room; a reading of so many bytes; or nothing that has a form
 pub data Asked : Type 0 where
@@ -76,7 +76,7 @@ askDays l = cond (l .whole) (asksCall (Ask Days) (l .days)) malformed
 
 -- The six fields of a spell are those of a register line. A list of days has at most `room`.
 unfoldable pub askedBy : Layout → ℕ → List ℕ → Asked
-askedBy (Alone c) room s = ended (asks c) s
+askedBy (Alone w) room s = ended (asks (aloneCall w)) s
 askedBy (Spell w) room s = asking (readLine s) (λ x. ended (asks (spellCall w x)))
 askedBy (Number w) room s = asking (readNumber lf s) (λ n. ended (asks (numberCall w n)))
 askedBy Pair room s = asking (readNumber tab s) (λ a s1. asking (readNumber lf s1) (λ b. ended (asks (pairCall a b))))
@@ -87,7 +87,7 @@ askedBy Unknown room s = malformed
 
 -- the days that are read
 unfoldable pub daysBy : Layout → ℕ → List ℕ → List ℕ
-daysBy (Alone c) room s = []
+daysBy (Alone w) room s = []
 daysBy (Spell w) room s = []
 daysBy (Number w) room s = []
 daysBy Pair room s = []

@@ -4,53 +4,76 @@ use Prim.Native.Nat.{ℕ}
 use Prim.Native.Char.{code}
 use Prim.Native.String.{String, [] as none, _∷_ as _then_}
 use mathlib.Core.Bool.{Bool, true, false, _&&_, cond}
-use mathlib.Core.List.{List, [], _∷_}
+use mathlib.Core.List.{List, [], _∷_, _++_}
 use lib.Dec.{eqb}
 use lib.ListN.{length}
 use Rattle.spell.specs.declared.Spell.{Spell}
 use Rattle.model.specs.declared.Call.{Call}
 use Rattle.model.specs.declared.Call.the-variants.{Enter, Amend, Strike, TakeBack, Publish, Write, Ask}
-use Rattle.model.specs.declared.Question.the-variants.{Day, Span, Cover, Days}
+use Rattle.model.specs.declared.Question.{Question}
+use Rattle.model.specs.declared.Question.the-variants.{Day, Span, Cover, Days, Mask}
 use Rattle.requests.specs.declared.Layout.{Layout}
 use Rattle.requests.specs.declared.Layout.the-variants.{Alone, Spell as SpellFields, Number, Pair, Mask as MaskFields, Days as DayFields, Length, Unknown}
+use Rattle.requests.specs.declared.AloneWord.{AloneWord}
+use Rattle.requests.specs.declared.AloneWord.the-variants.{TakeBack as TakeBackWord, Write as WriteWord, Days as DaysWord}
 use Rattle.requests.specs.declared.SpellWord.{SpellWord}
 use Rattle.requests.specs.declared.SpellWord.the-variants.{Enter as EnterWord, Amend as AmendWord}
 use Rattle.requests.specs.declared.NumberWord.{NumberWord}
-use Rattle.requests.specs.declared.NumberWord.the-variants.{Strike as StrikeWord, Publish as PublishWord, Day as DayWord, Cover as CoverWord}
+use Rattle.requests.specs.declared.NumberWord.the-variants.{Strike as StrikeWord, Publish as PublishWord, Ask as AskWord}
 use Rattle.requests.specs.declared.LengthWord.{LengthWord}
 use Rattle.requests.specs.declared.LengthWord.the-variants.{Room, Read}
 use Rattle.requests.specs.declared.Head.{Head}
 
--- THE TABLE: each word with the byte after it, a tab, or LF where no field follows. No two of them begin the same line.
-unfoldable pub table : List (String × Layout)
-table =
-    ("read\t", Length Read)
-    ∷ ("room\t", Length Room)
-    ∷ ("mask\t", MaskFields)
-    ∷ ("days\n", Alone (Ask Days))
+-- the words of the questions
+abbrev pub questionWords : List (String × Layout)
+questionWords =
+    ("mask\t", MaskFields)
+    ∷ ("days\n", Alone DaysWord)
     ∷ ("days\t", DayFields)
-    ∷ ("cover\t", Number CoverWord)
+    ∷ ("cover\t", Number (AskWord (Cover 0)))
     ∷ ("span\t", Pair)
-    ∷ ("day\t", Number DayWord)
-    ∷ ("write\n", Alone Write)
+    ∷ ("day\t", Number (AskWord (Day 0)))
+    ∷ []
+
+-- the words of the other calls
+abbrev pub callWords : List (String × Layout)
+callWords =
+    ("write\n", Alone WriteWord)
     ∷ ("publish\t", Number PublishWord)
-    ∷ ("take-back\n", Alone TakeBack)
+    ∷ ("take-back\n", Alone TakeBackWord)
     ∷ ("strike\t", Number StrikeWord)
     ∷ ("amend\t", SpellFields AmendWord)
     ∷ ("enter\t", SpellFields EnterWord)
     ∷ []
+
+-- THE TABLE: each word with the byte after it, a tab, or LF where no field follows. No two of them begin the same line.
+unfoldable pub table : List (String × Layout)
+table = ("read\t", Length Read) ∷ ("room\t", Length Room) ∷ (questionWords ++ callWords)
+
+-- the call of a word that stands alone
+abbrev pub aloneCall : AloneWord → Call
+aloneCall TakeBackWord = TakeBack
+aloneCall WriteWord = Write
+aloneCall DaysWord = Ask Days
 
 -- the call of a word with a spell's fields
 abbrev pub spellCall : SpellWord → Spell → Call
 spellCall EnterWord s = Enter s
 spellCall AmendWord s = Amend s
 
+-- a question of one number with that number
+abbrev pub askedWith : Question → ℕ → Question
+askedWith (Day d) n = Day n
+askedWith (Span a b) n = Span a b
+askedWith (Cover k) n = Cover n
+askedWith Days n = Days
+askedWith (Mask b k) n = Mask b k
+
 -- the call of a word with a number
 abbrev pub numberCall : NumberWord → ℕ → Call
 numberCall StrikeWord n = Strike n
 numberCall PublishWord rule = Publish rule
-numberCall DayWord d = Ask (Day d)
-numberCall CoverWord n = Ask (Cover n)
+numberCall (AskWord w) n = Ask (askedWith w n)
 
 -- the call of a word with two numbers
 abbrev pub pairCall : ℕ → ℕ → Call

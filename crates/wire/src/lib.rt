@@ -146,7 +146,7 @@ pub fn look(
     requires { ⌜ Published (now index) ⌝ }
     ensures { λ r. ⌜ Looks (blocks (now (index .entry))) room (now (line .entry)) (now (days .entry)) (now (numbers .entry)) (now (text .entry)) (now (out .entry)) r (now (days .exit)) (now (numbers .exit)) (now (out .exit)) ⌝ }
 {
-    let request = requests::parse(line, days);
+    let request = request_lines::parse(line, days);
     look_at(index, room_of(room), request, days, numbers, text, out)
 }
 
