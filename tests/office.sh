@@ -3,6 +3,7 @@
 #
 #     manners                      how it begins and ends: register, lock, limit, sockets, arguments, a folder that can't be written, systemd
 #     record                       status, history, the users and times of changes, and what another user may do
+#     kept                         the words after some thousand changes, a copy that is made meanwhile, an end in the midst of changes
 #     clients                      slow, silent and rude clients, half-closed connections, bursts, no descriptors left
 #     order                        by its system calls: the commit's synchronisation before the answer's write, one commit and few writes
 #     damage                       a damaged, forged, foreign or other journal is refused, and nothing is changed
@@ -43,7 +44,7 @@ missing libsqlite3-dev
 } > "$work/said" 2>&1 &
 others=$!
 (cd "$top/rust" && cargo test --quiet --release --package daemon > /dev/null)
-for name in manners record clients order damage failures disk; do
+for name in manners record kept clients order damage failures disk; do
     try "$name"
 done
 came=0

@@ -29,7 +29,7 @@ impl Workload {
         let key = format!("key:{:06}", day % 1000);
         match self {
             Workload::Day => format!("day\t{day}\n").into_bytes(),
-            Workload::Edit if number % 2 == 0 => format!("enter\t{}\t7\t{day}\t4000\tG\t2\n", 60_000 + connection).into_bytes(),
+            Workload::Edit if number.is_multiple_of(2) => format!("enter\t{}\t7\t{day}\t4000\tG\t2\n", 60_000 + connection).into_bytes(),
             Workload::Edit => format!("strike\t{}\n", 60_000 + connection).into_bytes(),
             Workload::Get => format!("*2\r\n$3\r\nGET\r\n$10\r\n{key}\r\n").into_bytes(),
             Workload::Set(length) => {

@@ -4,6 +4,7 @@ mod clients;
 mod damage;
 mod disk;
 mod failures;
+mod kept;
 mod kills;
 mod manners;
 mod many;
@@ -29,6 +30,7 @@ fn tried(own: &str, name: &str, words: &[String]) -> Result<String, String> {
         "damage" => damage::check(&program)?,
         "manners" => manners::check(&program)?,
         "record" => record::check(&program, own)?,
+        "kept" => kept::check(&program)?,
         "failures" => failures::check(&program)?,
         "clients" => clients::check(&program)?,
         _ => return Err("there is no such test: tests/office.sh has the names".to_string()),
