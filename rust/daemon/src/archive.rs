@@ -194,23 +194,19 @@ impl Lent {
         if carried.place >= OUT {
             return Came::HeldBack { word: carried.word };
         }
+        let changed = carried.changed != 0;
         match carried.word {
-            PUBLISH => {
+            PUBLISH if changed => {
                 state.published.copy_from_slice(&*state.words);
                 state.publish = line.to_vec();
             }
-            READ => {
+            READ if changed => {
                 state.published = State::fresh().words;
                 state.publish.clear();
             }
             _ => (),
         }
-        Came::Answered {
-            word: carried.word,
-            changed: carried.changed != 0,
-            room: carried.room,
-            answer: &self.out[carried.place..],
-        }
+        Came::Answered { word: carried.word, changed, room: carried.room, answer: &self.out[carried.place..] }
     }
 
     /// The register text of what stands.

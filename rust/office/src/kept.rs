@@ -12,10 +12,12 @@ pub fn check(program: &Program) -> Result<String, String> {
     let place = Place::new("kept");
     let service = program.start(&place)?;
     let mut client = service.connect()?;
-    client.send(b"enter\t7\t7\t1\t10\tG\t2\npublish\t1\n")?;
+    client.send(b"enter\t7\t7\t1\t10\tG\t2\n")?;
+    expect("a change is refused", accepted(&mut client, 1)? == 1)?;
+    published_and_refused(&mut client)?;
     let entries_and_strikes = "enter\t8\t7\t1\t10\tG\t2\nstrike\t8\n".repeat(CHANGES / 2);
     client.send(entries_and_strikes.as_bytes())?;
-    expect("a change is refused", accepted(&mut client, CHANGES + 2)? == CHANGES + 2)?;
+    expect("a change is refused", accepted(&mut client, CHANGES)? == CHANGES)?;
     let restored = Place::new("restored");
     copied(&place, &restored)?;
     service.kill()?;
@@ -25,12 +27,28 @@ pub fn check(program: &Program) -> Result<String, String> {
         program.verified(place, CHANGES as u64 + 2)?;
         let service = program.start(place)?;
         let mut client = service.connect()?;
-        expect("what is published is lost", client.ask(b"day\t5\n")? == b"listed\t1\t0\t7\n")?;
-        expect("what stands is lost", client.ask(b"write\n")? == b"text\t13\n7\t7\t1\t10\tG\t2\n")?;
-        expect("the past is lost", client.status("past")? == "64")?;
+        all_there(&mut client)?;
+        published_and_refused(&mut client)?;
+        service.end()?;
+        program.verified(place, CHANGES as u64 + 3)?;
+        all_there(&mut program.start(place)?.connect()?)?;
     }
     ended_in_the_midst(program)?;
     Ok("words, copies, and an end in the midst of changes".to_string())
+}
+
+/// A publish, and one that is refused, in one piece: what is kept of the last publish is the first one's.
+fn published_and_refused(client: &mut Client) -> Result<(), String> {
+    client.send(b"publish\t1\npublish\t3\n")?;
+    let answers = (client.answer()?, client.answer()?);
+    let expected = (Some(b"ok\n".to_vec()), Some(b"refused\t14\n".to_vec()));
+    expect(&format!("publishing is answered {answers:?}"), answers == expected)
+}
+
+fn all_there(client: &mut Client) -> Result<(), String> {
+    expect("what is published is lost", client.ask(b"day\t5\n")? == b"listed\t1\t0\t7\n")?;
+    expect("what stands is lost", client.ask(b"write\n")? == b"text\t13\n7\t7\t1\t10\tG\t2\n")?;
+    expect("the past is lost", client.status("past")? == "64")
 }
 
 /// How many of so many changes are accepted, up to the connection's end.
