@@ -106,14 +106,17 @@ impl State {
         State { words, index, published, publish: Vec::new() }
     }
 
-    /// The state of words that a service had, now and at its last publish, which is made again: the index is never kept.
-    pub fn restored(words: Box<Words>, published: Box<Words>, publish: &[u8]) -> State {
+    /// The state of words that a service had, now and at its last publish, which is made again: the index is never kept. None where that
+    /// is no publish.
+    pub fn restored(words: Box<Words>, published: Box<Words>, publish: &[u8]) -> Option<State> {
         let mut state = State { words: published, ..State::fresh() };
         if !publish.is_empty() {
-            Lent::new().request(&mut state, ROOM, Allowed::Everything, publish, &[]);
+            let mut lent = Lent::new();
+            let came = lent.request(&mut state, ROOM, Allowed::Everything, publish, &[]);
+            matches!(came, Came::Answered { word: PUBLISH, changed: true, .. }).then_some(())?;
         }
         state.words = words;
-        state
+        Some(state)
     }
 
     pub fn words(&self) -> &Words {

@@ -29,7 +29,8 @@ pub fn restore(journal: &Journal) -> Result<(State, Head), Refusal> {
     let mut lent = Lent::new();
     let (from, mut state) = match journal.snapshots()?.pop() {
         Some((sequence, Snapshot { words, published, publish }, _)) => {
-            (sequence, State::restored(words, published, &publish))
+            let state = State::restored(words, published, &publish);
+            (sequence, state.ok_or_else(|| other_words(sequence))?)
         }
         None => (0, State::fresh()),
     };
@@ -61,10 +62,14 @@ pub fn verify(journal: &Journal) -> Result<i64, Refusal> {
     }
 }
 
+fn other_words(sequence: i64) -> Refusal {
+    format!("the words kept at row {sequence} are not those of the rows up to it")
+}
+
 fn same(sequence: i64, snapshot: &Snapshot, state: &State) -> Result<(), Refusal> {
     let published = *snapshot.published == *state.published() && snapshot.publish == state.publish();
     if *snapshot.words != *state.words() || !published {
-        return Err(format!("the words kept at row {sequence} are not those of the rows up to it"));
+        return Err(other_words(sequence));
     }
     Ok(())
 }

@@ -42,6 +42,13 @@ const DAMAGES: &[(&str, &str)] = &[
          db.execute('DELETE FROM snapshot')",
         "row 9 of the journal was answered \"refused\" and is now answered \"ok\\n\"",
     ),
+    (
+        "publish = b'publish\\t3\\n'\n\
+         words = b''.join(db.execute('SELECT words, published FROM snapshot').fetchone()) + publish\n\
+         checksum = hashlib.sha256(struct.pack('<q', 30) + words).digest()\n\
+         db.execute('UPDATE snapshot SET publish = ?, checksum = ?', (publish, checksum))",
+        "the words kept at row 30 are not those of the rows up to it",
+    ),
     ("db.execute('PRAGMA user_version = 1999')", "another version"),
     ("db.execute('PRAGMA application_id = 77')", "another program's database"),
 ];
