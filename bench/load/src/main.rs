@@ -92,7 +92,8 @@ fn run(poll: &mut system::Poll, talks: &mut [Talk], length: Duration) -> Result<
         talk.go_on()?;
     }
     while begun.elapsed() < length {
-        for event in poll.wait(false)? {
+        let found = poll.wait()?;
+        for event in poll.found(found) {
             let number = event.token as usize;
             talks[number].go_on()?;
         }

@@ -1,7 +1,7 @@
 //! Whether the loop stays awake for what comes next. A processor that sleeps may take longer to wake than a request takes to answer, so
 //! where waits have lately been short, the next one is begun awake; where they have not, the loop sleeps at once and costs nothing.
 
-use crate::system::{times_displaced, Event, Poll};
+use crate::system::{times_displaced, Poll};
 use std::io;
 use std::thread::available_parallelism;
 use std::time::{Duration, Instant};
@@ -60,21 +60,25 @@ impl Patience {
         Patience { alone, displaced: 0, waits: [Waits::NONE; 2] }
     }
 
-    /// Waits until something changes, or until it is time to sleep.
-    pub fn wait<'a>(&mut self, poll: &'a mut Poll, committing: bool) -> io::Result<&'a [Event]> {
+    /// Waits until something changes, or until it is time to sleep: how much has changed.
+    pub fn wait(&mut self, poll: &mut Poll, committing: bool) -> io::Result<usize> {
         let waits = &mut self.waits[usize::from(committing)];
         if !waits.are_awake() || self.alone {
             let begun = Instant::now();
-            let events = poll.wait(false)?;
+            let found = poll.wait()?;
             *waits = waits.and_asleep(begun.elapsed());
-            return Ok(events);
+            return Ok(found);
         }
-        let events = poll.look_for(AWAKE)?;
+        let found = poll.look()?;
+        if found > 0 {
+            return Ok(found);
+        }
+        let found = poll.look_for(AWAKE)?;
         // it is better to sleep where others want this processor, which may be whoever has the next request
         let displaced = times_displaced();
-        *waits = waits.and_awake(!events.is_empty() && displaced == self.displaced);
+        *waits = waits.and_awake(found > 0 && displaced == self.displaced);
         self.displaced = displaced;
-        Ok(events)
+        Ok(found)
     }
 }
 

@@ -128,11 +128,12 @@ impl Server {
     /// Takes in what has changed.
     fn look(&mut self) -> Result<(), String> {
         let mut heard = [false; FIRST_CONNECTION as usize];
-        let events = match self.ready.is_empty() {
+        let found = match self.ready.is_empty() {
             true => self.patience.wait(&mut self.poll, self.committing.is_some()),
-            false => self.poll.wait(true),
+            false => self.poll.look(),
         };
-        for event in events.map_err(|error| format!("epoll: {error}"))? {
+        let found = found.map_err(|error| format!("epoll: {error}"))?;
+        for event in self.poll.found(found) {
             let token = event.token;
             if token < FIRST_CONNECTION {
                 heard[token as usize] = true;

@@ -74,21 +74,30 @@ impl Poll {
         }
     }
 
-    /// Waits until something changes, or only looks.
-    pub fn wait(&mut self, look: bool) -> io::Result<&[Event]> {
-        let found = self.ask(if look { 0 } else { -1 })?;
-        Ok(&self.events[..found])
+    /// Waits until something changes: how much has.
+    pub fn wait(&mut self) -> io::Result<usize> {
+        self.ask(-1)
     }
 
-    /// Looks again and again, for no longer than a time, until something has changed.
-    pub fn look_for(&mut self, time: Duration) -> io::Result<&[Event]> {
+    /// Looks again and again, for no longer than a time, until something has changed: how much has.
+    pub fn look_for(&mut self, time: Duration) -> io::Result<usize> {
         let begun = Instant::now();
-        let mut found = self.ask(0)?;
+        let mut found = 0;
         while found == 0 && begun.elapsed() < time {
             spin_loop();
-            found = self.ask(0)?;
+            found = self.look()?;
         }
-        Ok(&self.events[..found])
+        Ok(found)
+    }
+
+    /// Looks once: how much has changed.
+    pub fn look(&mut self) -> io::Result<usize> {
+        self.ask(0)
+    }
+
+    /// What the last look found.
+    pub fn found(&self, count: usize) -> &[Event] {
+        &self.events[..count]
     }
 
     fn ask(&mut self, timeout: c_int) -> io::Result<usize> {
