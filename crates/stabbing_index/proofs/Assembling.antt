@@ -7,7 +7,7 @@ use Rattle.stabbing.proofs.Marks.{below-ext}
 use Rattle.stabbing.proofs.Marking.{head-link, head-past, row-past, left-small, child-small, next-small}
 use Rattle.stabbing.proofs.Columns.{column-at, column-length, column-only}
 use Rattle.stabbing_index.specs.Build.{Builds}
-use Rattle.stabbing_index.specs.Contracts.{Columns, ColumnsOf, FilledTo, LinkedOf, ChainedOf, Dayed, DaysAsks, Extends, lowerWord, nameWords, MarksIn, markWords, Blank, beside, linkWords, dayWords, RowsOf}
+use Rattle.stabbing_index.specs.Contracts.{Columns, ColumnsOf, FilledTo, LinkedOf, ChainedOf, Dayed, DaysAsks, Extends, lowerWord, nameWords, nameCount, MarksIn, markWords, Blank, beside, linkWords, dayWords, RowsOf}
 use Rattle.stabbing_index.proofs.Laying.{laid-more, column-ext}
 use Rattle.stabbing_index.proofs.Links.{held-at}
 use Rattle.stabbing_index.proofs.Chains.{same-last}
@@ -23,8 +23,8 @@ laid-at {e} {x} {a} {b} size f i t h j g =
     ∙ getD-append-add (take a e) (column size f) j 0
     ∙ column-at size f j g
 
-pub laid-blank : {e x : List ℕ} → Extends e bucketTable rowCount (column 3063 (λ _. 0)) x → rowCount ≤ length e → Blank x
-laid-blank i h = record { empty = laid-at 3063 (λ _. 0) i refl h }
+pub laid-blank : {e x : List ℕ} → Extends e bucketTable rowCount (column nameCount (λ _. 0)) x → rowCount ≤ length e → Blank x
+laid-blank i h = record { empty = laid-at nameCount (λ _. 0) i refl h }
 
 -- the same words: a list and the column that it is; 0 after a list
 laid-column : {e x ws : List ℕ} {a : ℕ} (n : ℕ) (f : ℕ → ℕ) → length ws ≡ n → ((p : ℕ) → p < n → getD ws p 0 ≡ f p) → Extends e a (a + length ws) ws x → Extends e a (a + n) (column n f) x

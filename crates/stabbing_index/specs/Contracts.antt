@@ -172,9 +172,13 @@ pub record MarksIn (marks : List ℕ) : Type 0 where
 abbrev pub markWords : List ℕ → List ℕ → List ℕ
 markWords last marks = marks ++ column capacity (λ p. lastOf last (getD marks p 0))
 
+-- the words of the buckets, and of the column of the rows before
+abbrev pub nameCount : ℕ
+nameCount = 3063
+
 -- the buckets are empty, and no row leads to another
 pub record Blank (index : List ℕ) : Type 0 where
-  pub empty : (x : ℕ) → x < 3063 → getD index (bucketTable + x) 0 ≡ 0
+  pub empty : (x : ℕ) → x < nameCount → getD index (bucketTable + x) 0 ≡ 0
 
 -- marks by position, with the last days beside them
 abbrev pub beside : List ℕ → (ℕ → ℕ) → List ℕ

@@ -365,13 +365,16 @@ fn name_rows(index: &mut [u16], number: &[u16; 1024], n: usize)
     }
 }
 
-// The buckets and the column of the rows before, 2,039 and 1,024 words.
+// The words of the buckets, 2,039, and of the column of the rows before, 1,024.
+const NAMES: usize = 3063;
+
+// The buckets and the column of the rows before.
 fn lay_names(index: &mut [u16], number: &[u16; 1024], n: usize)
     requires { ⌜ n ≤ 1024 ⌝ }
     requires { ⌜ length (now index) ≡ indexLength ⌝ }
     ensures { λ _. ⌜ Extends (now (index .entry)) bucketTable rowCount (nameWords (now (number .entry)) n) (now (index .exit)) ⌝ }
 {
-    clear(index, BUCKET, 3063);
+    clear(index, BUCKET, NAMES);
     name_rows(index, number, n);
 }
 
