@@ -24,8 +24,7 @@ skip-spec =
     (λ c. let l = c .before .before .before in Steps.none-new (l .before .before .before .pre) (l .if2 .left) (c .before .find .ensures) (c .if3 .taken))
     (λ c. let l = c .before .before .before in Steps.last-new (l .before .before .before .pre) (l .if2 .left) (c .before .find .ensures) (omega (arith, c .if3 .left)))
     -- j, and found[j]
-    (λ c. search needs) (λ c. search needs) (λ c. search needs) (λ c. search needs)
-    (λ c κs. search needs)
+    (λ c. search needs) (λ c. search needs) (λ c. search needs) (λ c. search needs) (λ c κs. search needs)
     -- it is among the first m, or not
     (λ c. search needs) (λ c. search needs)
     (λ c. let a = c .before .before .before in Steps.old (a .before .loop .inv) (omega arith) (omega (arith, a .loop-test .taken)) (c .before .find2 .ensures) (c .if4 .taken))
