@@ -1,6 +1,6 @@
 -- What the library is for: whoever makes the calls, through the exported functions and on words that a host lent, the answers
 -- are the account's. Assumes nothing.
-use Rattle.basis.proofs.Prelude.{_∙_, _≡_, ap, refl, sym, ℕ, List, false, false≢true, true, eqb}
+use Rattle.basis.proofs.Prelude.{_∙_, _≡_, ap, refl, sym, ℕ, List, false, true, eqb}
 use Rattle.spell.specs.declared.Spell.{Spell}
 use Rattle.refusal.specs.Table.{accepted}
 use Rattle.register.specs.Text.{readText}
@@ -12,7 +12,6 @@ use Rattle.model.specs.declared.Call.{Call}
 use Rattle.model.specs.declared.Call.the-variants.{Amend}
 use Rattle.model.specs.Edits.{idle}
 use Rattle.service.specs.declared.Service.{Service}
-use Rattle.outcomes.specs.declared.Outcome.{Outcome}
 use Rattle.service.specs.Places.{serviceOf, readService, leaves}
 use Rattle.service.specs.Packed.{packed, unpacked}
 use Rattle.service.specs.Service.{Blocks, Valid, Represents, Given, Met, Changed, Begins}

@@ -1,5 +1,5 @@
 -- Rows that hold the fields of spells, put in the order, are the rows of the sorted list. Assumes nothing.
-use Rattle.basis.proofs.Prelude.{_∙_, _≡_, ap, refl, sym, _≤_, _<_, zero, suc, ℕ, List, [], _∷_, map, Bool, cond, false, true, eqb, ltb, getD, getD-take, zero-add, length, take, take-all, decLe, arith, eq-eqb, eqb-false, eqb-true, le-ltb, lt-ltb, ltb-false, ltb-true, ne-eqb, by-test}
+use Rattle.basis.proofs.Prelude.{_∙_, _≡_, ap, sym, _<_, zero, suc, ℕ, List, [], _∷_, map, Bool, cond, false, true, eqb, ltb, getD, getD-take, zero-add, length, take, take-all, decLe, arith, eq-eqb, eqb-false, eqb-true, le-ltb, lt-ltb, ne-eqb, by-test}
 use Rattle.columns.specs.Columns.{positions}
 use Rattle.columns.proofs.Filling.{positions-at, positions-length, positions-below, reads}
 use Rattle.orders.specs.Orders.{lexical, sortedBy}

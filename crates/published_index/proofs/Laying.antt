@@ -17,15 +17,15 @@ use Rattle.published_index.proofs.Rows.{rows-ok}
 use Rattle.published_index.proofs.Arranged.{Holds, holds, short-rows, column-is}
 
 -- the index built of no rows
-pub no-rows : (x entry exit : List ℕ) (r : Bool) → Builds x x x 0 entry r exit → exit ≡ indexOf []
+pub no-rows : {x entry exit : List ℕ} {r : Bool} → Builds x x x 0 entry r exit → exit ≡ indexOf []
 unfolding rowsAfter
-no-rows x entry exit r b = b .block
+no-rows b = b .block
 
 -- the first places of a column are a field of the spells
 laid-take : (f : Spell → ℕ) (l : List Spell) (before after : List ℕ) (n : ℕ) → n ≡ length l → after ≡ columnOf f l before → take n after ≡ map f l
 laid-take f l before after n e a = rw (a, e) (take-at (map f l) (drop (length (map f l)) before) (length l) (length-map l f))
 
-module _ (st : Standing) (w : Wf st) (rule : ℕ) {n : ℕ} {ns cs fs ls ns′ cs′ fs′ ls′ : List ℕ} (laid : LaidOut (map (cut rule) (listOf st)) n ns cs fs ls ns′ cs′ fs′ ls′)
+module _ {st : Standing} (w : Wf st) (rule : ℕ) {n : ℕ} {ns cs fs ls ns′ cs′ fs′ ls′ : List ℕ} (laid : LaidOut (map (cut rule) (listOf st)) n ns cs fs ls ns′ cs′ fs′ ls′)
     {ix ix′ : List ℕ} {r : Bool} (b : Lays ns′ cs′ fs′ ls′ n ix r ix′) where
   -- the spells with the rule's days
   abbrev l : List Spell

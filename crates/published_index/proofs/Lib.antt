@@ -1,5 +1,5 @@
-pub mod Numbers
 pub mod Rows
+pub mod Numbers
 pub mod Shown
 pub mod Arranged
 pub mod Laying

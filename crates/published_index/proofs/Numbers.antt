@@ -1,11 +1,12 @@
 -- Each number of a list with unique numbers leads to its own row. Assumes nothing.
-use Rattle.basis.proofs.Prelude.{_∙_, _≡_, refl, sym, _<_, suc, zero, ℕ, List, [], _∷_, map, Bool, _||_, false, not, true, eqb, List·getD-map, getD, length, length-map, arith, eq-eqb, not-true, both, clash}
+use Rattle.basis.proofs.Prelude.{_∙_, _≡_, refl, sym, _<_, suc, zero, ℕ, List, [], _∷_, map, not, true, eqb, List·getD-map, getD, length, length-map, arith, eq-eqb, not-true, both, clash}
 use Rattle.spell.specs.declared.Spell.{Spell}
 use Rattle.spell.specs.Blank.{blank}
 use Rattle.spell.specs.Listing.{stands, distinct}
 use Rattle.stabbing.specs.Index.{named}
 use Rattle.stabbing.proofs.Marks.{below-own}
 use Rattle.model.specs.Questions.{firstsOf, lastsOf}
+use Rattle.published_index.proofs.Rows.{or-true}
 
 abbrev pub numbersOf : List Spell → List ℕ
 numbersOf p = map (λ (s : Spell). s .number) p
@@ -17,11 +18,7 @@ stands-at : (l : List Spell) (i : ℕ) → i < length l → stands l (getD l i b
 unfolding stands
 stands-at [] i h = absurd (omega arith)
 stands-at (x ∷ l) zero h = rw (eq-eqb (x .number) (x .number) refl)
-stands-at (x ∷ l) (suc i) h = rw (stands-at l i (omega arith)) (either (eqb (x .number) (getD l i blank .number)))
-  where
-    either : (b : Bool) → b || true ≡ true
-    either true = refl
-    either false = refl
+stands-at (x ∷ l) (suc i) h = rw (stands-at l i (omega arith)) (or-true (eqb (x .number) (getD l i blank .number)))
 
 -- unique numbers differ at different places
 pub differ : (l : List Spell) → distinct l ≡ true → (i j : ℕ) → j < i → i < length l → getD l j blank .number ≡ getD l i blank .number → ⊥

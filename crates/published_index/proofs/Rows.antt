@@ -13,13 +13,13 @@ row-right s g =
     let e = entered s (g .entered) in
     rw (le-leb 1 (s .first) (e .first-up), le-leb (s .first) (s .last) (e .forward), le-leb (s .last) 4000 (e .last-day))
 
+pub or-true : (b : Bool) → b || true ≡ true
+or-true true = refl
+or-true false = refl
+
 may-follow : (f l g m : ℕ) → (f < g) ⊎ ((f ≡ g) × (l ≤ m)) → mayFollow f l g m ≡ true
 may-follow f l g m (inl h) = rw (lt-ltb f g h)
-may-follow f l g m (inr h) = rw (eq-eqb f g (h .0), le-leb l m (h .1)) (either (ltb f g))
-  where
-    either : (b : Bool) → b || true ≡ true
-    either true = refl
-    either false = refl
+may-follow f l g m (inr h) = rw (eq-eqb f g (h .0), le-leb l m (h .1)) (or-true (ltb f g))
 
 -- each spell after one with the days f and l
 rows-after : (f l : ℕ) (x : Spell) (p : List Spell) → mayFollow f l (x .first) (x .last) ≡ true → Each Sound (x ∷ p) → orderedBy listedBefore (x ∷ p) ≡ true

@@ -28,5 +28,5 @@ module _ {ix : List ℕ} {p : List Spell} (s : Shows ix p) where
   shows-lasts = ap lasts (s .index) ∙ block.lasts-of (numbersOf p) (firstsOf p) (lastsOf p) few (rows-ok p (s .good)) same
 
 -- an index that the calls gave is one that publish built
-pub published-built : (ix : List ℕ) → Published ix → Built ix
-published-built ix g = shows-built (g .shows)
+pub published-built : {ix : List ℕ} → Published ix → Built ix
+published-built g = shows-built (g .shows)

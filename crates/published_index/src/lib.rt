@@ -1,9 +1,11 @@
-// The index of a published list: that of nobody, and that of a standing list by a rule.
+// The index of a published list: that of nobody, and what publish makes of it by a rule.
 ghost use mathlib.Core.Path.{_≡_};
 ghost use mathlib.Core.List.{[]};
 ghost use Rattle.standing.specs.Standing.{Wf, listOf};
 ghost use Rattle.model.specs.Publishing.{publishedOf};
-ghost use Rattle.published_index.specs.Index.{indexOf};
+ghost use Rattle.published_index.specs.Index.{indexOf, ruleRefusal, indexBy};
+use refusal::ACCEPTED;
+use refusal::NO_SUCH_RULE;
 use stabbing::INDEX;
 use standing::Standing;
 
@@ -16,7 +18,7 @@ pub fn fresh(index: &mut [u16; INDEX])
 }
 
 // The index of the standing list with a rule's days, in the order of the answers.
-pub fn lay(standing: Standing, rule: u16, index: &mut [u16; INDEX])
+fn lay(standing: Standing, rule: u16, index: &mut [u16; INDEX])
     requires { ⌜ Wf standing ⌝ }
     ensures { λ _. ⌜ now (index .exit) ≡ indexOf (publishedOf rule (listOf standing)) ⌝ }
 {
@@ -33,4 +35,18 @@ pub fn lay(standing: Standing, rule: u16, index: &mut [u16; INDEX])
         &mut last,
     );
     publishing::lay(&number, &candidate, &first, &last, n, index);
+}
+
+// The index becomes that of the standing list with the rule's days, whatever it held before; where there is no such rule it stays as it
+// was. Returns the refusal's number, or 0. Check: 14.
+pub fn publish(standing: Standing, rule: u16, index: &mut [u16; INDEX]) -> u16
+    requires { ⌜ Wf standing ⌝ }
+    ensures { λ r. ⌜ r ≡ ruleRefusal rule ⌝ }
+    ensures { λ _. ⌜ now (index .exit) ≡ indexBy rule (listOf standing) (now (index .entry)) ⌝ }
+{
+    if !rules::is_rule(rule) {
+        return NO_SUCH_RULE;
+    }
+    lay(standing, rule, index);
+    ACCEPTED
 }

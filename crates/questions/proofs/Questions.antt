@@ -1,5 +1,5 @@
 -- The questions over a block's rows answer as the account does of the published list. Assumes nothing.
-use Rattle.basis.proofs.Prelude.{_∙_, _≡_, ap, refl, sym, _<_, suc, zero, ℕ, List, [], _∷_, map, Bool, _&&_, _||_, false, not, true, eqb, leb, List·getD-map, getD, length, length-map, arith, eq-eqb, eqb-true, lt-ltb, ne-eqb, not-true, both, by-mark, by-test, clash}
+use Rattle.basis.proofs.Prelude.{_∙_, _≡_, ap, refl, sym, _<_, suc, zero, ℕ, List, [], _∷_, map, Bool, _&&_, true, eqb, leb, List·getD-map, getD, length, length-map, arith, eq-eqb, eqb-true, lt-ltb, ne-eqb, both, by-mark, by-test}
 use Rattle.refusal.specs.Table.{unknownNumber}
 use Rattle.spell.specs.declared.Spell.{Spell}
 use Rattle.calendar.specs.Calendar.{isDay, daysOk}

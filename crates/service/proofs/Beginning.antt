@@ -15,25 +15,25 @@ use Rattle.standing.proofs.Loading.{Loads, loads}
 use Rattle.model.specs.declared.Call.the-variants.{Publish, Write}
 use Rattle.model.specs.Publishing.{publishedOf}
 use Rattle.model.proofs.Publishing.{published-orderly}
-use Rattle.refusal.specs.Table.{accepted, noSuchRule}
+use Rattle.refusal.specs.Table.{accepted}
 use Rattle.rules.specs.Rules.{isRule}
 use Rattle.rules.proofs.Rules.{cut-sound}
 use Rattle.model.specs.Effects.{writes, settle}
 use Rattle.model.specs.Model.{fresh, begun, refusalIn, lineIn, effectOf}
 use Rattle.model.proofs.Claims.{reads-keep}
 use Rattle.outcomes.specs.declared.Outcome.{Outcome}
-use Rattle.outcomes.specs.Outcomes.{toldOf, wroteOf, asking}
+use Rattle.outcomes.specs.Outcomes.{wroteOf, asking}
 use Rattle.outcomes.proofs.Answers.{write-told}
 use Rattle.published_index.specs.Index.{indexOf}
 use Rattle.service.specs.declared.Service.{Service}
 use Rattle.service.specs.declared.Stepped.{Stepped}
 use Rattle.service.specs.Places.{serviceOf}
-use Rattle.service.specs.Service.{Blocks, blocks, Valid, Represents, Given, keeping, Met, Publishes, Wrote, Begins}
+use Rattle.service.specs.Service.{Blocks, blocks, Valid, Represents, Given, Met, Publishes, Wrote, Begins}
 
 -- ---- The beginning: nothing is published
 
-pub represents-fresh : (st : Standing) (ix : List ℕ) → Fresh st → ix ≡ indexOf [] → Represents (serviceOf st) (blocks ix) fresh
-represents-fresh st ix f e = record { valid = record { standing = f .wf }; standing = f .list; past = f .past; shows = record { good = orderly-none answer-order Sound; index = e } }
+pub represents-fresh : {st : Standing} {ix : List ℕ} → Fresh st → ix ≡ indexOf [] → Represents (serviceOf st) (blocks ix) fresh
+represents-fresh f e = record { valid = record { standing = f .wf }; standing = f .list; past = f .past; shows = record { good = orderly-none answer-order Sound; index = e } }
 
 -- a beginning publishes nothing
 begun-none : (g : Register) → begun g .published ≡ []
@@ -41,9 +41,9 @@ unfolding begun
 begun-none (good l) = refl
 begun-none (bad n line) = refl
 
-begins : (g : Register) (st : Standing) (n line : ℕ) (ix : List ℕ) → Loads g st → n ≡ refusalIn g → line ≡ lineIn g → ix ≡ indexOf []
+begins : (g : Register) {st : Standing} {n line : ℕ} {ix : List ℕ} → Loads g st → n ≡ refusalIn g → line ≡ lineIn g → ix ≡ indexOf []
     → Begins g (record { service = serviceOf st; refusal = n; line = line }) (blocks ix)
-begins g st n line ix d r l e = record {
+begins g d r l e = record {
   whole = ap serviceOf (d .whole);
   represents = record {
     valid = record { standing = d .wf };
@@ -61,21 +61,13 @@ unfolding readingOf
 told-in (good l) = (refl, refl)
 told-in (bad n line) = (refl, refl)
 
-pub begins-read : (text : List ℕ) (got : Reading) (st : Standing) (ix : List ℕ) → got ≡ readingOf (readText text) → st ≡ loadedOf got → ix ≡ indexOf []
+pub begins-read : (text : List ℕ) {got : Reading} {st : Standing} {ix : List ℕ} → got ≡ readingOf (readText text) → st ≡ loadedOf got → ix ≡ indexOf []
     → Begins (readText text) (record { service = serviceOf st; refusal = got .refusal; line = got .line }) (blocks ix)
-begins-read text got st ix r l e =
+begins-read text r l e =
     let t = told-in (readText text) in
-    rw (l, r) (begins (readText text) _ _ _ ix (loads text (readText text) refl) (t .0) (t .1) e)
+    rw (l, r) (begins (readText text) (loads text (readText text) refl) (t .0) (t .1) e)
 
 -- ---- Publish
-
--- no such rule: all is as it was
-pub publishes-none : {sv : Service} {rule : ℕ} {bs : Blocks} {o : Outcome} → isRule rule ≡ false → o ≡ toldOf noSuchRule → Publishes sv rule bs (keeping sv o) bs
-publishes-none e t = record { kept = refl; outcome = rw e t; index = rw e }
-
-pub publishes-all : {sv : Service} {rule : ℕ} {bs bs′ : Blocks} {o : Outcome} → isRule rule ≡ true → o ≡ toldOf accepted
-    → bs′ .index ≡ indexOf (publishedOf rule (listOf (sv .standing))) → Publishes sv rule bs (keeping sv o) bs′
-publishes-all e t x = record { kept = refl; outcome = rw e t; index = rw e x }
 
 module _ {sv : Service} {rule : ℕ} {bs : Blocks} {r : Stepped} {bs′ : Blocks} (p : Publishes sv rule bs r bs′) where
   -- by a rule that there is, the index shows the published list, whatever it held before
@@ -115,9 +107,9 @@ module _ {sv : Service} {rule : ℕ} {bs : Blocks} {r : Stepped} {bs′ : Blocks
       })
 
 -- ---- Writing
-pub wrote : (sv : Service) (t t′ : List ℕ) (wr : Written) → Writes (writeAll (listOf (sv .standing))) t wr t′ → Wrote sv t (wroteOf wr) t′
+pub wrote : {sv : Service} {t t′ : List ℕ} {wr : Written} → Writes (writeAll (listOf (sv .standing))) t wr t′ → Wrote sv t (wroteOf wr) t′
 unfolding effectOf
-wrote sv t t′ wr w = record {
+wrote {sv} {t} w = record {
   met = λ bs days numbers g. record {
     given = g;
     answer = λ m h. write-told m (asking Write days numbers t) _ w ∙ ap (λ (l : List Spell). settle (writes (writeAll l)) m (asking Write days numbers t) .answer) (h .standing);

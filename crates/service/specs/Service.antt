@@ -1,19 +1,17 @@
 -- How a service and its index stand for the account's state, and the one postcondition of a call. Assumes nothing.
 use Prim.Native.Nat.{ℕ}
 use mathlib.Core.Path.{_≡_}
-use mathlib.Core.Bool.{false, cond}
+use mathlib.Core.Bool.{false}
 use lib.Dec.{eqb}
-use Rattle.refusal.specs.Table.{accepted, noSuchRule}
-use Rattle.rules.specs.Rules.{isRule}
+use Rattle.refusal.specs.Table.{accepted}
 use mathlib.Core.List.{List}
 use Rattle.standing.specs.Standing.{Wf, listOf, pasts}
 use Rattle.model.specs.declared.Call.{Call}
-use Rattle.model.specs.Publishing.{publishedOf}
 use Rattle.register.specs.Text.{Register}
 use Rattle.model.specs.Model.{State, begun, refusalIn, lineIn, Request, step}
 use Rattle.outcomes.specs.declared.Outcome.{Outcome}
 use Rattle.outcomes.specs.Outcomes.{toldOf, asking, answerOf}
-use Rattle.published_index.specs.Index.{indexOf, Shows, Published}
+use Rattle.published_index.specs.Index.{ruleRefusal, indexBy, Shows, Published}
 use Rattle.service.specs.declared.Service.{Service}
 use Rattle.service.specs.declared.Stepped.{Stepped}
 use Rattle.service.specs.declared.Started.{Started}
@@ -73,8 +71,8 @@ pub record Wrote (sv : Service) (text : List ℕ) (o : Outcome) (text′ : List 
 -- such rule; the service is as it was, and no more is told than the refusal
 pub record Publishes (sv : Service) (rule : ℕ) (bs : Blocks) (r : Stepped) (bs′ : Blocks) : Type 0 where
   pub kept : r .service ≡ sv
-  pub outcome : r .outcome ≡ toldOf (cond (isRule rule) accepted noSuchRule)
-  pub index : bs′ .index ≡ cond (isRule rule) (indexOf (publishedOf rule (listOf (sv .standing)))) (bs .index)
+  pub outcome : r .outcome ≡ toldOf (ruleRefusal rule)
+  pub index : bs′ .index ≡ indexBy rule (listOf (sv .standing)) (bs .index)
 
 -- ---- The beginning
 

@@ -10,8 +10,6 @@ use model::Call;
 use outcomes::Outcome;
 use outcomes::told;
 use outcomes::wrote;
-use refusal::ACCEPTED;
-use refusal::NO_SUCH_RULE;
 use spell::Spell;
 use stabbing::INDEX;
 use standing::Edited;
@@ -114,11 +112,10 @@ pub fn publish(service: Service, rule: u16, index: &mut [u16; INDEX]) -> Stepped
     requires { ⌜ Valid service ⌝ }
     ensures { λ r. ⌜ Publishes service rule (blocks (now (index .entry))) r (blocks (now (index .exit))) ⌝ }
 {
-    if !rules::is_rule(rule) {
-        return answered(service, told(NO_SUCH_RULE));
-    }
-    published_index::lay(service.standing, rule, index);
-    answered(service, told(ACCEPTED))
+    answered(
+        service,
+        told(published_index::publish(service.standing, rule, index)),
+    )
 }
 
 // The text of the standing list, into the first places of the lent list.

@@ -4,8 +4,5 @@ use Rattle.published_index.proofs.Laying.{no-rows}
 use Rattle.published_index.proofs.fresh.Statement.{statement}
 use Rattle.published_index.proofs.fresh.Tie as tie
 
-returns : tie.Need-returns
-returns c = no-rows _ _ _ _ (c .build .ensures)
-
 pub fresh-spec : {M : Type 1} → statement M
-fresh-spec = tie.close (tie.spec (λ c κs. search needs) returns)
+fresh-spec = tie.close (tie.spec (λ c κs. search needs) (λ c. no-rows (c .build .ensures)))

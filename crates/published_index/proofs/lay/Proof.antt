@@ -7,7 +7,7 @@ use Rattle.published_index.proofs.lay.Tie as tie
 returns : tie.Need-returns
 returns c =
     let k = c .before .before .before .before .before .before in
-    indexed _ (k .before .before .before .before .before .pre) _ (k .columns .ensures) (c .lay .ensures)
+    indexed (k .before .before .before .before .before .pre) _ (k .columns .ensures) (c .lay .ensures)
 
 pub lay-spec : {M : Type 1} → statement M
 lay-spec = tie.close (tie.spec (λ c κs. search needs) (λ c κs. search needs) returns)

@@ -5,11 +5,8 @@ use Rattle.questions.proofs.Asking.{cover-asked}
 use Rattle.questions.proofs.cover.Statement.{statement}
 use Rattle.questions.proofs.cover.Tie as tie
 
-cover-requires : tie.Need-cover-requires
-cover-requires c κs = published-built _ (c .before .before .pre)
-
-returns : tie.Need-returns
-returns c = λ days. cover-asked _ days _ _ _ (c .found .ensures) _ (c .before .before .before .before .before .before .args .number) (c .before .before .before .cover .ensures)
-
 pub cover-spec : {M : Type 1} → statement M
-cover-spec = tie.close (tie.spec cover-requires (λ c κs. search needs) (λ c. search needs) returns)
+cover-spec = tie.close (tie.spec
+    (λ c κs. published-built (c .before .before .pre))  -- stabbing_query::cover(index, number, numbers)
+    (λ c κs. search needs) (λ c. search needs)
+    (λ c days. cover-asked (c .found .ensures) (c .before .before .before .cover .ensures)))

@@ -5,11 +5,8 @@ use Rattle.questions.proofs.Asking.{day-asked}
 use Rattle.questions.proofs.day.Statement.{statement}
 use Rattle.questions.proofs.day.Tie as tie
 
-day-requires : tie.Need-day-requires
-day-requires c κs = published-built _ (c .before .before .pre)
-
-returns : tie.Need-returns
-returns c = λ days. day-asked _ days _ _ _ (c .found .ensures) _ (c .before .before .before .before .before .before .args .d) (c .before .before .before .day .ensures)
-
 pub day-spec : {M : Type 1} → statement M
-day-spec = tie.close (tie.spec day-requires (λ c κs. search needs) (λ c. search needs) returns)
+day-spec = tie.close (tie.spec
+    (λ c κs. published-built (c .before .before .pre))  -- stabbing_query::day(index, d, numbers)
+    (λ c κs. search needs) (λ c. search needs)
+    (λ c days. day-asked (c .found .ensures) (c .before .before .before .day .ensures)))

@@ -13,13 +13,13 @@ on c = all-gives (c .before .before .ticked2 .ensures) (c .n .given .1)
 
 -- let Ticks::All(n) = masks::ticked(base, mask, &mut ticked) else
 off : tie.Need-returns
-off c = λ days. mask-off-asked _ _ _ days _ (off-gives (c .before .before .before .ticked2 .ensures) (c .before .enum-told .given .1)) _ (c .told .ensures)
+off c days = mask-off-asked (off-gives (c .before .before .before .ticked2 .ensures) (c .before .enum-told .given .1)) (c .told .ensures)
 
 -- ticking(days(index, &ticked[..n], numbers), n)
 asked : tie.Need-returns-2
-asked c =
+asked c days =
     let d = c .before .before .before .before .before .before .before in
-    λ days. mask-asked _ _ _ days _ (on d .first) (on d .number) (c .before .before .before .days .ensures) _ (c .ticking .ensures)
+    mask-asked (on d .first) (on d .number) (c .before .before .before .days .ensures) (c .ticking .ensures)
 
 pub mask-spec : {M : Type 1} → statement M
 mask-spec =

@@ -6,7 +6,7 @@ use Rattle.service.proofs.fresh.Statement.{statement}
 use Rattle.service.proofs.fresh.Tie as tie
 
 returns : tie.Need-returns
-returns c = (represents-fresh _ _ (c .fresh2 .ensures) (c .before .fresh .ensures), ap serviceOf (c .fresh2 .ensures .whole))
+returns c = (represents-fresh (c .fresh2 .ensures) (c .before .fresh .ensures), ap serviceOf (c .fresh2 .ensures .whole))
 
 pub fresh-spec : {M : Type 1} → statement M
 fresh-spec = tie.close (tie.spec (λ c κs. search needs) (λ c κs. search needs) returns)

@@ -5,7 +5,7 @@ use Rattle.service.proofs.write.Statement.{statement}
 use Rattle.service.proofs.write.Tie as tie
 
 returns : tie.Need-returns
-returns c = rw (c .wrote .ensures) (wrote _ _ _ _ (c .before .before .before .write .ensures))
+returns c = rw (c .wrote .ensures) (wrote (c .before .before .before .write .ensures))
 
 pub write-spec : {M : Type 1} → statement M
 write-spec = tie.close (tie.spec (λ c κs. search needs) (λ c κs. search needs) (λ c. search needs) returns)
