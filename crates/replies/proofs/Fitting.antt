@@ -5,7 +5,7 @@ use Rattle.outcomes.specs.declared.Outcome.{Outcome}
 use Rattle.outcomes.specs.Outcomes.{answerOf}
 use Rattle.replies.specs.Replies.{callText}
 use Rattle.replies.specs.Sending.{Sends, fitsIn, replyText}
-use Rattle.replies.specs.Contracts.{Fits}
+use Rattle.replies.specs.Fitting.{Fits}
 
 module _ {o : Outcome} {ns ts : List ℕ} where
   fitting : Fits (answerOf o ns ts) → fitsIn o (length ns) (length ts) ≡ true

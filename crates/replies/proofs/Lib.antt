@@ -1,4 +1,3 @@
 pub mod Sending
 pub mod Fitting
-pub mod Shapes
 pub mod Cases

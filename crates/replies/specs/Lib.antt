@@ -1,3 +1,3 @@
 pub mod Replies
 pub mod Sending
-pub mod Contracts
+pub mod Fitting

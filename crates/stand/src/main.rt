@@ -52,7 +52,7 @@ fn tell_refusal(number: u16, line: u16) {
 
 fn print_refusal(number: u16, line: u16) {
     let mut out = [0u8; OUT];
-    let at = replies::put_refused_line(&mut out, number, line);
+    let at = reply_lines::put_refused_line(&mut out, number, line);
     print_line(&out, at);
     tell_refusal(number, line);
 }

@@ -11,7 +11,7 @@ use Rattle.model.specs.Model.{step}
 use Rattle.model.proofs.Bridge.{comparisons-le}
 use Rattle.model.proofs.Effects.{every}
 use Rattle.model.proofs.Filter.{listed-few}
-use Rattle.replies.specs.Contracts.{Fits}
+use Rattle.replies.specs.Fitting.{Fits}
 
 module _ (m : State) (q : Request) (standing : Good (m .standing)) (published : length (m .published) ≤ 1024) where
   few : (ns rest : List ℕ) → length ns ≤ length (ns ++ rest)

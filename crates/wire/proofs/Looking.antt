@@ -19,7 +19,7 @@ use Rattle.requests.specs.Parsing.{requestOf, askedFrom, Parses}
 use Rattle.requests.proofs.Asking.{parsed-asked}
 use Rattle.replies.specs.Replies.{okText, malformedText, callText}
 use Rattle.replies.specs.Sending.{Sends}
-use Rattle.replies.specs.Contracts.{Fits}
+use Rattle.replies.specs.Fitting.{Fits}
 use Rattle.wire.specs.declared.Looked.{Looked}
 use Rattle.wire.specs.declared.Looked.the-variants.{Done}
 use Rattle.wire.specs.Answering.{beside, LooksAt, Looks, roomOf}

@@ -9,7 +9,7 @@ use Rattle.service.specs.Service.{Blocks, Given, Met}
 use Rattle.service.proofs.Represented.{stateOf, stands}
 use Rattle.replies.specs.Replies.{callText}
 use Rattle.replies.specs.Sending.{Sends}
-use Rattle.replies.specs.Contracts.{Fits}
+use Rattle.replies.specs.Fitting.{Fits}
 use Rattle.wire.specs.Conversation.{lent, callOf}
 use Rattle.wire.specs.Contracts.{CallTurn}
 use Rattle.wire.proofs.Bounds.{fits-step}

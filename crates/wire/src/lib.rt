@@ -75,7 +75,7 @@ fn ask_turn(
     ensures { λ r. ⌜ AskTurn (blocks (now (index .entry))) question (now (days .entry)) (now (numbers .entry)) (now (text .entry)) room (now (out .entry)) r (now (numbers .exit)) (now (out .exit)) ⌝ }
 {
     let o = questions::ask(index, question, days, numbers);
-    replies::put_reply(out, Call::Ask(question), o, numbers, text)
+    reply_calls::put_reply(out, Call::Ask(question), o, numbers, text)
 }
 
 // A call with its days in the first places of `days`: a question is answered.
@@ -126,9 +126,13 @@ fn look_at(
 {
     match request {
         Request::Call(call, k) => look_call(index, room, call, k, days, numbers, text, out),
-        Request::Room(n) => Looked::Done(Request::Room(n), n, replies::put_ok(out)),
+        Request::Room(n) => Looked::Done(Request::Room(n), n, reply_lines::put_ok(out)),
         Request::Read(n) => Looked::Wants(Wanted::Read(n)),
-        Request::Malformed => Looked::Done(Request::Malformed, room, replies::put_malformed(out)),
+        Request::Malformed => Looked::Done(
+            Request::Malformed,
+            room,
+            reply_lines::put_malformed(out),
+        ),
     }
 }
 
@@ -168,7 +172,7 @@ fn call_turn(
     ensures { λ r. ⌜ CallTurn service (blocks (now (index .entry))) (asking call (now (days .entry)) (now (numbers .entry)) (now (text .entry))) room (now (out .entry)) r (blocks (now (index .exit))) (now (numbers .exit)) (now (text .exit)) (now (out .exit)) ⌝ }
 {
     let r = service::step(service, index, call, days, numbers, text);
-    let place = replies::put_reply(out, call, r.outcome, numbers, text);
+    let place = reply_calls::put_reply(out, call, r.outcome, numbers, text);
     let next = r.service;
     Answered {
         service: next,
@@ -229,7 +233,7 @@ pub fn restart(
     let room = room_of(room);
     if length > LONGEST_TEXT {
         let service = service::fresh(index);
-        let place = replies::put_refused_line(out, MALFORMED, 0);
+        let place = reply_lines::put_refused_line(out, MALFORMED, 0);
         return Answered {
             service,
             room,
@@ -239,14 +243,14 @@ pub fn restart(
     let r = service::read(payload, index);
     let service = r.service;
     if r.refusal != ACCEPTED {
-        let place = replies::put_refused_line(out, r.refusal, r.line);
+        let place = reply_lines::put_refused_line(out, r.refusal, r.line);
         return Answered {
             service,
             room,
             place,
         };
     }
-    let place = replies::put_ok(out);
+    let place = reply_lines::put_ok(out);
     Answered {
         service,
         room,
