@@ -2,4 +2,3 @@ pub mod Laid
 pub mod Runs
 pub mod Claims
 pub mod Tied
-pub mod Cases

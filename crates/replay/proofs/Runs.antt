@@ -1,5 +1,5 @@
 -- The loop of `calls`: what is still to come, and what a turn does to it. Assumes nothing.
-use Rattle.basis.proofs.Prelude.{_∙_, _≡_, ap, refl, sym, _*_, _+_, _-_, _/_, _<_, _≤_, min, suc, zero, ℕ, List, [], _++_, _∷_, Bool, cond, false, true, leb, drop, length, length-drop, take, drop-drop, add-one, arith, leb-true}
+use Rattle.basis.proofs.Prelude.{_∙_, _≡_, ap, refl, sym, _*_, _+_, _-_, _/_, _<_, _≤_, min, suc, ℕ, List, [], _++_, _∷_, Bool, false, true, drop, length, length-drop, take, drop-drop, add-one, arith}
 use Rattle.service.specs.declared.Service.{Service}
 use Rattle.model.specs.declared.Call.{Call}
 use Rattle.register.specs.Text.{readText}
@@ -8,50 +8,12 @@ use Rattle.packing.specs.Blocks.{written}
 use Rattle.service.specs.declared.Stepped.{Stepped}
 use Rattle.outcomes.specs.Outcomes.{answerOf}
 use Rattle.service.specs.Service.{Blocks, Represents, Given, Met}
-use Rattle.replay.specs.declared.Code.{Code}
-use Rattle.replay.specs.declared.Next.{Next}
-use Rattle.replay.specs.declared.Next.the-variants.{Stop, Go}
-use Rattle.replay.specs.Coded.{codeWidth, resultWidth, codeAt, nextOf, decodeFrom, decode, told, tellAt, resultsOf, numbersOf, textsOf, Holds, Replayed}
+use Rattle.coding.specs.declared.Code.{Code}
+use Rattle.coding.specs.declared.Next.the-variants.{Stop, Go}
+use Rattle.coding.specs.Coded.{codeWidth, resultWidth, codeAt, nextOf, decodeFrom, decode, told, resultsOf, numbersOf, textsOf}
+use Rattle.coding.proofs.Decoding.{Room, next-room, decode-stop, decode-go}
+use Rattle.replay.specs.Replayed.{tellAt, Holds, Replayed}
 use Rattle.replay.proofs.Laid.{Laid, laid-done, laid-more, put-drop, put-length, part-back, part-length}
-
--- ---- A call is found only where there is room
-
-picked : (b : Bool) (y : Next) (q : Call) → cond b y Stop ≡ Go q → b ≡ true
-picked true y q e = refl
-picked false y q e = cc
-
-pub record Room (c : Code) (days numbers text : ℕ) : Type 0 where
-  pub for-days : c .days ≤ days
-  pub for-numbers : c .numbers ≤ numbers
-  pub for-text : c .text ≤ text
-
-pub next-room : (c : Code) (days numbers text : ℕ) (q : Call) → nextOf c days numbers text ≡ Go q → Room c days numbers text
-unfolding nextOf
-next-room c days numbers text q e =
-    let d : leb (c .days) days ≡ true = picked (leb (c .days) days) _ q e in
-    let n : leb (c .numbers) numbers ≡ true = picked (leb (c .numbers) numbers) _ q (rw d at e) in
-    let t : leb (c .text) text ≡ true = picked (leb (c .text) text) _ q (rw (d, n) at e) in
-    record {
-      for-days = leb-true (c .days) days d;
-      for-numbers = leb-true (c .numbers) numbers n;
-      for-text = leb-true (c .text) text t;
-    }
-
--- ---- The calls that are still coded
-
-module _ (codes days numbers text : List ℕ) (k : ℕ) where
-  decode-stop : (n : ℕ) → nextOf (codeAt codes k) (length days) (length numbers) (length text) ≡ Stop
-      → decodeFrom codes n k days numbers text ≡ []
-  unfolding decodeFrom
-  decode-stop zero e = refl
-  decode-stop (suc n) e = simp e
-
-  pub decode-go : (n : ℕ) (c : Code) (q : Call) → c ≡ codeAt codes k → nextOf c (length days) (length numbers) (length text) ≡ Go q
-      → decodeFrom codes (suc n) k days numbers text
-      ≡ record { call = q; days = take (c .days) days; numbers = take (c .numbers) numbers; text = take (c .text) text }
-      ∷ decodeFrom codes n (suc k) (drop (c .days) days) (drop (c .numbers) numbers) (drop (c .text) text)
-  unfolding decodeFrom
-  decode-go n c q ec e = rw (← ec) (simp e)
 
 -- ---- The loop's invariant
 

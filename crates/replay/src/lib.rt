@@ -3,43 +3,18 @@ ghost use mathlib.Core.Path.{_≡_};
 ghost use Prim.Native.Nat.{_+_, _*_, _≤_, _<_, _/_, min};
 ghost use lib.ListN.{length};
 ghost use Rattle.service.specs.Service.{blocks, Given};
-ghost use Rattle.replay.specs.Coded.{codeWidth, resultWidth, low16, urgencyOf, word, codeAt, spellOf, callOf, nextOf, tellAt, Answered, Replayed};
-use model::Call;
-use model::Question;
+ghost use Rattle.coding.specs.Coded.{codeWidth, resultWidth, word, codeAt};
+ghost use Rattle.replay.specs.Replayed.{tellAt, Answered, Replayed};
+use coding::Code;
+use coding::Next;
 use outcomes::Outcome;
 use service::Service;
-use spell::Spell;
-use spell::Urgency;
 use stabbing::INDEX;
-
-// ---- One call's code
 
 // How many words code a call, and how many results a call has.
 const CODE: usize = 10;
 
 const RESULT: usize = 5;
-
-// A call in ten words: its number (1 enter, 2 amend, 3 strike, 4 take back, 5 publish, 6 write, 7 day, 8 span, 9 cover,
-// 10 days, 11 mask), the fields of a spell, and how many places of the lists of days, numbers and text it is lent. A mask stands in the place
-// of the value, its base day in that of the first day.
-pub struct Code {
-    pub op: u64,
-    pub number: u16,
-    pub candidate: u16,
-    pub first: u16,
-    pub last: u16,
-    pub kind: u64,
-    pub value: u64,
-    pub days: usize,
-    pub numbers: usize,
-    pub text: usize,
-}
-
-// A code's call, or the end of the list.
-pub enum Next {
-    Stop,
-    Go(Call),
-}
 
 // What a replayed list gives beside its lists: the refusal and line of the reading that it began with, and how many calls
 // were made.
@@ -47,21 +22,6 @@ pub struct Ran {
     pub refusal: u16,
     pub line: u16,
     pub made: usize,
-}
-
-fn low(x: u64) -> u16
-    ensures { λ r. ⌜ r ≡ low16 x ⌝ }
-{
-    (x % 65536) as u16
-}
-
-fn urgency_of(kind: u64, value: u64) -> Urgency
-    ensures { λ r. ⌜ r ≡ urgencyOf kind value ⌝ }
-{
-    if kind == 0 {
-        return Urgency::Grade(low(value));
-    }
-    Urgency::Reading(readings::reading_of((value % 4294967296) as u32))
 }
 
 fn word_at(codes: &[u64], k: usize, j: usize) -> u64
@@ -77,65 +37,16 @@ fn code_at(codes: &[u64], k: usize) -> Code
 {
     Code {
         op: word_at(codes, k, 0),
-        number: low(word_at(codes, k, 1)),
-        candidate: low(word_at(codes, k, 2)),
-        first: low(word_at(codes, k, 3)),
-        last: low(word_at(codes, k, 4)),
+        number: decoding::low(word_at(codes, k, 1)),
+        candidate: decoding::low(word_at(codes, k, 2)),
+        first: decoding::low(word_at(codes, k, 3)),
+        last: decoding::low(word_at(codes, k, 4)),
         kind: word_at(codes, k, 5),
         value: word_at(codes, k, 6),
         days: word_at(codes, k, 7) as usize,
         numbers: word_at(codes, k, 8) as usize,
         text: word_at(codes, k, 9) as usize,
     }
-}
-
-fn spell_of(c: Code) -> Spell
-    ensures { λ r. ⌜ r ≡ spellOf c ⌝ }
-{
-    let u = urgency_of(c.kind, c.value);
-    Spell {
-        number: c.number,
-        candidate: c.candidate,
-        first: c.first,
-        last: c.last,
-        urgency: u,
-    }
-}
-
-fn call_of(c: Code) -> Next
-    ensures { λ r. ⌜ r ≡ callOf c ⌝ }
-{
-    let op = c.op;
-    match op {
-        1 => Next::Go(Call::Enter(spell_of(c))),
-        2 => Next::Go(Call::Amend(spell_of(c))),
-        3 => Next::Go(Call::Strike(c.number)),
-        4 => Next::Go(Call::TakeBack),
-        5 => Next::Go(Call::Publish(c.number)),
-        6 => Next::Go(Call::Write),
-        7 => Next::Go(Call::Ask(Question::Day(c.first))),
-        8 => Next::Go(Call::Ask(Question::Span(c.first, c.last))),
-        9 => Next::Go(Call::Ask(Question::Cover(c.number))),
-        10 => Next::Go(Call::Ask(Question::Days)),
-        11 => Next::Go(Call::Ask(Question::Mask(c.first, c.value))),
-        _ => Next::Stop,
-    }
-}
-
-// The call of a code that is lent no more than the places left.
-fn next_of(c: Code, days: usize, numbers: usize, text: usize) -> Next
-    ensures { λ r. ⌜ r ≡ nextOf c days numbers text ⌝ }
-{
-    if days < c.days {
-        return Next::Stop;
-    }
-    if numbers < c.numbers {
-        return Next::Stop;
-    }
-    if text < c.text {
-        return Next::Stop;
-    }
-    call_of(c)
 }
 
 // ---- The list of calls
@@ -185,7 +96,8 @@ fn calls(
     let mut t = 0;
     while made < whole {
         let c = code_at(codes, made);
-        let Next::Go(call) = next_of(c, days.len() - d, numbers.len() - n, text.len() - t) else {
+        let Next::Go(call) = decoding::next_of(c, days.len() - d, numbers.len() - n, text.len() - t)
+        else {
             return made;
         };
         let r = service::step(

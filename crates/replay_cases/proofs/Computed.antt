@@ -15,7 +15,7 @@ use Rattle.model.specs.Effects.{settle}
 use Rattle.model.specs.Model.{Answer, fresh, takeBack, ask, effectOf, run}
 use Rattle.buffer.specs.Buffer.{over}
 use Rattle.packing.specs.Blocks.{written}
-use Rattle.replay.specs.Coded.{codeAt, callOf, nextOf, decodeFrom, decode, resultsOf, numbersOf, textsOf}
+use Rattle.coding.specs.Coded.{codeAt, callOf, nextOf, decodeFrom, decode, resultsOf, numbersOf, textsOf}
 
 -- ---- The program's lists before the calls
 

@@ -2,8 +2,9 @@
 -- measure is the codes that are left. Assumes nothing.
 use Rattle.basis.proofs.Prelude.{_∙_, _≡_, sym, _*_, _+_, _-_, _<_, _≤_, length, arith, needs}
 use Rattle.service.specs.Service.{blocks}
-use Rattle.replay.specs.Coded.{codeWidth, resultWidth, nextOf}
-use Rattle.replay.proofs.Runs.{Going, next-room, starts, ended-all, ended-stop, turned, whole-room}
+use Rattle.coding.specs.Coded.{codeWidth, resultWidth, nextOf}
+use Rattle.coding.proofs.Decoding.{next-room}
+use Rattle.replay.proofs.Runs.{Going, starts, ended-all, ended-stop, turned, whole-room}
 use Rattle.replay.proofs.calls.Statement.{statement}
 use Rattle.replay.proofs.calls.Tie as tie
 

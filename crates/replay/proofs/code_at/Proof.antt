@@ -1,5 +1,5 @@
 -- `replay::code_at` meets its contract: a word for each field. Assumes nothing.
-use Rattle.replay.specs.Coded.{codeAt}
+use Rattle.coding.specs.Coded.{codeAt}
 use Rattle.basis.proofs.Prelude.{needs}
 use Rattle.replay.proofs.code_at.Statement.{statement}
 use Rattle.replay.proofs.code_at.Tie as tie

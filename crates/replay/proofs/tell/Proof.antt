@@ -1,7 +1,7 @@
 -- `replay::tell` meets its contract: stores, one after the other. Assumes nothing.
 use Rattle.basis.proofs.Prelude.{[], _*_, length-set, sets-eq, add-one, add-two, add-three, add-four, arith, needs}
 use Rattle.outcomes.specs.Outcomes.{answerOf}
-use Rattle.replay.specs.Coded.{resultWidth, told}
+use Rattle.coding.specs.Coded.{resultWidth, told}
 use Rattle.replay.proofs.tell.Statement.{statement}
 use Rattle.replay.proofs.tell.Tie as tie
 

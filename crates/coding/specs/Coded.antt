@@ -1,31 +1,22 @@
--- A list of calls as words, and what the answers leave in the lent lists. Assumes nothing.
+-- A list of calls as words, and the words of their answers. Assumes nothing.
 use Prim.Native.Nat.{ℕ, zero, suc, _+_, _*_, _/_, _%_, min}
-use mathlib.Core.Path.{_≡_}
-use mathlib.Core.Bool.{Bool, cond}
-use mathlib.Core.List.{List, [], _∷_, _++_}
+use mathlib.Core.Bool.{cond}
+use mathlib.Core.List.{List, [], _∷_}
 use lib.Dec.{leb, eqb}
 use lib.Ieee.{binary32, ofBits}
 use lib.ListN.{length, take, drop, getD}
-use Rattle.refusal.specs.Table.{accepted}
 use Rattle.spell.specs.declared.Urgency.{Urgency}
 use Rattle.spell.specs.declared.Urgency.the-variants.{Grade, Reading}
 use Rattle.spell.specs.declared.Spell.{Spell}
-use Rattle.register.specs.Text.{readText}
 use Rattle.model.specs.declared.Call.{Call}
 use Rattle.model.specs.declared.Call.the-variants.{Enter, Amend, Strike, TakeBack, Publish, Write, Ask}
 use Rattle.model.specs.declared.Question.{Question}
 use Rattle.model.specs.declared.Question.the-variants.{Day, Span, Cover, Days, Mask}
-use Rattle.buffer.specs.Buffer.{over}
 use Rattle.packing.specs.Blocks.{written}
-use Rattle.model.specs.Model.{State, fresh, begun, refusalIn, lineIn, Request, Answer, run}
-use Rattle.service.specs.declared.Service.{Service}
-use Rattle.outcomes.specs.declared.Outcome.{Outcome}
-use Rattle.outcomes.specs.Outcomes.{answerOf}
-use Rattle.service.specs.Service.{Blocks, Represents}
-use Rattle.replay.specs.declared.Code.{Code}
-use Rattle.replay.specs.declared.Next.{Next}
-use Rattle.replay.specs.declared.Next.the-variants.{Stop, Go}
-use Rattle.replay.specs.declared.Ran.{Ran}
+use Rattle.model.specs.Model.{Request, Answer}
+use Rattle.coding.specs.declared.Code.{Code}
+use Rattle.coding.specs.declared.Next.{Next}
+use Rattle.coding.specs.declared.Next.the-variants.{Stop, Go}
 
 -- ---- One call's code
 
@@ -172,10 +163,6 @@ decode codes days results numbers text = decodeFrom codes (wholeOf codes results
 abbrev pub told : Answer → List ℕ
 told a = a .refusal ∷ a .count ∷ a .comparisons ∷ a .length ∷ a .ticked ∷ []
 
--- a list with the results of the call k in their places
-abbrev pub tellAt : ℕ → Outcome → List ℕ → List ℕ
-tellAt k o l = (take (resultWidth * k) l ++ told (answerOf o [] [])) ++ drop (resultWidth * k + resultWidth) l
-
 -- the results of all calls, end to end; so the lists of numbers, and those of text
 abbrev pub resultsOf : List Answer → List ℕ
 resultsOf answers = written told answers
@@ -185,27 +172,3 @@ numbersOf answers = written (λ (a : Answer). a .numbers) answers
 
 abbrev pub textsOf : List Answer → List ℕ
 textsOf answers = written (λ (a : Answer). a .text) answers
-
--- so many calls were made, and results, numbers and text hold these answers
-pub record Holds (answers : List Answer) (results numbers text : List ℕ) (made : ℕ) (results′ numbers′ text′ : List ℕ) : Type 0 where
-  pub count : made ≡ length answers
-  pub told : results′ ≡ over (resultsOf answers) results
-  pub listed : numbers′ ≡ over (numbersOf answers) numbers
-  pub written : text′ ≡ over (textsOf answers) text
-
--- whatever state the service sv and the blocks bs stand for, these are the answers of the account's run of the coded calls from it
-abbrev pub Answered : Service → Blocks → List ℕ → List ℕ → List ℕ → List ℕ → List ℕ → ℕ → List ℕ → List ℕ → List ℕ → Type 0
-Answered sv bs codes days results numbers text made results′ numbers′ text′ =
-    (m : State) → Represents sv bs m → Holds (run m (decode codes days results numbers text)) results numbers text made results′ numbers′ text′
-
--- ---- The beginning: a fresh service, or a register's bytes
-
-abbrev pub beginning : Bool → List ℕ → State
-beginning new register = cond new fresh (begun (readText register))
-
--- THE CLAIM about a whole list of calls: begun fresh or on the register's bytes, the answers of the calls that the words code
--- are those of the account's own run of them
-pub record Replayed (new : Bool) (register codes days results numbers text : List ℕ) (r : Ran) (results′ numbers′ text′ : List ℕ) : Type 0 where
-  pub refusal : r .refusal ≡ cond new accepted (refusalIn (readText register))
-  pub line : r .line ≡ cond new 0 (lineIn (readText register))
-  pub calls : Holds (run (beginning new register) (decode codes days results numbers text)) results numbers text (r .made) results′ numbers′ text′

@@ -6,7 +6,7 @@ use lib.ListN.{length}
 use Rattle.packing.specs.Words.{Narrow}
 use Rattle.packing.specs.Blocks.{written, Every}
 use Rattle.model.specs.Model.{Request}
-use Rattle.replay.specs.Coded.{resultWidth, decode, Value, urgent, masked, Fields, fieldsOf}
+use Rattle.coding.specs.Coded.{resultWidth, decode, Value, urgent, masked, Fields, fieldsOf}
 
 -- ---- What has a coding
 

@@ -1,8 +1,8 @@
--- `replay::call_of` meets its contract: one arm a call. Assumes nothing.
+-- `decoding::call_of` meets its contract: one arm a call. Assumes nothing.
 use Rattle.basis.proofs.Prelude.{needs, ne-eqb}
-use Rattle.replay.specs.Coded.{callOf}
-use Rattle.replay.proofs.call_of.Statement.{statement}
-use Rattle.replay.proofs.call_of.Tie as tie
+use Rattle.coding.specs.Coded.{callOf}
+use Rattle.decoding.proofs.call_of.Statement.{statement}
+use Rattle.decoding.proofs.call_of.Tie as tie
 
 pub call-of-spec : {M : Type 1} → statement M
 unfolding callOf

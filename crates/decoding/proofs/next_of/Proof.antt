@@ -1,8 +1,8 @@
--- `replay::next_of` meets its contract: one test a return. Assumes nothing.
+-- `decoding::next_of` meets its contract: one test a return. Assumes nothing.
 use Rattle.basis.proofs.Prelude.{needs, le-leb, lt-leb}
-use Rattle.replay.specs.Coded.{nextOf}
-use Rattle.replay.proofs.next_of.Statement.{statement}
-use Rattle.replay.proofs.next_of.Tie as tie
+use Rattle.coding.specs.Coded.{nextOf}
+use Rattle.decoding.proofs.next_of.Statement.{statement}
+use Rattle.decoding.proofs.next_of.Tie as tie
 
 returns : tie.Need-returns
 unfolding nextOf

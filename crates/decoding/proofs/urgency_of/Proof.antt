@@ -1,7 +1,7 @@
--- `replay::urgency_of` meets its contract: by the kind. Assumes nothing.
+-- `decoding::urgency_of` meets its contract: by the kind. Assumes nothing.
 use Rattle.basis.proofs.Prelude.{needs, eq-eqb, ne-eqb}
-use Rattle.replay.proofs.urgency_of.Statement.{statement}
-use Rattle.replay.proofs.urgency_of.Tie as tie
+use Rattle.decoding.proofs.urgency_of.Statement.{statement}
+use Rattle.decoding.proofs.urgency_of.Tie as tie
 
 returns : tie.Need-returns
 returns c = simp (eq-eqb _ 0 (c .before .if1 .taken), c .low .ensures)

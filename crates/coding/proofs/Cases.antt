@@ -19,7 +19,7 @@ use Rattle.model.specs.Effects.{settle}
 use Rattle.model.specs.Model.{Request, Answer, fresh, ask, effectOf, run}
 use Rattle.buffer.specs.Buffer.{over}
 use Rattle.packing.specs.Blocks.{written}
-use Rattle.replay.specs.Coded.{codeAt, callOf, nextOf, decodeFrom, decode, resultsOf, numbersOf, textsOf}
+use Rattle.coding.specs.Coded.{resultWidth, codeAt, callOf, nextOf, decodeFrom, decode, told, resultsOf, numbersOf, textsOf}
 
 -- enter 11, with a word of more than 16 bits; enter 12, with a reading; publish by rule 1; day 3, lent three places; days 1 and 4, lent
 -- two places; the mask of days 3 and 4, lent one place, which is short; a number that no call has; and a code of three words
@@ -101,3 +101,7 @@ pub each-place : (over (resultsOf two) (replicate 11 77) ≡ 1 ∷ 2 ∷ 3 ∷ 4
     × (over (textsOf two) (replicate 4 77) ≡ 31 ∷ 32 ∷ 33 ∷ 77 ∷ []))
 unfolding written
 each-place = (refl, (refl, refl))
+
+-- a call has so many results
+pub told-wide : (a : Answer) → length (told a) ≡ resultWidth
+told-wide a = refl

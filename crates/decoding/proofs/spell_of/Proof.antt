@@ -1,7 +1,7 @@
--- `replay::spell_of` meets its contract: field by field. Assumes nothing.
+-- `decoding::spell_of` meets its contract: field by field. Assumes nothing.
 use Rattle.basis.proofs.Prelude.{needs}
-use Rattle.replay.proofs.spell_of.Statement.{statement}
-use Rattle.replay.proofs.spell_of.Tie as tie
+use Rattle.decoding.proofs.spell_of.Statement.{statement}
+use Rattle.decoding.proofs.spell_of.Tie as tie
 
 returns : tie.Need-returns
 returns c = simp (c .urgency-of .ensures)
