@@ -1,8 +1,23 @@
 -- What is over a list: laws of values in its first places. Assumes nothing.
-use Rattle.basis.proofs.Prelude.{_∙_, _≡_, ap, sym, _+_, _-_, _≤_, ℕ, List, _++_, drop, length, length-append, length-drop, length-replicate, replicate, replicate-append-replicate, take, take-append-drop, drop-append-add, drop-at, drop-drop, length-take-le, arith}
+use Rattle.basis.proofs.Prelude.{_∙_, _≡_, ap, sym, _+_, _-_, _≤_, min, min-le-left, min-le-right, ℕ, List, _++_, drop, length, length-append, length-drop, length-replicate, replicate, replicate-append-replicate, take, take-all, take-append-drop, take-length, drop-append-add, drop-at, drop-drop, length-take-le, decLe, arith}
+use native.Mathlib.Nat.{min-eq-left, min-eq-right}
 use Rattle.buffer.specs.Buffer.{over}
 
+-- the less of two is at most each
+pub least-in : {n a b : ℕ} → n ≡ min a b → (n ≤ a) × (n ≤ b)
+least-in {n} {a} {b} e = (omega (arith, min-le-left a b), omega (arith, min-le-right a b))
+
 module _ {A : Type 0} where
+  -- a count above a list's length names all of it
+  pub take-least : (n : ℕ) (a : List A) → take (min n (length a)) a ≡ take n a
+  take-least n a = elim (decLe n (length a)) [
+    | yes h ↦ ap (λ (k : ℕ). take k a) (min-eq-left h)
+    | no h ↦ let long : length a ≤ n = omega arith in ap (λ (k : ℕ). take k a) (min-eq-right long) ∙ take-length a ∙ sym (take-all n a long)
+  ]
+
+  pub least-names : {n k : ℕ} (count : ℕ) (a : List A) → length a ≡ k → n ≡ min count k → take n a ≡ take count a
+  least-names {n} {k} count a long e = rw (e, ← long) (take-least count a)
+
   -- the list is as long as before
   pub over-length : (l a : List A) → length l ≤ length a → length (over l a) ≡ length a
   over-length l a h = omega (arith, length-append l (drop (length l) a), length-drop (length l) a)

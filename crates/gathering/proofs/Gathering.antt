@@ -3,13 +3,16 @@ use Rattle.basis.proofs.Prelude.{_∙_, _≡_, ap, refl, sym, _+_, _-_, _<_, _�
 use borrow.Rule.Slice.PartMut.{midOf, putMid, post-is, mid-len}
 use Rattle.gathering.specs.Gathering.{Appends, Leaves, Appended}
 
+-- a list copied over one that is no longer
+pub copied-whole : {src part : List ℕ} (list : List ℕ) → length list ≤ length src → part ≡ take (length src) src ++ drop (length src) list → part ≡ src
+copied-whole {src} list few copy = copy ∙ rw (take-length src, drop-of-length-le list {i = length src} few) (append-nil src)
+
 -- a text that is copied to the places from n to `end` is put there
 pub copied : {list text src part : List ℕ} {n end : ℕ} → end ≡ n + length text → end ≤ length list → src ≡ text
     → part ≡ take (length src) src ++ drop (length src) (midOf n (end - n) list) → Appends text list n end (putMid n (end - n) list part)
 copied {list} {text} {src} {part} {n} {end} place fits same copy =
     let long : length src ≡ length text = ap length same in
-    let whole : part ≡ text
-    = copy ∙ rw (take-length src, drop-of-length-le (midOf n (end - n) list) {i = length src} (omega (arith, mid-len n end list fits))) (append-nil src ∙ same) in
+    let whole : part ≡ text = copied-whole (midOf n (end - n) list) (omega (arith, mid-len n end list fits)) copy ∙ same in
     record { place = place; places = rw (whole, post-is n end list (omega arith)) }
 
 -- a text of no bytes is put anywhere, and nothing is written

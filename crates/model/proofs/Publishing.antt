@@ -1,23 +1,8 @@
 -- The published list: in the order of the answers, each number once, each spell with the days of the rule. Assumes nothing.
-use Rattle.basis.proofs.Prelude.{_∙_, _≡_, ap, refl, _≤_, ℕ, List, List·Memᴰ, List·Memᴰ·cases-cons, List·Memᴰ·head, List·Memᴰ·not-nil, List·Memᴰ·tail, [], _∷_, map, inl, inr, Bool, false, not, true, _↔_, length, length-map, arith, not-true, both}
-use Rattle.model.proofs.Names.{sortedBy, sorted-length, cut, as-entered, Spell, listedBefore, stands, distinct, Each, Orderly, OrderlyBy, neither, StrictOrder, answer-order, publishedOf}
-use Rattle.model.proofs.Edits.{stands-insert, orderly-none, orderly-insert, in-insert}
-
-module _ (t : Spell → Spell → Bool) where
-  pub stands-sorted : (l : List Spell) (k : ℕ) → stands l k ≡ false → stands (sortedBy t l) k ≡ false
-  unfolding sortedBy stands
-  stands-sorted [] k h = h
-  stands-sorted (x ∷ l) k h = let p = neither _ (stands l k) h in stands-insert t x (sortedBy t l) k (stands-sorted l k (p .1)) (p .0)
-
-module _ {t : Spell → Spell → Bool} (o : StrictOrder t) where
-  -- unique numbers, sorted
-  pub sorted-orderly : (P : Spell → Type 0) (l : List Spell) → Each P l → distinct l ≡ true → length l ≤ 1024 → OrderlyBy t P (sortedBy t l)
-  unfolding sortedBy distinct Each
-  sorted-orderly P [] e d few = orderly-none o P
-  sorted-orderly P (x ∷ l) e d few =
-      let p = both (not (stands l (x .number))) (distinct l) d in
-      orderly-insert o P x (sortedBy t l) (sorted-orderly P l (e .1) (p .1) (omega arith)) (e .0)
-      (stands-sorted t l (x .number) (not-true (stands l (x .number)) (p .0))) (omega (arith, sorted-length t l))
+use Rattle.basis.proofs.Prelude.{_∙_, _≡_, ap, refl, ℕ, List, List·Memᴰ, List·Memᴰ·cases-cons, List·Memᴰ·head, List·Memᴰ·not-nil, List·Memᴰ·tail, [], _∷_, map, inl, inr, length, length-map, arith}
+use Rattle.model.proofs.Names.{sortedBy, sorted-length, cut, as-entered, Spell, listedBefore, stands, distinct, Each, Orderly, OrderlyBy, answer-order, publishedOf}
+use Rattle.orders.proofs.Members.{sorted-has}
+use Rattle.spell.proofs.Sorted.{sorted-orderly}
 
 -- ---- The rule's days
 
@@ -62,18 +47,6 @@ unfolding publishedOf
 published-entered l = ap (sortedBy listedBefore) (as-entered-all l)
 
 -- ---- Which spells are published
-
-module _ (t : Spell → Spell → Bool) where
-  -- a sorted list has the same spells
-  pub sorted-has : (l : List Spell) (x : Spell) → List·Memᴰ x (sortedBy t l) ↔ List·Memᴰ x l
-  unfolding sortedBy
-  sorted-has [] x = (λ i. i, λ i. i)
-  sorted-has (y ∷ l) x =
-      let h = sorted-has l x in
-      let p = in-insert t y (sortedBy t l) x in (
-        λ i. elim (p .0 i) [ inl e ↦ List·Memᴰ·head e | inr j ↦ List·Memᴰ·tail (h .0 j) ],
-        λ i. elim (List·Memᴰ·cases-cons i) [ inl e ↦ p .1 (inl e) | inr j ↦ p .1 (inr (h .1 j)) ],
-      )
 
 -- EACH SPELL that stands is published with the days that the rule gives it
 pub published-all : (rule : ℕ) (l : List Spell) (s : Spell) → List·Memᴰ s l → List·Memᴰ (cut rule s) (publishedOf rule l)

@@ -1,3 +1,4 @@
 pub mod Each
 pub mod Sorting
+pub mod Members
 pub mod Keys

@@ -36,7 +36,7 @@ module _ {A : Type 0} (t : A → A → Bool) where
   unfolding sortedBy
   sorted-first x l k = inserted-first x (sortedBy t l) (each-sorted (λ y. t y x ≡ false) l k)
 
-  inserted-length : (x : A) (l : List A) → length (insertBy t x l) ≡ suc (length l)
+  pub inserted-length : (x : A) (l : List A) → length (insertBy t x l) ≡ suc (length l)
   unfolding insertBy
   inserted-length x [] = refl
   inserted-length x (y ∷ l) = by-test (t y x)

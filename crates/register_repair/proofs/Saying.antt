@@ -1,5 +1,5 @@
 -- The remarks written one by one. Assumes nothing.
-use Rattle.basis.proofs.Prelude.{_∙_, _≡_, ap, refl, sym, _*_, _+_, _<_, _≤_, suc, ℕ, List, [], _++_, _∷_, append-assoc, append-nil, false, true, eqb, drop, drop-of-length-le, getD, length, length-append, length-drop, length-set, set, take, drop-cons, getD-take, length-take-le, set-at, add-one, arith, eq-eqb, ne-eqb}
+use Rattle.basis.proofs.Prelude.{_∙_, _≡_, ap, refl, sym, _*_, _+_, _<_, _≤_, suc, ℕ, List, [], _++_, _∷_, append-assoc, append-nil, drop, drop-of-length-le, getD, length, length-append, length-set, set, drop-cons, set-at, add-one, arith, ne-eqb}
 use Rattle.buffer.specs.Buffer.{over}
 use Rattle.repairing.specs.Repair.{remarksFrom, placesOf}
 

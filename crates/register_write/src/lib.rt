@@ -1,6 +1,5 @@
 // Writing a list of spells as a register text.
 ghost use mathlib.Core.Path.{_≡_};
-ghost use Prim.Native.Nat.{min};
 ghost use lib.ListN.{take, drop};
 ghost use Rattle.register.specs.Text.{urgencyText, lineText, writeAll};
 ghost use Rattle.register.specs.Answers.{Writes};
@@ -54,22 +53,13 @@ fn put_line(buf: &mut [u8; 35840], at: usize, s: Spell) -> usize
     decimals::put_number(buf, m, s.number, TAB)
 }
 
-fn at_most(count: usize, limit: usize) -> usize
-    ensures { λ r. ⌜ r ≡ min count limit ⌝ }
-{
-    if count <= limit {
-        return count;
-    }
-    limit
-}
-
 // The text of the first `count` spells, into the first places of `out`; above 1,024 it is that of all.
 pub fn write(spells: [Spell; 1024], count: usize, out: &mut [u8]) -> Written
     ensures { λ r. ⌜ Writes (writeAll (take count spells)) (now (out .entry)) r (now (out .exit)) ⌝ }
 {
     let mut buf = [0u8; 35840];
     let mut at: usize = 35840;
-    let mut i = at_most(count, 1024);
+    let mut i = buffer::least(count, 1024);
     while 0 < i {
         i -= 1;
         let s = spells[i];

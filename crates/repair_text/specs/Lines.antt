@@ -3,6 +3,7 @@ use Prim.Native.Nat.{ℕ, _≤_}
 use mathlib.Core.Path.{_≡_}
 use mathlib.Core.List.{List, [], _∷_, _++_}
 use lib.ListN.{length, drop}
+use Rattle.refusal.specs.Table.{refusedWord}
 use Rattle.fields.specs.Fields.{wideText}
 use Rattle.register.specs.Text.{tab, lf}
 
@@ -11,10 +12,6 @@ use Rattle.register.specs.Text.{tab, lf}
 -- `dropped` TAB
 abbrev pub droppedWord : List ℕ
 droppedWord = 100 ∷ 114 ∷ 111 ∷ 112 ∷ 112 ∷ 101 ∷ 100 ∷ 9 ∷ []
-
--- `refused` TAB
-abbrev pub refusedWord : List ℕ
-refusedWord = 114 ∷ 101 ∷ 102 ∷ 117 ∷ 115 ∷ 101 ∷ 100 ∷ 9 ∷ []
 
 -- `repaired` TAB
 abbrev pub repairedWord : List ℕ

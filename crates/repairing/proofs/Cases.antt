@@ -1,5 +1,5 @@
 -- A damaged text, repaired by computation; the order of the last two checks. Assumes nothing.
-use Rattle.basis.proofs.Prelude.{_≡_, refl, ℕ, List, [], _∷_, Bool, true, false, length, replicate}
+use Rattle.basis.proofs.Prelude.{_≡_, refl, ℕ, List, [], _∷_, length, replicate}
 use Rattle.orders.specs.Orders.{insertBy, sortedBy}
 use Rattle.spell.specs.declared.Urgency.the-variants.{Grade}
 use Rattle.spell.specs.declared.Spell.{Spell}

@@ -2,14 +2,15 @@
 use Rattle.basis.proofs.Prelude.{_∙_, _≡_, ap, refl, sym, _+_, _*_, _≤_, ℕ, List, List·Memᴰ, [], _∷_, map, true, _↔_, eqb, leb, length, arith, le-leb, leb-true, both, by-test}
 use Rattle.orders.specs.Orders.{sortedBy, inOrderBy}
 use Rattle.orders.proofs.Sorting.{in-order-sorted}
+use Rattle.orders.proofs.Members.{sorted-has}
 use Rattle.spell.specs.declared.Spell.{Spell}
 use Rattle.spell.specs.Order.{earlierOf, ordered, orderedBy}
 use Rattle.spell.specs.Listing.{Good, Sound}
 use Rattle.spell.proofs.Order.{text-order, asym}
+use Rattle.spell.proofs.Sorted.{sorted-orderly}
 use Rattle.register.specs.Text.{readText, good, writeAll}
 use Rattle.register.proofs.Claims.{list-again, text-again, fits}
 use Rattle.model.specs.Questions.{rising}
-use Rattle.model.proofs.Publishing.{sorted-orderly, sorted-has}
 use Rattle.buffer.specs.Buffer.{over}
 use Rattle.repairing.specs.declared.Repaired.{Repaired}
 use Rattle.repairing.specs.Repair.{linesOf, keptOf, putOf, repairedText, remarksOf, placesOf, displacedIn}

@@ -1,10 +1,10 @@
 -- How many kept lines now stand after a line that followed them: by the least of those that followed, and when it is none. Assumes nothing.
-use Rattle.basis.proofs.Prelude.{_∙_, _≡_, ap, refl, sym, _+_, suc, zero, ℕ, List, [], _∷_, Bool, _||_, cond, false, not, true, _↔_, eqb, arith, eqb-false, not-true, both, by-cases, by-test, clash}
+use Rattle.basis.proofs.Prelude.{_∙_, _≡_, ap, refl, sym, _+_, ℕ, List, [], _∷_, Bool, _||_, cond, false, not, true, _↔_, eqb, arith, eqb-false, not-true, both, by-cases, by-test, clash}
 use Rattle.orders.proofs.Keys.{key-is, key-says, key-denies}
 use Rattle.spell.specs.declared.Spell.{Spell}
 use Rattle.spell.specs.Order.{lexical, earlierOf, ordered, orderedBy}
 use Rattle.spell.specs.Listing.{stands, distinct, Each}
-use Rattle.spell.proofs.Listing.{neither, other-way}
+use Rattle.spell.proofs.Listing.{neither}
 use Rattle.spell.proofs.Order.{text-order, asym, ordered-tail, ordered-first, ordered-cons}
 use Rattle.repairing.specs.Repair.{someBefore, displacedIn}
 

@@ -1,5 +1,5 @@
 -- What is kept of any text can stand, and a good text is kept whole with nothing said. Assumes nothing.
-use Rattle.basis.proofs.Prelude.{_∙_, _≡_, ap, refl, subst, sym, _<_, _≤_, suc, zero, ℕ, List, [], _++_, _∷_, append-nil, append-snoc, Bool, cond, false, false≢true, true, eqb, ltb, length, length-append, arith, eq-eqb, eqb-true, lt-ltb, ltb-true, ne-eqb, by-cases, by-test, clash}
+use Rattle.basis.proofs.Prelude.{_∙_, _≡_, ap, refl, sym, _<_, _≤_, suc, ℕ, List, [], _++_, _∷_, append-nil, append-snoc, Bool, cond, false, true, eqb, ltb, length, length-append, arith, eq-eqb, eqb-true, lt-ltb, ltb-true, ne-eqb, by-cases, by-test, clash}
 use Rattle.spell.specs.declared.Spell.{Spell}
 use Rattle.spell.specs.Entry.{refusalOf}
 use Rattle.spell.specs.Listing.{stands, distinct, Each, Sound, Good}

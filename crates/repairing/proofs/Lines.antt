@@ -1,5 +1,5 @@
 -- The lines of a text, one by one, and that a line which is read ends at its LF. Assumes nothing.
-use Rattle.basis.proofs.Prelude.{_∙_, _≡_, ap, refl, sym, _+_, _%_, _/_, _<_, _≤_, suc, zero, ℕ, List, [], _∷_, Bool, cond, false, true, eqb, ltb, length, arith, eqb-true, ne-eqb, by-cases, by-test}
+use Rattle.basis.proofs.Prelude.{_∙_, _≡_, ap, refl, _+_, _%_, _/_, _<_, suc, zero, ℕ, List, [], _∷_, eqb, ltb, length, arith, eqb-true, ne-eqb, by-cases, by-test}
 use lib.Ieee.{binary32, ofBits}
 use Rattle.spell.specs.declared.Urgency.{Urgency}
 use Rattle.spell.specs.declared.Urgency.the-variants.{Grade, Reading}
@@ -9,7 +9,7 @@ use Rattle.decimals.proofs.Decimals.{write-number}
 use Rattle.hex.proofs.Hex.{write-bits}
 use Rattle.register.specs.Text.{readLetter, readValue, readUrgency, readLine}
 use Rattle.register.proofs.Lines.{step, write-letter}
-use Rattle.repairing.specs.Repair.{begun, laterLines, linesOf, afterLine}
+use Rattle.repairing.specs.Repair.{laterLines, linesOf, afterLine}
 
 -- ---- The first line and the others
 

@@ -1,6 +1,7 @@
 -- The remarks: their lines rise, and each line of a text is kept or has one. Assumes nothing.
-use Rattle.basis.proofs.Prelude.{_∙_, _≡_, ap, refl, sym, _*_, _+_, _<_, _≤_, suc, zero, ℕ, List, [], _++_, _∷_, map, Bool, cond, _&&_, true, eqb, ltb, drop, length, length-append, length-drop, zero-add, arith, lt-ltb, both, by-cases, by-test}
+use Rattle.basis.proofs.Prelude.{_∙_, _≡_, ap, refl, _*_, _+_, _<_, _≤_, suc, ℕ, List, [], _∷_, map, cond, true, eqb, ltb, length, length-append, zero-add, arith, lt-ltb, both, by-cases, by-test}
 use Rattle.buffer.specs.Buffer.{over}
+use Rattle.buffer.proofs.Over.{over-length}
 use Rattle.spell.specs.declared.Spell.{Spell}
 use Rattle.fields.specs.Fields.{Found, found, unreadable}
 use Rattle.register.specs.Text.{readLine}
@@ -68,4 +69,4 @@ lines-few (b ∷ t) = by-cases (λ (l : List (List ℕ)). suc (length l) ≤ suc
 -- ---- A list into whose first places a text is put is as long as before
 
 pub put-sized : (t out : List ℕ) {out′ : List ℕ} → length t ≤ length out → out′ ≡ over t out → length out′ ≡ length out
-put-sized t out h e = ap length e ∙ length-append t (drop (length t) out) ∙ omega (arith, length-drop (length t) out)
+put-sized t out h e = ap length e ∙ over-length t out h

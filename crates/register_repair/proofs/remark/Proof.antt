@@ -1,6 +1,6 @@
 -- `register_repair::remark` meets its contract: the remarks of i lines are written. Assumes nothing.
 use Rattle.basis.proofs.Prelude.{_∙_, _≡_, sym, _+_, _-_, _<_, _≤_, getD, getD-take, length, length-set, length-take-le, take, arith, needs}
-use Rattle.register_repair.proofs.Saying.{Saying, toSay, saying-none, passes-over, two-left, says-one, all-said}
+use Rattle.register_repair.proofs.Saying.{Saying, saying-none, passes-over, two-left, says-one, all-said}
 use Rattle.register_repair.proofs.remark.Statement.{statement}
 use Rattle.register_repair.proofs.remark.Tie as tie
 

@@ -33,7 +33,7 @@ write-spec =
     tie.close
     (tie.spec
     Inv-loop μ-loop (λ c κs. tt)
-    (λ c. let s = c .before .before in back-start (s .args .t1) (s .args .count) (whole s) (c .at-most .ensures) (length-replicate {A = ℕ} 35840 0))
+    (λ c. let s = c .before .before in back-start (s .args .t1) (s .args .count) (whole s) (c .least .ensures) (length-replicate {A = ℕ} 35840 0))
     (λ c. omega arith)
     (λ c. omega (arith, c .before .loop .inv .few, c .before .loop .inv .upto)) (λ c. omega (arith, c .before .loop .inv .few, c .before .loop .inv .upto))  -- spells[i]
     (λ c κs. back-room (c .before .before .before .loop .inv) (omega arith)) (λ c. omega arith)
