@@ -12,17 +12,9 @@ use spell::Urgency;
 // What every place of a list holds before it is lent.
 const FILL: u8 = 7;
 
-fn print(text: &[u8]) {
-    io::write_all(STDOUT_FILENO, text);
-}
-
-fn number(n: u64) {
-    io::print_decimal(STDOUT_FILENO, n);
-}
-
 fn next_number(n: u64) {
-    print(b" ");
-    number(n);
+    io::write_all(STDOUT_FILENO, b" ");
+    io::print_decimal(STDOUT_FILENO, n);
 }
 
 // Whether the list begins with the text and holds FILL in every place after it.
@@ -49,18 +41,18 @@ fn write_into(spells: [Spell; 1024], count: usize, list: &mut [u8], room: usize,
         return;
     }
     let w = register_write::write(spells, count, &mut list[..room]);
-    print(b" |");
+    io::write_all(STDOUT_FILENO, b" |");
     next_number(w.refusal as u64);
     next_number(w.length as u64);
     if begins(list, text) {
-        print(b" same");
+        io::write_all(STDOUT_FILENO, b" same");
         return;
     }
     if begins(list, b"") {
-        print(b" kept");
+        io::write_all(STDOUT_FILENO, b" kept");
         return;
     }
-    print(b" differs");
+    io::write_all(STDOUT_FILENO, b" differs");
 }
 
 fn write(spells: [Spell; 1024], count: usize, room: usize, text: &[u8]) {
@@ -71,7 +63,7 @@ fn write(spells: [Spell; 1024], count: usize, room: usize, text: &[u8]) {
 fn show(text: &[u8]) {
     let r = register_read::read(text);
     let count = r.count;
-    number(r.refusal as u64);
+    io::print_decimal(STDOUT_FILENO, r.refusal as u64);
     next_number(r.line as u64);
     next_number(count as u64);
     if r.refusal == 0 {
@@ -83,7 +75,7 @@ fn show(text: &[u8]) {
         }
         write(spells, count, 40000, text);
     }
-    print(b"\n");
+    io::write_all(STDOUT_FILENO, b"\n");
 }
 
 // 1,024 spells, numbered 1 upward, all of day 2.
@@ -107,23 +99,13 @@ fn many() -> [Spell; 1024] {
 }
 
 // Shows a text of 1,024 lines with those bytes after it.
-fn join(text: &mut [u8], tail: &[u8]) {
-    let w = register_write::write(many(), 1024, text);
-    let n = w.length;
-    if text.len() < n {
-        return;
-    }
-    if text.len() - n < tail.len() {
-        return;
-    }
-    let end = n + tail.len();
-    bytes::copy(tail, &mut text[n..end]);
-    show(&text[..end]);
-}
-
 fn after(tail: &[u8]) {
     let mut text = [0u8; 40000];
-    join(&mut text, tail);
+    let w = register_write::write(many(), 1024, &mut text);
+    let end = gathering::append(&mut text, w.length, tail, 0);
+    if end <= 40000 {
+        show(&text[..end]);
+    }
 }
 
 // Shows a text of 65,536 bytes, and one of a byte more.
@@ -136,7 +118,8 @@ fn long(text: &[u8]) {
 
 // The length of a text: digits alone, and after 1,024 lines.
 fn lengths() {
-    print(
+    io::write_all(
+        STDOUT_FILENO,
         b"# the length of a text, checked before any line: digits alone, and after 1,024 lines\n",
     );
     let mut text = [48u8; 65537];
@@ -152,7 +135,7 @@ fn vector(text: &[u8]) {
         return;
     }
     if text[0] == b'#' {
-        print(text);
+        io::write_all(STDOUT_FILENO, text);
         return;
     }
     if text[0] == b'+' {

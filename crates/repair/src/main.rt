@@ -5,10 +5,10 @@ ghost use Prim.Native.Nat.{_≤_, _*_};
 ghost use lib.ListN.{length};
 use input::Input;
 use libc::STDERR_FILENO;
-use libc::STDIN_FILENO;
 use libc::STDOUT_FILENO;
 use refusal::ACCEPTED;
 use repair_text::LINE;
+use repair_text::Said;
 
 // One byte more than a register may have: a longer text is refused whatever follows.
 const TEXT: usize = 65537;
@@ -20,14 +20,10 @@ const REMARKS: usize = 131072;
 
 // ---- What is said on standard error
 
-fn say(line: &[u8]) -> bool {
-    output::write(STDERR_FILENO, line, b"repair: standard error")
-}
-
-fn say_remark(line: u32, number: u32) -> bool {
-    let mut out = [0u8; LINE];
-    let n = repair_text::put_dropped(&mut out, line, number);
-    say(&out[..n])
+fn say(said: Said) -> bool {
+    let mut line = [0u8; LINE];
+    let n = repair_text::put(&mut line, said);
+    output::write(STDERR_FILENO, &line[..n], b"repair: standard error")
 }
 
 // The dropped lines, each with its number, as long as they can be said.
@@ -36,7 +32,7 @@ fn say_dropped(remarks: &[u32], dropped: usize) -> bool
 {
     let mut i = 0;
     while i < dropped {
-        if !say_remark(remarks[2 * i], remarks[2 * i + 1]) {
+        if !say(Said::Dropped(remarks[2 * i], remarks[2 * i + 1])) {
             return false;
         }
         i += 1;
@@ -50,10 +46,8 @@ fn repair(text: &[u8]) {
     let mut out = [0u8; OUT];
     let mut remarks = [0u32; REMARKS];
     let r = register_repair::repair(text, &mut out, &mut remarks);
-    let mut line = [0u8; LINE];
     if r.refusal != ACCEPTED {
-        let k = repair_text::put_refused(&mut line, r.refusal as u64, r.line as u64);
-        say(&line[..k]);
+        say(Said::Refused(r.refusal as u64, r.line as u64));
         return;
     }
     let n = r.length;
@@ -63,28 +57,17 @@ fn repair(text: &[u8]) {
     if !say_dropped(&remarks, r.dropped) {
         return;
     }
-    let k = repair_text::put_repaired(&mut line, n as u64, r.dropped as u64, r.displaced as u64);
-    say(&line[..k]);
-}
-
-fn usage() {
-    io::write_all(
-        STDERR_FILENO,
-        b"usage: repair < DAMAGED > REGISTER\nReads a damaged register on standard input and writes the good one that is made of it. On standard error it says the dropped\nlines, each with the number that it met, and last how long the text is, how many lines were dropped and how many were displaced.\n",
-    );
+    say(Said::Repaired(n as u64, r.dropped as u64, r.displaced as u64));
 }
 
 fn main() {
-    if os::arg_count() > 1 {
-        usage();
-        return;
-    }
     let mut text = [0u8; TEXT];
-    let got = input::fill(STDIN_FILENO, &mut text);
-    match got {
-        Input::Read(n) => {
-            repair(&text[..n]);
-        }
-        Input::Failed => os::fail(b"repair: standard input"),
+    let got = standard_input::read(
+        &mut text,
+        b"usage: repair < DAMAGED > REGISTER\nReads a damaged register on standard input and writes the good one that is made of it. On standard error it says the dropped\nlines, each with the number that it met, and last how long the text is, how many lines were dropped and how many were displaced.\n",
+        b"repair: standard input",
+    );
+    if let Input::Read(n) = got {
+        repair(&text[..n]);
     }
 }

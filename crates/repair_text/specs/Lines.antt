@@ -6,6 +6,8 @@ use lib.ListN.{length, drop}
 use Rattle.refusal.specs.Table.{refusedWord}
 use Rattle.fields.specs.Fields.{wideText}
 use Rattle.register.specs.Text.{tab, lf}
+use Rattle.repair_text.specs.declared.Said.{Said}
+use Rattle.repair_text.specs.declared.Said.the-variants.{Dropped, Refused, Repaired}
 
 -- ---- The words
 
@@ -34,6 +36,12 @@ refusedLine number line = wordAndTwo refusedWord number line
 -- `repaired` length dropped displaced
 abbrev pub repairedLine : ℕ → ℕ → ℕ → List ℕ
 repairedLine length dropped displaced = repairedWord ++ wideText length tab (wideText dropped tab (wideText displaced lf []))
+
+-- the line of what is said
+abbrev pub saidLine : Said → List ℕ
+saidLine (Dropped line number) = droppedLine line number
+saidLine (Refused number line) = refusedLine number line
+saidLine (Repaired length dropped displaced) = repairedLine length dropped displaced
 
 -- ---- The buffer
 

@@ -7,7 +7,6 @@ ghost use Rattle.published_index.specs.Index.{Published};
 ghost use Rattle.stand_text.specs.Report.{PrintedOn, PrintedOf};
 use input::Input;
 use libc::STDERR_FILENO;
-use libc::STDIN_FILENO;
 use libc::STDOUT_FILENO;
 use replies::OUT;
 use stabbing::INDEX;
@@ -106,24 +105,14 @@ fn stand(text: &[u8]) -> Days
     print_days(&index)
 }
 
-fn usage() {
-    io::write_all(
-        STDERR_FILENO,
-        b"usage: stand < REGISTER\nReads a register on standard input and prints a line for each day on which somebody stands: the day, how many\nstand, the looks that the question took and the spell numbers, parted by tabs.\n",
-    );
-}
-
 fn main() {
-    if os::arg_count() > 1 {
-        usage();
-        return;
-    }
     let mut text = [0u8; TEXT];
-    let got = input::fill(STDIN_FILENO, &mut text);
-    match got {
-        Input::Read(n) => {
-            stand(&text[..n]);
-        }
-        Input::Failed => os::fail(b"stand: standard input"),
+    let got = standard_input::read(
+        &mut text,
+        b"usage: stand < REGISTER\nReads a register on standard input and prints a line for each day on which somebody stands: the day, how many\nstand, the looks that the question took and the spell numbers, parted by tabs.\n",
+        b"stand: standard input",
+    );
+    if let Input::Read(n) = got {
+        stand(&text[..n]);
     }
 }

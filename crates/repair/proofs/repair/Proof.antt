@@ -1,7 +1,6 @@
--- `repair::repair` is safe: the text, the remarks and the lines that are said lie inside their lists. Assumes nothing.
+-- `repair::repair` is safe: the text and the remarks lie inside their lists. Assumes nothing.
 use Rattle.basis.proofs.Prelude.{sym, _*_, _≤_, ℕ, length, length-replicate, length-take-le, arith, needs}
 use Rattle.repairing.proofs.Claims.{within}
-use Rattle.repair_text.proofs.Lines.{inside as said-inside}
 use Rattle.repair.proofs.repair.Statement.{statement}
 use Rattle.repair.proofs.repair.Tie as tie
 
@@ -15,14 +14,10 @@ repair-spec =
     tie.close
     (tie.spec
     (λ c. search needs) (λ c. search needs) (λ c κs. search needs)
-    (λ c. search needs) (λ c. search needs) (λ c κs. search needs)
-    (λ c. said-inside (c .put-refused .ensures)) (λ c. sym (length-take-le _ _ (said-inside (c .before .put-refused .ensures))))  -- &line[..k]
-    (λ c κs. search needs) (λ c. search needs)
+    (λ c. search needs) (λ c. search needs) (λ c κs. search needs) (λ c. search needs)
     (λ c. inside (c .before .before .before .before) .0) (λ c. sym (length-take-le _ _ (inside (c .before .before .before .before .before) .0)))  -- &out[..n]
     (λ c. search needs) (λ c κs. search needs) (λ c. search needs)
     (λ c. search needs)
     (λ c κs. let i = inside (c .before .before .before .before .before .before .before .before .before) in (i .1, i .2))
     (λ c. search needs)
-    (λ c κs. search needs)
-    (λ c. said-inside (c .put-repaired .ensures)) (λ c. sym (length-take-le _ _ (said-inside (c .before .put-repaired .ensures))))  -- &line[..k]
     (λ c κs. search needs) (λ c. search needs))
