@@ -119,7 +119,15 @@ fieldsOf (Publish rule) = fields rule 0 0
 fieldsOf Write = fields 0 0 0
 fieldsOf (Ask w) = askedFields w
 
--- the call's number
+-- the question's number among the questions
+abbrev pub questionNumber : Question → ℕ
+questionNumber (Day d) = 1
+questionNumber (Span a b) = 2
+questionNumber (Cover k) = 3
+questionNumber Days = 4
+questionNumber (Mask b k) = 5
+
+-- the call's number: questions follow the other calls
 abbrev pub opOf : Call → ℕ
 opOf (Enter s) = 1
 opOf (Amend s) = 2
@@ -127,11 +135,7 @@ opOf (Strike k) = 3
 opOf TakeBack = 4
 opOf (Publish rule) = 5
 opOf Write = 6
-opOf (Ask (Day d)) = 7
-opOf (Ask (Span a b)) = 8
-opOf (Ask (Cover k)) = 9
-opOf (Ask Days) = 10
-opOf (Ask (Mask b k)) = 11
+opOf (Ask w) = 6 + questionNumber w
 
 -- ---- The list of calls
 

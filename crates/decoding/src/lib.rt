@@ -1,6 +1,6 @@
 // The call of a code.
 ghost use mathlib.Core.Path.{_≡_};
-ghost use Rattle.coding.specs.Coded.{low16, urgencyOf, spellOf, callOf, nextOf};
+ghost use Rattle.coding.specs.Coded.{low16, urgencyOf, spellOf, callOf, nextOf, questionNumber};
 use coding::Code;
 use coding::Next;
 use model::Call;
@@ -71,4 +71,17 @@ pub fn next_of(c: Code, days: usize, numbers: usize, text: usize) -> Next
         return Next::Stop;
     }
     call_of(c)
+}
+
+// A question's number among the questions.
+pub fn question_number(question: Question) -> u8
+    ensures { λ r. ⌜ r ≡ questionNumber question ⌝ }
+{
+    match question {
+        Question::Day(_) => 1,
+        Question::Span(_, _) => 2,
+        Question::Cover(_) => 3,
+        Question::Days => 4,
+        Question::Mask(_, _) => 5,
+    }
 }

@@ -1,11 +1,11 @@
 -- What a request's word may do is what its event does. Assumes nothing.
-use Rattle.basis.proofs.Prelude.{_∙_, _≡_, ap, refl, sym, _-_, _≤_, _<_, ℕ, List, [], _++_, _∷_, Bool, _&&_, cond, false, false≢true, not, true, eqb, ltb, getD, length, length-append, take, getD-at, length-take-le, arith, lt-ltb}
+use Rattle.basis.proofs.Prelude.{_∙_, _≡_, ap, refl, sym, _+_, _-_, _≤_, _<_, ℕ, List, [], _++_, _∷_, Bool, _&&_, cond, false, false≢true, not, true, eqb, ltb, getD, length, length-append, take, getD-at, length-take-le, arith, le-ltb, lt-ltb, ne-eqb}
 use Rattle.refusal.specs.Table.{accepted}
 use Rattle.fields.specs.Fields.{isAt}
 use Rattle.model.specs.declared.Call.{Call}
 use Rattle.model.specs.declared.Call.the-variants.{Enter, Amend, Strike, TakeBack, Publish, Write, Ask}
 use Rattle.model.specs.declared.Question.{Question}
-use Rattle.model.specs.declared.Question.the-variants.{Day, Span, Cover, Days, Mask}
+use Rattle.coding.specs.Coded.{questionNumber}
 use Rattle.model.specs.Model.{State, Answer, step}
 use Rattle.model.specs.Journal.{reads, Event, call, reading, left, journal}
 use Rattle.model.proofs.Journal.{journal-left}
@@ -27,13 +27,12 @@ word-parsed malformed = refl
 
 -- ---- Calls
 
+-- a question's is 32 or more, and leaves the state
 question-power : (w : Question) → powerOf (questionWord w) ≡ 0
-unfolding powerOf
-question-power (Day d) = refl
-question-power (Span a b) = refl
-question-power (Cover k) = refl
-question-power Days = refl
-question-power (Mask b m) = refl
+unfolding powerOf questionWord
+question-power w =
+    let n = 32 + questionNumber w in
+    rw (ne-eqb n 2 (λ e. omega (arith, e)), le-ltb n 16 (omega arith), le-ltb n 32 (omega arith))
 
 -- a call's word changes the state unless the call only reads
 call-power : (c : Call) → powerOf (callWord c) ≡ cond (reads c) 0 1

@@ -1,5 +1,5 @@
 -- The words of requests by number, and what each may do to the state. Assumes nothing.
-use Prim.Native.Nat.{ℕ}
+use Prim.Native.Nat.{ℕ, _+_}
 use mathlib.Core.Bool.{cond}
 use mathlib.Core.List.{List}
 use lib.Dec.{eqb, ltb}
@@ -7,17 +7,14 @@ use Rattle.fields.specs.Fields.{isAt}
 use Rattle.model.specs.declared.Call.{Call}
 use Rattle.model.specs.declared.Call.the-variants.{Enter, Amend, Strike, TakeBack, Publish, Write, Ask}
 use Rattle.model.specs.declared.Question.{Question}
-use Rattle.model.specs.declared.Question.the-variants.{Day, Span, Cover, Days, Mask}
+use Rattle.coding.specs.Coded.{questionNumber}
 use Rattle.requests.specs.Requests.{Asked, asksCall, asksRoom, asksRead, malformed}
 use Rattle.requests.specs.declared.Request.{Request}
 use Rattle.requests.specs.declared.Request.the-variants.{Call as RequestCall, Room as RequestRoom, Read as RequestRead, Malformed as RequestMalformed}
 
-abbrev pub questionWord : Question → ℕ
-questionWord (Day d) = 33
-questionWord (Span a b) = 34
-questionWord (Cover k) = 35
-questionWord Days = 36
-questionWord (Mask b m) = 37
+-- questions follow `write` in the order of their numbers: 33 `day`, 34 `span`, 35 `cover`, 36 `days`, 37 `mask`
+unfoldable pub questionWord : Question → ℕ
+questionWord w = 32 + questionNumber w
 
 abbrev pub callWord : Call → ℕ
 callWord (Enter s) = 16

@@ -37,13 +37,7 @@ pub struct Carried {
 fn question_word(question: Question) -> u32
     ensures { λ r. ⌜ r ≡ questionWord question ⌝ }
 {
-    match question {
-        Question::Day(_) => 33,
-        Question::Span(_, _) => 34,
-        Question::Cover(_) => 35,
-        Question::Days => 36,
-        Question::Mask(_, _) => 37,
-    }
+    32 + (decoding::question_number(question) as u32)
 }
 
 fn call_word(call: Call) -> u32

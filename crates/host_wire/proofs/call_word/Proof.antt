@@ -1,0 +1,13 @@
+-- `host_wire::call_word` meets its contract: a line for each call. Assumes nothing.
+use Rattle.basis.proofs.Prelude.{needs}
+use Rattle.host_wire.proofs.call_word.Statement.{statement}
+use Rattle.host_wire.proofs.call_word.Tie as tie
+
+pub call-word-spec : {M : Type 1} → statement M
+call-word-spec =
+    tie.close
+    (tie.spec
+    (λ c. search needs) (λ c. search needs) (λ c. search needs) (λ c. search needs) (λ c. search needs) (λ c. search needs) (λ c. search needs)
+    (λ c κs. search needs) (λ c. search needs) (λ c. search needs) (λ c. search needs) (λ c. search needs) (λ c. search needs) (λ c. search needs)
+    -- a question
+    (λ c. rw (c .before .before .call .given .1) (c .question-word .ensures)))
