@@ -5,7 +5,7 @@ use Rattle.spell.specs.declared.Spell.{Spell}
 use Rattle.standing.specs.declared.Edited.{Edited}
 use Rattle.standing_journal.specs.declared.Undo.{Undo}
 use Rattle.standing.specs.Places.{entering, replacing}
-use Rattle.standing.specs.Standing.{Wf, listOf, pasts, makes, afterEdit, Edits, TakesBack}
+use Rattle.standing.specs.Standing.{Wf, listOf, pasts, makes, afterEdit, Edits, Does}
 use Rattle.model.specs.declared.Call.{Call}
 use Rattle.model.specs.declared.Call.the-variants.{Enter, Amend, Strike, TakeBack}
 use Rattle.model.specs.Edits.{insert, remove, replace, idle, enterRefusal, amendRefusal, strikeRefusal, takeBackRefusal, remember, frontOr, restOf}
@@ -81,18 +81,16 @@ module _ (sv : Service) (c : Call) (e : Edited) (i : List Spell → Bool) (n : L
       (λ y. by-cases (Follows e bs m) (eqb k accepted) (λ t. done t m (kept (rw y) h)) refused)
       (λ y. by-cases (Follows e bs m) (eqb k accepted) (λ t. done t _ (made (rw (y, t)) h)) refused)))
 
-pub enter-changed : (sv : Service) (s : Spell) (e : Edited) → Edits (sv .standing) e false (enterRefusal (listOf (sv .standing)) s) (insert s (listOf (sv .standing))) (entering s) → Changed sv (Enter s) (steppedOf e)
-unfolding effectOf leavesOf
+pub enter-changed : (sv : Service) (s : Spell) (e : Edited) → Does (sv .standing) (Enter s) e → Changed sv (Enter s) (steppedOf e)
+unfolding effectOf leavesOf Does
 enter-changed sv s e d = edit-changed sv (Enter s) e (λ _. false) (λ l. enterRefusal l s) (insert s) (entering s) refl (λ m ds. refl) d
 
-pub amend-changed : (sv : Service) (s : Spell) (e : Edited)
-    → Edits (sv .standing) e (idle (listOf (sv .standing)) s) (amendRefusal (listOf (sv .standing)) s) (replace s (listOf (sv .standing))) (replacing (s .number) (listOf (sv .standing)))
-    → Changed sv (Amend s) (steppedOf e)
-unfolding effectOf leavesOf
+pub amend-changed : (sv : Service) (s : Spell) (e : Edited) → Does (sv .standing) (Amend s) e → Changed sv (Amend s) (steppedOf e)
+unfolding effectOf leavesOf Does
 amend-changed sv s e d = edit-changed sv (Amend s) e (λ l. idle l s) (λ l. amendRefusal l s) (replace s) (replacing (s .number) (listOf (sv .standing))) refl (λ m ds. refl) d
 
-pub strike-changed : (sv : Service) (k : ℕ) (e : Edited) → Edits (sv .standing) e false (strikeRefusal (listOf (sv .standing)) k) (remove k (listOf (sv .standing))) (replacing k (listOf (sv .standing))) → Changed sv (Strike k) (steppedOf e)
-unfolding effectOf leavesOf
+pub strike-changed : (sv : Service) (k : ℕ) (e : Edited) → Does (sv .standing) (Strike k) e → Changed sv (Strike k) (steppedOf e)
+unfolding effectOf leavesOf Does
 strike-changed sv k e d = edit-changed sv (Strike k) e (λ _. false) (λ l. strikeRefusal l k) (remove k) (replacing k (listOf (sv .standing))) refl (λ m ds. refl) d
 
 -- ---- Take back
@@ -103,8 +101,8 @@ unfolding takeBackRefusal
 no-past [] t = refl
 no-past (l ∷ past) t = absurd (false≢true (sym t))
 
-pub back-changed : (sv : Service) (e : Edited) → TakesBack (sv .standing) e → Changed sv TakeBack (steppedOf e)
-unfolding effectOf takeBack settle takeBackRefusal frontOr restOf leavesOf
+pub back-changed : (sv : Service) (e : Edited) → Does (sv .standing) TakeBack e → Changed sv TakeBack (steppedOf e)
+unfolding effectOf takeBack settle takeBackRefusal frontOr restOf leavesOf Does
 back-changed sv e d = changed sv TakeBack e (d .wf) (d .whole) (λ t. d .kept (no-past (pasts (sv .standing)) (rw (d .refusal) at t))) (λ m bs days h.
     subst (λ (past : List (List Spell)). Follows e bs m (takeBack past m)) (h .past)
     (go m bs (pasts (sv .standing)) (h .past) h (d .refusal) (d .list) (d .past)))

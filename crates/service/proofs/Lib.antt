@@ -1,6 +1,7 @@
 pub mod Represented
 pub mod Asking
 pub mod Editing
+pub mod Stepping
 pub mod Beginning
 pub mod Claims
 pub mod Tied

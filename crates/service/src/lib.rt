@@ -6,6 +6,7 @@ ghost use Rattle.outcomes.specs.Outcomes.{toldOf, asking};
 ghost use Rattle.service.specs.Places.{serviceOf, freshService};
 ghost use Rattle.service.specs.Service.{blocks, Valid, Represents, Given, keeping, Met, Changed, Publishes, Wrote, Begins};
 ghost use Rattle.service.specs.Packed.{unpacked, Packs};
+ghost use Rattle.service.specs.Contracts.{Beside};
 use model::Call;
 use outcomes::Outcome;
 use outcomes::told;
@@ -78,7 +79,7 @@ pub fn enter(service: Service, s: Spell) -> Stepped
     requires { ⌜ Valid service ⌝ }
     ensures { λ r. ⌜ Changed service (Call.Enter s) r ⌝ }
 {
-    edited(standing::enter(service.standing, s))
+    edited(standing::edit(service.standing, Call::Enter(s)))
 }
 
 // Replace the spell of that number by the given one.
@@ -86,7 +87,7 @@ pub fn amend(service: Service, s: Spell) -> Stepped
     requires { ⌜ Valid service ⌝ }
     ensures { λ r. ⌜ Changed service (Call.Amend s) r ⌝ }
 {
-    edited(standing::amend(service.standing, s))
+    edited(standing::edit(service.standing, Call::Amend(s)))
 }
 
 // Remove the spell of that number.
@@ -94,7 +95,7 @@ pub fn strike(service: Service, number: u16) -> Stepped
     requires { ⌜ Valid service ⌝ }
     ensures { λ r. ⌜ Changed service (Call.Strike number) r ⌝ }
 {
-    edited(standing::strike(service.standing, number))
+    edited(standing::edit(service.standing, Call::Strike(number)))
 }
 
 // The standing list becomes the front of the past, which loses it.
@@ -102,20 +103,25 @@ pub fn take_back(service: Service) -> Stepped
     requires { ⌜ Valid service ⌝ }
     ensures { λ r. ⌜ Changed service Call.TakeBack r ⌝ }
 {
-    edited(standing::take_back(service.standing))
+    edited(standing::edit(service.standing, Call::TakeBack))
 }
 
 // ---- Publish and writing
+
+// The published list becomes the standing list with the rule's days, and what is told of it.
+fn published(service: Service, rule: u16, index: &mut [u16; INDEX]) -> Outcome
+    requires { ⌜ Valid service ⌝ }
+    ensures { λ r. ⌜ Publishes service rule (blocks (now (index .entry))) (keeping service r) (blocks (now (index .exit))) ⌝ }
+{
+    told(published_index::publish(service.standing, rule, index))
+}
 
 // The published list becomes the standing list with the rule's days. The index may hold anything beforehand. Check: 14.
 pub fn publish(service: Service, rule: u16, index: &mut [u16; INDEX]) -> Stepped
     requires { ⌜ Valid service ⌝ }
     ensures { λ r. ⌜ Publishes service rule (blocks (now (index .entry))) r (blocks (now (index .exit))) ⌝ }
 {
-    answered(
-        service,
-        told(published_index::publish(service.standing, rule, index)),
-    )
+    answered(service, published(service, rule, index))
 }
 
 // The text of the standing list, into the first places of the lent list.
@@ -135,6 +141,30 @@ fn answered(service: Service, outcome: Outcome) -> Stepped
     Stepped { service, outcome }
 }
 
+// What a call does beside its edit, which gave the outcome o: a publish, a writing or a question answers by itself.
+fn beside(
+    service: Service,
+    index: &mut [u16; INDEX],
+    call: Call,
+    o: Outcome,
+    dates: &[u16],
+    numbers: &mut [u16],
+    text: &mut [u8],
+) -> Outcome
+    requires { ⌜ Given service (blocks (now index)) ⌝ }
+    ensures { λ r. ⌜ Beside service (blocks (now (index .entry))) call o (now (dates .entry)) (now (numbers .entry)) (now (text .entry)) r (blocks (now (index .exit))) (now (numbers .exit)) (now (text .exit)) ⌝ }
+{
+    match call {
+        Call::Enter(_) => o,
+        Call::Amend(_) => o,
+        Call::Strike(_) => o,
+        Call::TakeBack => o,
+        Call::Publish(rule) => published(service, rule, index),
+        Call::Write => write(service, text),
+        Call::Ask(question) => questions::ask(index, question, dates, numbers),
+    }
+}
+
 // Any of the calls, with the lists that it is lent: the days of a days question, a list for spell numbers, one for a text.
 pub fn step(
     service: Service,
@@ -147,14 +177,13 @@ pub fn step(
     requires { ⌜ Given service (blocks (now index)) ⌝ }
     ensures { λ r. ⌜ Met service (blocks (now (index .entry))) (asking call (now (dates .entry)) (now (numbers .entry)) (now (text .entry))) r (blocks (now (index .exit))) (now (numbers .exit)) (now (text .exit)) ⌝ }
 {
-    match call {
-        Call::Enter(s) => enter(service, s),
-        Call::Amend(s) => amend(service, s),
-        Call::Strike(number) => strike(service, number),
-        Call::TakeBack => take_back(service),
-        Call::Publish(rule) => publish(service, rule, index),
-        Call::Write => answered(service, write(service, text)),
-        Call::Ask(question) => answered(service, questions::ask(index, question, dates, numbers)),
+    let e = edited(standing::edit(service.standing, call));
+    let next = e.service;
+    let o = e.outcome;
+    let outcome = beside(service, index, call, o, dates, numbers, text);
+    Stepped {
+        service: next,
+        outcome,
     }
 }
 

@@ -1,9 +1,9 @@
 -- What each call's result is, in terms of the account: pure facts, no code. Assumes nothing.
-use Rattle.basis.proofs.Prelude.{_∙_, _≡_, ap, refl, sym, _-_, _<_, _≤_, suc, ℕ, List, [], _∷_, reverse-reverse, false, true, drop, getD, length, length-append, length-drop, length-replicate, length-reverse, length-take, take, getD-take, length-take-le, arith}
-use Rattle.standing.proofs.Names.{over, own-over, over-twice, accepted, unknownNumber, noHistory, Spell, earlierOf, stands, Sound, Good, sameOf, text-order, blank, insert, remove, replace, idle, enterRefusal, amendRefusal, strikeRefusal, takeBackRefusal, frontOr, restOf, Undo, Standing, listOf, entries, undo, pastOf, pasts, Goods, Wf, Fresh, Edits, afterTakeBack, TakesBack, indexOf, relisted, holding, freshStanding, entering, replacing, noted, blankEntry, without, remove-at, length-insert, removed-gone, orderly-none, orderly-insert, orderly-remove, orderly-replace, remove-none, remove-insert, enters, amends, pop}
-use Rattle.standing.proofs.Places.{same, over-same, list-over, past-over, wf-over, over-relisted}
+use Rattle.basis.proofs.Prelude.{_∙_, _≡_, ap, refl, sym, _-_, _<_, _≤_, suc, ℕ, List, [], _∷_, reverse-reverse, false, true, drop, getD, length, length-append, length-drop, length-replicate, length-reverse, length-take, take, length-take-le, arith}
+use Rattle.standing.proofs.Names.{over, own-over, accepted, unknownNumber, noHistory, Spell, earlierOf, stands, Sound, Good, sameOf, text-order, blank, insert, remove, replace, idle, enterRefusal, amendRefusal, strikeRefusal, takeBackRefusal, frontOr, restOf, Undo, Standing, listOf, entries, undo, pastOf, pasts, Goods, Wf, Fresh, Edits, afterTakeBack, TakesBack, indexOf, relisted, holding, freshStanding, entering, replacing, noted, blankEntry, without, remove-at, length-insert, removed-gone, orderly-none, orderly-insert, orderly-remove, orderly-replace, remove-none, remove-insert, enters, amends, pop}
+use Rattle.standing.proofs.Places.{same, over-same, list-over, past-over, wf-over}
 use Rattle.standing.proofs.Edits.{idle-index, insert-remove}
-use Rattle.standing.proofs.Checks.{found, missed, strike-refusal}
+use Rattle.standing.proofs.Checks.{found, strike-refusal}
 use Rattle.standing.proofs.Past.{refused, edited}
 
 pub list-length : {st : Standing} → Wf st → length (listOf st) ≡ st .count
@@ -12,12 +12,6 @@ list-length {st} w = length-take-le (st .count) (st .spells) (omega (arith, w .p
 -- a removal at the place of the number k is the removal of k
 pub removed-is : (k : ℕ) {p : ℕ} (l : List Spell) → p ≡ indexOf k l → without p l ≡ remove k l
 removed-is k l e = ap (λ (i : ℕ). without i l) e ∙ sym (remove-at k l)
-
--- the removal of a number that does not stand changes nothing
-pub removed-none : (st : Standing) (k : ℕ) {p : ℕ} → st .count ≤ length (st .spells) → p ≡ indexOf k (listOf st) → st .count ≤ p → st ≡ relisted st (remove k (listOf st))
-removed-none st k fits e h =
-    let long : length (listOf st) ≡ st .count = length-take-le (st .count) (st .spells) fits in
-    rw (remove-none k (listOf st) (missed (listOf st) k long e h)) (same (sym (own-over (st .count) (st .spells) fits)) (sym long) refl refl)
 
 -- ---- Enter
 
@@ -37,14 +31,14 @@ module _ {st : Standing} (w : Wf st) (k : ℕ) {p : ℕ} (e : p ≡ indexOf k (l
   there = found (listOf st) k (list-length w) e h
 
   -- the entry as the code makes it
-  entry-is : record { number = k; stood = true; spell = getD (st .spells) p blank } ≡ replacing k (listOf st)
-  entry-is = rw (← getD-take (st .count) (st .spells) p blank h, e)
+  entry-is : record { number = k; stood = true; spell = getD (listOf st) p blank } ≡ replacing k (listOf st)
+  entry-is = rw e
 
   put-back : insert (replacing k (listOf st) .spell) (remove k (listOf st)) ≡ listOf st
   put-back = insert-remove k (listOf st) (w .good .in-order) there
 
   pub strike-made : Edits st
-      (record { standing = holding st (without p (listOf st)) (noted (record { number = k; stood = true; spell = getD (st .spells) p blank }) (entries st)); refusal = accepted })
+      (record { standing = holding st (without p (listOf st)) (noted (record { number = k; stood = true; spell = getD (listOf st) p blank }) (entries st)); refusal = accepted })
       false
       (strikeRefusal (listOf st) k)
       (remove k (listOf st))
@@ -67,13 +61,12 @@ amend-room {st} {p} w h =
 
 -- what is found is the spell of an idle amend
 pub idle-is : {st : Standing} (s : Spell) (w : Wf st) {p : ℕ} → p ≡ indexOf (s .number) (listOf st) → p < st .count
-    → idle (listOf st) s ≡ sameOf (getD (st .spells) p blank) s
-idle-is {st} s w {p} e h = rw (← getD-take (st .count) (st .spells) p blank h, e) (idle-index s (listOf st) (there w (s .number) e h))
+    → idle (listOf st) s ≡ sameOf (getD (listOf st) p blank) s
+idle-is {st} s w {p} e h = rw e (idle-index s (listOf st) (there w (s .number) e h))
 
 pub amend-made : {st : Standing} {s : Spell} (w : Wf st) {p : ℕ} (e : p ≡ indexOf (s .number) (listOf st)) (h : p < st .count) → Sound s
     → amendRefusal (listOf st) s ≡ accepted → idle (listOf st) s ≡ false
-    → let m = relisted st (without p (listOf st)) in
-    Edits st (record { standing = holding m (insert s (listOf m)) (noted (record { number = s .number; stood = true; spell = getD (st .spells) p blank }) (entries st)); refusal = accepted })
+    → Edits st (record { standing = holding st (insert s (without p (listOf st))) (noted (record { number = s .number; stood = true; spell = getD (listOf st) p blank }) (entries st)); refusal = accepted })
     (idle (listOf st) s)
     (amendRefusal (listOf st) s)
     (replace s (listOf st))
@@ -83,8 +76,7 @@ amend-made {st} {s} w e h sound done real =
     let less = remove k (listOf st) in
     let there = amends (listOf st) s done .there in
     let free = removed-gone k (listOf st) (w .good .unique) in
-    let es = noted (replacing k (listOf st)) (entries st) in
-    rw (real, removed-is k (listOf st) e, entry-is w k e h, list-over st less es, over-relisted st less (insert s less) es (omega (arith, length-insert earlierOf s less)))
+    rw (real, removed-is k (listOf st) e, entry-is w k e h)
     (edited st (amendRefusal (listOf st) s) (insert s less) (replacing k (listOf st)) w
     (orderly-replace text-order Sound s (listOf st) (w .good) sound there)
     (unfold undo in rw (remove-insert earlierOf s less free) (put-back w k e h))
@@ -184,12 +176,8 @@ module _ {st : Standing} (w : Wf st) (some : st .depth ≡ 0 → ⊥) where
   pub undo-room : newest .stood ≡ true → length less < 1024
   undo-room e = omega (arith, length-insert earlierOf (newest .spell) less, rw (undo-is e) at (front-good .0 .few))
 
-  pub undo-stood : newest .stood ≡ true
-      → let a = relisted (lowered st) less in TakesBack st (record { standing = relisted a (insert (newest .spell) (listOf a)); refusal = accepted })
-  undo-stood e =
-      let l = insert (newest .spell) less in
-      let twice : relisted (relisted (lowered st) less) l ≡ relisted (lowered st) front = same (over-twice less l (st .spells) (omega (arith, length-insert earlierOf (newest .spell) less)) ∙ rw (undo-is e)) (rw (undo-is e)) refl refl in
-      rw (list-over (lowered st) less rest, twice) takes-back
+  pub undo-stood : newest .stood ≡ true → TakesBack st (record { standing = relisted (lowered st) (insert (newest .spell) less); refusal = accepted })
+  undo-stood e = rw (← undo-is e) takes-back
 
 -- ---- A standing list with no past
 

@@ -1,6 +1,6 @@
 -- The order of the checks: what enter, amend and strike compute is the refusal of the account. Assumes nothing.
-use Rattle.basis.proofs.Prelude.{_∙_, _≡_, ap, refl, sym, _<_, _≤_, ℕ, List, Bool, cond, false, true, leb, ltb, length, le-leb, le-ltb, lt-leb, lt-ltb, ltb-false, ltb-true, by-test}
-use Rattle.standing.proofs.Names.{accepted, duplicateNumber, unknownNumber, full, Spell, refusalOf, stands, orElse, enterRefusal, amendRefusal, strikeRefusal, indexOf}
+use Rattle.basis.proofs.Prelude.{_∙_, _≡_, ap, refl, sym, _<_, _≤_, ℕ, List, Bool, cond, false, true, eqb, eqb-true, leb, ltb, length, le-leb, le-ltb, lt-leb, lt-ltb, ltb-false, ltb-true, by-test}
+use Rattle.standing.proofs.Names.{accepted, duplicateNumber, unknownNumber, full, Spell, refusalOf, stands, orElse, enterRefusal, amendRefusal, strikeRefusal, indexOf, enterCheck, amendCheck}
 use Rattle.standing.proofs.Edits.{stands-index}
 
 -- ---- A number is looked for in the list l of n spells: p is where it stands, or n
@@ -31,13 +31,23 @@ two false f = refl
 beyond : (p n : ℕ) → cond (ltb p n) accepted unknownNumber ≡ cond (leb n p) unknownNumber accepted
 beyond p n = by-test (ltb p n) (λ e. rw (e, lt-leb n p (ltb-true p n e))) (λ e. rw (e, le-leb n p (ltb-false p n e)))
 
-module _ (l : List Spell) (s : Spell) {n p own all : ℕ} (long : length l ≡ n) (at-index : p ≡ indexOf (s .number) l) (checked : own ≡ refusalOf s) where
-  pub enter-refusal : {taken most later : ℕ} → taken ≡ cond (ltb p n) duplicateNumber accepted → most ≡ cond (leb 1024 n) full accepted
-      → later ≡ orElse taken most → all ≡ orElse own later → enterRefusal l s ≡ all
+module _ (l : List Spell) (s : Spell) {n p : ℕ} (long : length l ≡ n) (at-index : p ≡ indexOf (s .number) l) where
+  pub enter-refusal : enterRefusal l s ≡ enterCheck s p n
   unfolding enterRefusal
-  enter-refusal et em el ea =
-      rw (ea, el, et, em, checked, stands-is l (s .number) long at-index, long) (ap (λ (r : ℕ). orElse (refusalOf s) r) (two (ltb p n) (leb 1024 n)))
+  enter-refusal = rw (stands-is l (s .number) long at-index, long) (ap (λ (r : ℕ). orElse (refusalOf s) r) (two (ltb p n) (leb 1024 n)))
 
-  pub amend-refusal : {unknown : ℕ} → unknown ≡ cond (leb n p) unknownNumber accepted → all ≡ orElse own unknown → amendRefusal l s ≡ all
+  pub amend-refusal : amendRefusal l s ≡ amendCheck s p n
   unfolding amendRefusal
-  amend-refusal eu ea = rw (ea, eu, checked, stands-is l (s .number) long at-index) (ap (λ (r : ℕ). orElse (refusalOf s) r) (beyond p n))
+  amend-refusal = rw (stands-is l (s .number) long at-index) (ap (λ (r : ℕ). orElse (refusalOf s) r) (beyond p n))
+
+-- the same, as the code has it by its steps
+pub enter-checked : (s : Spell) (p n : ℕ) {own taken most later all : ℕ} → own ≡ refusalOf s → taken ≡ cond (ltb p n) duplicateNumber accepted → most ≡ cond (leb 1024 n) full accepted
+    → later ≡ orElse taken most → all ≡ orElse own later → all ≡ enterCheck s p n
+enter-checked s p n eo et em el ea = rw (ea, el, eo, et, em)
+
+pub amend-checked : (s : Spell) (p n : ℕ) {own unknown all : ℕ} → own ≡ refusalOf s → unknown ≡ cond (leb n p) unknownNumber accepted → all ≡ orElse own unknown → all ≡ amendCheck s p n
+amend-checked s p n eo eu ea = rw (ea, eo, eu)
+
+-- where both checks accept, so does the first
+pub own-passes : (n m : ℕ) → orElse n m ≡ accepted → n ≡ accepted
+own-passes n m h = by-test (eqb n accepted) (λ e. eqb-true n accepted e) (λ e. rw e at h)

@@ -4,6 +4,7 @@ pub mod Checks
 pub mod Past
 pub mod Held
 pub mod Calls
+pub mod Plans
 pub mod Claims
 pub mod Loading
 pub mod Packed

@@ -36,14 +36,23 @@ pub use Rattle.standing_journal.specs.Journal.{blankEntry}
 unfoldable pub use Rattle.standing_journal.specs.Words.{entryOf, entryWords}
 pub use Rattle.standing_journal.specs.declared.Undo.{Undo}
 pub use Rattle.standing_list.proofs.Search.{remove-at}
-pub use Rattle.standing_list.specs.List.{without}
-pub use Rattle.standing_list.specs.Search.{indexOf}
+pub use Rattle.standing_list.proofs.Changing.{counted-is}
+pub use Rattle.standing_list.specs.List.{changing, countedOf, putting, without}
+pub use Rattle.standing_list.specs.Search.{foundIn, indexOf}
+pub use Rattle.standing_list.specs.declared.Found.{Found}
 unfoldable pub use Rattle.standing_list.specs.Search.{lead}
+pub use Rattle.standing_journal.specs.Journal.{noting}
+pub use Rattle.standing.specs.Contracts.{amendCheck, deeperBy, enterCheck, newestOf, noPlan, planAmend, planBack, planEnter, planStrike}
+unfoldable pub use Rattle.standing.specs.Contracts.{numberOf, planOf, Takes}
+pub use Rattle.standing.specs.declared.Plan.{Plan}
+pub use Rattle.model.specs.declared.Call.{Call}
+pub use Rattle.model.specs.declared.Call.the-variants.{Enter, Amend, Strike, TakeBack, Publish, Write, Ask}
 pub use Rattle.standing.specs.Packed.{Packs}
 unfoldable pub use Rattle.standing.specs.Packed.{packed, unpacked}
 pub use Rattle.standing.specs.Places.{entering, freshStanding, holding, loadedOf, noted, relisted, replacing}
 pub use Rattle.standing.specs.Standing.{Edits, Fresh, TakesBack, Wf, afterEdit, afterReading, afterTakeBack, entries, listOf, makes, pasts}
-unfoldable pub use Rattle.standing.specs.Standing.{Goods, pastOf, undo}
+pub use Rattle.standing.specs.Standing.{Keeps}
+unfoldable pub use Rattle.standing.specs.Standing.{Does, Goods, pastOf, undo}
 pub use Rattle.standing.specs.declared.Edited.{Edited}
 pub use Rattle.standing.specs.declared.Standing.{Standing}
 pub use denote.Laws.{Is}

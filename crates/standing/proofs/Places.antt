@@ -40,7 +40,3 @@ module _ (st : Standing) (l : List Spell) (es : List Undo) where
     good = rw list-over good;
     goods = rw past-over goods;
   }
-
--- a list that is written over one no longer than it
-pub over-relisted : (st : Standing) (m l : List Spell) (es : List Undo) → length m ≤ length l → holding (relisted st m) l es ≡ holding st l es
-over-relisted st m l es h = same (over-twice m l (st .spells) h) refl refl refl

@@ -8,12 +8,14 @@ use lib.ListN.{length, take, drop}
 use Rattle.refusal.specs.Table.{accepted}
 use Rattle.spell.specs.declared.Spell.{Spell}
 use Rattle.spell.specs.Listing.{Good}
-use Rattle.model.specs.Edits.{insert, remove, takeBackRefusal, remember, frontOr, restOf}
+use Rattle.model.specs.declared.Call.{Call}
+use Rattle.model.specs.declared.Call.the-variants.{Enter, Amend, Strike, TakeBack, Publish, Write, Ask}
+use Rattle.model.specs.Edits.{insert, remove, replace, idle, enterRefusal, amendRefusal, strikeRefusal, takeBackRefusal, remember, frontOr, restOf}
 use Rattle.standing_journal.specs.declared.Undo.{Undo}
 use Rattle.standing_journal.specs.Journal.{newestFirst}
 use Rattle.standing.specs.declared.Standing.{Standing}
 use Rattle.standing.specs.declared.Edited.{Edited}
-use Rattle.standing.specs.Places.{holding, freshStanding, noted}
+use Rattle.standing.specs.Places.{holding, freshStanding, noted, entering, replacing}
 use Rattle.register.specs.Text.{Register}
 use Rattle.model.specs.Model.{begun}
 
@@ -93,6 +95,20 @@ pub record TakesBack (st : Standing) (r : Edited) : Type 0 where
   pub past : pasts (r .standing) ≡ restOf (pasts st)
   pub kept : pasts st ≡ [] → r .standing ≡ st
   pub whole : r .standing ≡ afterTakeBack st
+
+-- a call that is no edit
+abbrev pub Keeps : Standing → Edited → Type 0
+Keeps st r = r ≡ record { standing = st; refusal = accepted }
+
+-- any call: an edit, a take back, or one that leaves the standing list as it was
+unfoldable pub Does : Standing → Call → Edited → Type 0
+Does st (Enter s) r = Edits st r false (enterRefusal (listOf st) s) (insert s (listOf st)) (entering s)
+Does st (Amend s) r = Edits st r (idle (listOf st) s) (amendRefusal (listOf st) s) (replace s (listOf st)) (replacing (s .number) (listOf st))
+Does st (Strike k) r = Edits st r false (strikeRefusal (listOf st) k) (remove k (listOf st)) (replacing k (listOf st))
+Does st TakeBack r = TakesBack st r
+Does st (Publish rule) r = Keeps st r
+Does st Write r = Keeps st r
+Does st (Ask w) r = Keeps st r
 
 -- ---- The register text
 

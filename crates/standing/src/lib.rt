@@ -1,16 +1,20 @@
 // The standing list: an array of spells in the order, of which the first `count` stand, with a journal of the last 64 edits.
 ghost use mathlib.Core.List.{map};
 ghost use mathlib.Core.Path.{_≡_};
-ghost use mathlib.Core.Bool.{false, cond};
-ghost use Prim.Native.Nat.{_≤_, _<_};
-ghost use Rattle.model.specs.Edits.{insert, remove, replace, idle, orElse, enterRefusal, amendRefusal, strikeRefusal};
+ghost use mathlib.Core.Bool.{cond};
+ghost use Prim.Native.Nat.{_-_, _≤_};
+ghost use Rattle.model.specs.Edits.{orElse};
 ghost use Rattle.refusal.specs.Table.{accepted};
-ghost use Rattle.standing_list.specs.List.{without, LaidOut};
-ghost use Rattle.standing.specs.Places.{relisted, rejournaled, loadedOf, entering, replacing, noted};
+ghost use Rattle.spell.specs.Listing.{Sound};
+ghost use Rattle.standing_list.specs.List.{LaidOut};
+ghost use Rattle.standing_journal.specs.Journal.{noting};
+ghost use Rattle.standing.specs.Places.{loadedOf};
+ghost use Rattle.standing.specs.Contracts.{noPlan, planEnter, planAmend, planStrike, planBack, planOf, Takes, numberOf, newestOf, deeperBy};
 ghost use Rattle.rules.specs.Rules.{cut};
 ghost use Rattle.register.specs.Text.{writeAll};
 ghost use Rattle.register.specs.Answers.{Writes};
-ghost use Rattle.standing.specs.Standing.{listOf, entries, Wf, Fresh, Edits, TakesBack};
+ghost use Rattle.standing.specs.Standing.{listOf, Wf, Fresh, Does};
+use model::Call;
 use refusal::ACCEPTED;
 use refusal::DUPLICATE_NUMBER;
 use refusal::FULL;
@@ -20,7 +24,6 @@ use register::Reading;
 use register::Written;
 use spell::Spell;
 use standing_journal::Undo;
-use standing_list::Sought;
 
 // words.rt: the standing list in words of 16 bits, and back.
 pub mod words;
@@ -54,70 +57,6 @@ pub fn fresh() -> Standing
     }
 }
 
-// ---- The list
-
-// s put in at its place.
-fn inserted(st: Standing, s: Spell) -> Standing
-    requires { ⌜ st .count < 1024 ⌝ }
-    ensures { λ r. ⌜ r ≡ relisted st (insert s (listOf st)) ⌝ }
-{
-    let n = st.count;
-    let spells = st.spells;
-    let more = standing_list::inserted(spells, n, s);
-    let mut a = st;
-    a.spells = more;
-    a.count = n + 1;
-    a
-}
-
-// The spell at p taken out.
-fn removed_at(st: Standing, p: usize) -> Standing
-    requires { ⌜ st .count ≤ 1024 ⌝ }
-    requires { ⌜ p < st .count ⌝ }
-    ensures { λ r. ⌜ r ≡ relisted st (without p (listOf st)) ⌝ }
-{
-    let n = st.count;
-    let spells = st.spells;
-    let less = standing_list::removed_at(spells, n, p);
-    let mut a = st;
-    a.spells = less;
-    a.count = n - 1;
-    a
-}
-
-// The spell of the number k taken out, where it stands.
-fn removed(st: Standing, k: u16) -> Standing
-    requires { ⌜ st .count ≤ 1024 ⌝ }
-    ensures { λ r. ⌜ r ≡ relisted st (remove k (listOf st)) ⌝ }
-{
-    let n = st.count;
-    let spells = st.spells;
-    let p = standing_list::find(spells, n, Sought::Number(k));
-    if p < n {
-        return removed_at(st, p);
-    }
-    st
-}
-
-// ---- The journal
-
-// The entry e put at the end; where the journal is full, its oldest entry goes.
-fn pushed(st: Standing, e: Undo) -> Standing
-    requires { ⌜ st .depth ≤ 64 ⌝ }
-    ensures { λ r. ⌜ r ≡ rejournaled st (noted e (entries st)) ⌝ }
-{
-    let d = st.depth;
-    let journal = st.journal;
-    let more = standing_journal::pushed(journal, d, e);
-    let mut a = st;
-    a.journal = more;
-    if d == 64 {
-        return a;
-    }
-    a.depth = d + 1;
-    a
-}
-
 // ---- The checks
 
 // The number of a check where it hits, or 0.
@@ -140,134 +79,243 @@ fn first_of(a: u16, b: u16) -> u16
     b
 }
 
-// ---- The edits
+// ---- What an edit does, as small values
 
-// Put s in. Checks: 1 to 5, then 6, then 8.
-pub fn enter(st: Standing, s: Spell) -> Edited
-    requires { ⌜ Wf st ⌝ }
-    ensures { λ r. ⌜ Edits st r false (enterRefusal (listOf st) s) (insert s (listOf st)) (entering s) ⌝ }
+// The refusal's number, or 0; the place of the spell that goes, where one stands there; whether a spell is put in, and which; whether an entry
+// is noted, and which, in a journal of that depth.
+struct Plan {
+    refusal: u16,
+    out: usize,
+    puts: bool,
+    spell: Spell,
+    notes: bool,
+    entry: Undo,
+    depth: usize,
+}
+
+// Nothing changes.
+fn unplanned(d: usize, refusal: u16) -> Plan
+    ensures { λ r. ⌜ r ≡ noPlan d refusal ⌝ }
 {
-    let n = st.count;
-    let number = s.number;
-    let spells = st.spells;
-    let p = standing_list::find(spells, n, Sought::Number(number));
+    let none = spell_checks::blank();
+    let entry = standing_journal::none();
+    Plan {
+        refusal,
+        out: 1024,
+        puts: false,
+        spell: none,
+        notes: false,
+        entry,
+        depth: d,
+    }
+}
+
+// Put s in, where its number would stand at p. Checks: 1 to 5, then 6, then 8.
+fn plan_enter(s: Spell, p: usize, n: usize, d: usize) -> Plan
+    ensures { λ r. ⌜ r ≡ planEnter s p n d ⌝ }
+    ensures { λ r. ⌜ (r .refusal ≡ accepted → Sound s) ⌝ }
+{
     let taken = refusal_if(p < n, DUPLICATE_NUMBER);
     let full = refusal_if(n >= 1024, FULL);
     let refusal = first_of(spell_checks::refusal_of(s), first_of(taken, full));
     if refusal != ACCEPTED {
-        return Edited {
-            standing: st,
-            refusal,
-        };
+        return unplanned(d, refusal);
     }
-    let more = inserted(st, s);
     let entry = Undo {
-        number,
+        number: s.number,
         stood: false,
         spell: s,
     };
-    let entered = pushed(more, entry);
-    Edited {
-        standing: entered,
+    Plan {
         refusal: ACCEPTED,
+        out: 1024,
+        puts: true,
+        spell: s,
+        notes: true,
+        entry,
+        depth: d,
     }
 }
 
-// Replace the spell of s's number by s. Checks: 1 to 5, then 7. Where s is that spell in all fields, nothing moves.
-pub fn amend(st: Standing, s: Spell) -> Edited
-    requires { ⌜ Wf st ⌝ }
-    ensures { λ r. ⌜ Edits st r (idle (listOf st) s) (amendRefusal (listOf st) s) (replace s (listOf st)) (replacing (s .number) (listOf st)) ⌝ }
+// Replace the spell of s's number, `old` at p, by s. Checks: 1 to 5, then 7. Where s is that spell in all fields, nothing changes.
+fn plan_amend(s: Spell, p: usize, old: Spell, n: usize, d: usize) -> Plan
+    ensures { λ r. ⌜ r ≡ planAmend s p old n d ⌝ }
+    ensures { λ r. ⌜ (r .refusal ≡ accepted → Sound s) ⌝ }
 {
-    let n = st.count;
-    let number = s.number;
-    let spells = st.spells;
-    let p = standing_list::find(spells, n, Sought::Number(number));
-    let refusal = first_of(
-        spell_checks::refusal_of(s),
-        refusal_if(p >= n, UNKNOWN_NUMBER),
-    );
+    let refusal = first_of(spell_checks::refusal_of(s), refusal_if(p >= n, UNKNOWN_NUMBER));
     if refusal != ACCEPTED {
-        return Edited {
-            standing: st,
-            refusal,
-        };
+        return unplanned(d, refusal);
     }
-    let old = st.spells[p];
     if spell_checks::same(old, s) {
-        return Edited {
-            standing: st,
-            refusal: ACCEPTED,
-        };
+        return unplanned(d, ACCEPTED);
     }
-    let without = removed_at(st, p);
-    let more = inserted(without, s);
     let entry = Undo {
-        number,
+        number: s.number,
         stood: true,
         spell: old,
     };
-    let amended = pushed(more, entry);
-    Edited {
-        standing: amended,
+    Plan {
         refusal: ACCEPTED,
+        out: p,
+        puts: true,
+        spell: s,
+        notes: true,
+        entry,
+        depth: d,
     }
 }
 
-// Remove the spell of the number. Check: 7.
-pub fn strike(st: Standing, number: u16) -> Edited
-    requires { ⌜ Wf st ⌝ }
-    ensures { λ r. ⌜ Edits st r false (strikeRefusal (listOf st) number) (remove number (listOf st)) (replacing number (listOf st)) ⌝ }
+// Remove the spell of the number, `old` at p. Check: 7.
+fn plan_strike(number: u16, p: usize, old: Spell, n: usize, d: usize) -> Plan
+    ensures { λ r. ⌜ r ≡ planStrike number p old n d ⌝ }
 {
-    let n = st.count;
-    let spells = st.spells;
-    let p = standing_list::find(spells, n, Sought::Number(number));
     if p >= n {
-        return Edited {
-            standing: st,
-            refusal: UNKNOWN_NUMBER,
-        };
+        return unplanned(d, UNKNOWN_NUMBER);
     }
-    let old = st.spells[p];
-    let less = removed_at(st, p);
+    let none = spell_checks::blank();
     let entry = Undo {
         number,
         stood: true,
         spell: old,
     };
-    let struck = pushed(less, entry);
-    Edited {
-        standing: struck,
+    Plan {
         refusal: ACCEPTED,
+        out: p,
+        puts: false,
+        spell: none,
+        notes: true,
+        entry,
+        depth: d,
     }
 }
 
-// Take the newest edit of the journal back. Check: 9.
-pub fn take_back(st: Standing) -> Edited
-    requires { ⌜ Wf st ⌝ }
-    ensures { λ r. ⌜ TakesBack st r ⌝ }
+// Take the newest edit of the journal back, e, whose number stands at p, if it does. Check: 9.
+fn plan_back(e: Undo, p: usize, d: usize) -> Plan
+    ensures { λ r. ⌜ r ≡ planBack e p d ⌝ }
 {
-    let d = st.depth;
     if d == 0 {
-        return Edited {
-            standing: st,
-            refusal: NO_HISTORY,
-        };
-    }
-    let e = st.journal[d - 1];
-    let number = e.number;
-    let mut a = removed(st, number);
-    a.depth = d - 1;
-    if !e.stood {
-        return Edited {
-            standing: a,
-            refusal: ACCEPTED,
-        };
+        return unplanned(d, NO_HISTORY);
     }
     let s = e.spell;
-    let restored = inserted(a, s);
-    Edited {
-        standing: restored,
+    Plan {
         refusal: ACCEPTED,
+        out: p,
+        puts: e.stood,
+        spell: s,
+        notes: false,
+        entry: e,
+        depth: d - 1,
+    }
+}
+
+// The plan of any call, where the newest entry is e, and `old` stands at p under the number that it is about. A call that is no edit changes nothing.
+fn planned(call: Call, e: Undo, p: usize, old: Spell, n: usize, d: usize) -> Plan
+    ensures { λ r. ⌜ r ≡ planOf call e p old n d ⌝ }
+    ensures { λ r. ⌜ Takes call (r .refusal) ⌝ }
+{
+    match call {
+        Call::Enter(s) => plan_enter(s, p, n, d),
+        Call::Amend(s) => plan_amend(s, p, old, n, d),
+        Call::Strike(k) => plan_strike(k, p, old, n, d),
+        Call::TakeBack => plan_back(e, p, d),
+        Call::Publish(_) => unplanned(d, ACCEPTED),
+        Call::Write => unplanned(d, ACCEPTED),
+        Call::Ask(_) => unplanned(d, ACCEPTED),
+    }
+}
+
+// The number that a call is about; for a take back the newest entry's.
+fn number_of(call: Call, newest: u16) -> u16
+    ensures { λ r. ⌜ r ≡ numberOf call newest ⌝ }
+{
+    match call {
+        Call::Enter(s) => s.number,
+        Call::Amend(s) => s.number,
+        Call::Strike(k) => k,
+        Call::TakeBack => newest,
+        Call::Publish(_) => 0,
+        Call::Write => 0,
+        Call::Ask(_) => 0,
+    }
+}
+
+// ---- The journal
+
+// The place of the newest of so many entries; of none, the first place.
+fn last_place(depth: usize) -> usize
+    ensures { λ r. ⌜ r ≡ depth - 1 ⌝ }
+{
+    if depth == 0 {
+        return 0;
+    }
+    depth - 1
+}
+
+// The newest entry; where there is none, what the first place holds.
+fn newest(journal: [Undo; 64], depth: usize) -> Undo
+    requires { ⌜ depth ≤ 64 ⌝ }
+    ensures { λ r. ⌜ r ≡ newestOf depth journal ⌝ }
+{
+    let i = last_place(depth);
+    journal[i]
+}
+
+// The entry e put at the end, where it is noted.
+fn journaled(journal: [Undo; 64], depth: usize, notes: bool, e: Undo) -> [Undo; 64]
+    ensures { λ r. ⌜ r ≡ cond notes (noting e depth journal) journal ⌝ }
+{
+    if !notes {
+        return journal;
+    }
+    standing_journal::pushed(journal, depth, e)
+}
+
+// The depth with one more entry, where one is noted: at most 64.
+fn deeper(depth: usize, notes: bool) -> usize
+    ensures { λ r. ⌜ r ≡ deeperBy depth notes ⌝ }
+{
+    if !notes {
+        return depth;
+    }
+    if depth >= 64 {
+        return depth;
+    }
+    depth + 1
+}
+
+// ---- The edits
+
+// What any call makes of a standing list: an edit and a take back change it, a refused or idle one and any other call do not. What it does is
+// planned on small values first, and then carried out on one copy, whatever the call: each way that ends in a standing list of its own is a
+// copy more.
+pub fn edit(st: Standing, call: Call) -> Edited
+    requires { ⌜ Wf st ⌝ }
+    ensures { λ r. ⌜ Does st call r ⌝ }
+{
+    let n = st.count;
+    let d = st.depth;
+    let spells = st.spells;
+    let journal = st.journal;
+    let e = newest(journal, d);
+    let k = number_of(call, e.number);
+    let found = standing_list::find(spells, n, k);
+    let old = found.spell;
+    let plan = planned(call, e, found.place, old, n, d);
+    let s = plan.spell;
+    let entry = plan.entry;
+    let more = standing_list::changed(spells, n, plan.out, plan.puts, s);
+    let count = standing_list::counted(n, plan.out, plan.puts);
+    let noted = journaled(journal, plan.depth, plan.notes, entry);
+    let depth = deeper(plan.depth, plan.notes);
+    let standing = Standing {
+        spells: more,
+        count,
+        journal: noted,
+        depth,
+    };
+    Edited {
+        standing,
+        refusal: plan.refusal,
     }
 }
 

@@ -172,8 +172,9 @@ fn call_turn(
     ensures { λ r. ⌜ CallTurn service (blocks (now (index .entry))) (asking call (now (days .entry)) (now (numbers .entry)) (now (text .entry))) room (now (out .entry)) r (blocks (now (index .exit))) (now (numbers .exit)) (now (text .exit)) (now (out .exit)) ⌝ }
 {
     let r = service::step(service, index, call, days, numbers, text);
-    let place = reply_calls::put_reply(out, call, r.outcome, numbers, text);
     let next = r.service;
+    let outcome = r.outcome;
+    let place = reply_calls::put_reply(out, call, outcome, numbers, text);
     Answered {
         service: next,
         room,

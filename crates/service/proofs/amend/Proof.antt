@@ -5,7 +5,7 @@ use Rattle.service.proofs.amend.Statement.{statement}
 use Rattle.service.proofs.amend.Tie as tie
 
 returns : tie.Need-returns
-returns c = rw (c .edited .ensures) (amend-changed _ _ _ (c .before .amend .ensures))
+returns c = rw (c .edited .ensures) (amend-changed _ _ _ (c .before .edit .ensures))
 
 pub amend-spec : {M : Type 1} → statement M
 amend-spec = tie.close (tie.spec (λ c κs. search needs) (λ c κs. search needs) returns)

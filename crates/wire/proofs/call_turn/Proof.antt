@@ -8,11 +8,11 @@ use Rattle.wire.proofs.call_turn.Tie as tie
 
 returns : tie.Need-returns
 returns c =
-    let stepped = c .before .before .before .before .before .before .before .before .before in
+    let stepped = c .before .before .before .before .before .before .before .before .before .before in
     let start = stepped .before .before .before .before .before .before .before in
     let a = start .args in
     let fit = fits _ _ (start .pre .0) (asking (a .call) (a .days .now) (a .numbers .now) (a .text .now)) _ _ _ _ (stepped .step .ensures) in
-    called _ _ _ _ _ _ _ (omega arith) (omega arith) (omega arith) _ _ _ _ _ _ _ (stepped .step .ensures) (replied _ fit (c .before .put-reply .ensures))
+    called _ _ _ _ _ _ _ (omega arith) (omega arith) (omega arith) _ _ _ _ _ _ _ (stepped .step .ensures) (replied _ fit (c .put-reply .ensures))
 
 pub call-turn-spec : {M : Type 1} → statement M
 call-turn-spec =

@@ -1,0 +1,12 @@
+-- `standing::deeper` meets its contract. Assumes nothing.
+use Rattle.basis.proofs.Prelude.{arith, le-leb, lt-leb, not-false, not-true}
+use Rattle.standing.proofs.deeper.Statement.{statement}
+use Rattle.standing.proofs.deeper.Tie as tie
+
+pub deeper-spec : {M : Type 1} → statement M
+deeper-spec =
+    tie.close
+    (tie.spec
+    (λ c. rw (not-true (c .before .args .notes) (c .if1 .taken)))
+    (λ c. rw (not-false (c .before .before .args .notes) (c .before .if1 .left), le-leb _ _ (c .if2 .taken)))
+    (λ c. omega arith) (λ c. rw (not-false (c .before .before .args .notes) (c .before .if1 .left), lt-leb _ _ (c .if2 .left))))

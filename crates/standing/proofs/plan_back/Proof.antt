@@ -1,0 +1,12 @@
+-- `standing::plan_back` meets its contract. Assumes nothing.
+use Rattle.basis.proofs.Prelude.{arith, needs, eq-eqb, ne-eqb}
+use Rattle.standing.proofs.plan_back.Statement.{statement}
+use Rattle.standing.proofs.plan_back.Tie as tie
+
+pub plan-back-spec : {M : Type 1} → statement M
+plan-back-spec =
+    tie.close
+    (tie.spec
+    -- no past
+    (λ c κs. search needs) (λ c. rw (eq-eqb _ _ (c .before .if1 .taken)) (c .unplanned .ensures))
+    (λ c. omega (arith, c .before .if1 .left)) (λ c. rw (ne-eqb _ _ (c .before .if1 .left))))
