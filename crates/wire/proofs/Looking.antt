@@ -1,7 +1,11 @@
 -- A look at a request: what is answered on the blocks alone is answered beside any service. Assumes nothing.
-use Rattle.basis.proofs.Prelude.{_∙_, _≡_, ap, refl, subst, sym, _<_, _≤_, ℕ, List, _++_, drop, length, take, take-all, take-append-drop, decLe, arith, le-leb, lt-leb}
+use Rattle.basis.proofs.Prelude.{_∙_, _≡_, ap, refl, subst, sym, _<_, _≤_, ℕ, List, [], _∷_, _++_, inl, inr, false, drop, length, take, take-all, take-append-drop, decLe, arith, le-leb, lt-leb}
 use Rattle.buffer.specs.Buffer.{over}
-use Rattle.model.specs.declared.Call.the-variants.{Ask}
+use types.Run.{OneOf}
+use denote.Enum.Declared.{tagOf}
+use Rattle.model.proofs.Call.{the-type}
+use Rattle.model.specs.declared.Call.{Call}
+use Rattle.model.specs.declared.Call.the-variants.{Enter, Amend, Strike, TakeBack, Publish, Write, Ask}
 use Rattle.model.specs.declared.Question.{Question}
 use Rattle.standing.proofs.Calls.{fresh-is}
 use Rattle.outcomes.specs.declared.Outcome.{Outcome}
@@ -22,7 +26,7 @@ use Rattle.replies.specs.Sending.{Sends}
 use Rattle.replies.specs.Fitting.{Fits}
 use Rattle.wire.specs.declared.Looked.{Looked}
 use Rattle.wire.specs.declared.Looked.the-variants.{Done}
-use Rattle.wire.specs.Answering.{beside, LooksAt, Looks, roomOf}
+use Rattle.wire.specs.Answering.{beside, isQuestion, wantedIn, wantedBy, LooksAt, Looks, roomOf}
 use Rattle.wire.specs.Contracts.{AskTurn, least}
 use Rattle.wire.proofs.Replying.{fits, called}
 use Rattle.wire.proofs.Turns.{turn-call, turn-room, turn-malformed}
@@ -62,15 +66,35 @@ module _ (days : List ℕ) {bs : Blocks} {room : ℕ} {numbers text out out′ :
 
 -- ---- and its line
 pub looks : {bs : Blocks} {room : ℕ} {line days numbers text out : List ℕ} {q : Request} {r : Looked} {days′ numbers′ out′ : List ℕ} → length days ≡ 32768 → Parses line days q days′
-    → LooksAt bs (roomOf room) q (askedFrom q days′) days′ numbers text out r numbers′ out′ → Looks bs room line days numbers text out r days′ numbers′ out′
-looks {bs} {room} {line} {days} {numbers} {text} {out} {q} {r} {days′} {numbers′} {out′} e p l =
+    → LooksAt bs (roomOf room) q (askedFrom q days′) days′ numbers text out r numbers′ out′ → wantedIn r ≡ wantedBy q → Looks bs room line days numbers text out r days′ numbers′ out′
+looks {bs} {room} {line} {days} {numbers} {text} {out} {q} {r} {days′} {numbers′} {out′} e p l w =
     let asks : askedFrom q days′ ≡ askedOf 32768 line = parsed-asked line days q days′ p ∙ ap (λ (n : ℕ). askedOf n line) e in
     let is : q ≡ requestOf (askedOf 32768 line) = p .request ∙ ap (λ (n : ℕ). requestOf (askedOf n line)) e in
     record {
+      wanted = w ∙ ap wantedBy is;
       at = subst (λ (a : Asked). LooksAt bs (roomOf room) (requestOf (askedOf 32768 line)) a days′ numbers text out r numbers′ out′) asks
           (subst (λ (w : Request). LooksAt bs (roomOf room) w (askedFrom q days′) days′ numbers text out r numbers′ out′) is l);
       kept = p .places ∙ ap (λ (n : ℕ). over (daysOf n line) days) e;
     }
+
+-- ---- a call of another tag than a question's
+pub no-question : (c : Call) → OneOf (0 ∷ 1 ∷ 2 ∷ 3 ∷ 4 ∷ 5 ∷ []) (tagOf the-type c) → isQuestion c ≡ false
+unfolding isQuestion
+no-question (Enter s) h = refl
+no-question (Amend s) h = refl
+no-question (Strike k) h = refl
+no-question TakeBack h = refl
+no-question (Publish rule) h = refl
+no-question Write h = refl
+no-question (Ask w) h = absurd (never h)
+  where
+    never : OneOf (0 ∷ 1 ∷ 2 ∷ 3 ∷ 4 ∷ 5 ∷ []) 6 → ⊥
+    never (inl e) = omega arith
+    never (inr (inl e)) = omega arith
+    never (inr (inr (inl e))) = omega arith
+    never (inr (inr (inr (inl e)))) = omega arith
+    never (inr (inr (inr (inr (inl e))))) = omega arith
+    never (inr (inr (inr (inr (inr e))))) = omega arith
 
 -- ---- so many days
 module _ (k n : ℕ) where

@@ -2,10 +2,11 @@
 use Prim.Native.Nat.{ℕ, _≤_}
 use mathlib.Core.Path.{_≡_}
 use mathlib.Core.Bool.{Bool, true, false, cond}
-use mathlib.Core.List.{List, _++_}
+use mathlib.Core.List.{List, [], _∷_, _++_}
 use lib.Dec.{leb}
 use lib.ListN.{take, drop}
 use Rattle.model.specs.declared.Call.{Call}
+use Rattle.model.specs.declared.Call.the-variants.{Enter, Amend, Strike, TakeBack, Publish, Write, Ask}
 use Rattle.model.specs.Journal.{reads}
 use Rattle.model.specs.Model.{State, Request, step}
 use Rattle.service.specs.declared.Service.{Service}
@@ -18,6 +19,7 @@ use Rattle.wire.specs.declared.Wanted.{Wanted}
 use Rattle.wire.specs.declared.Wanted.the-variants.{Call as WantedCall, Read as WantedRead}
 use Rattle.wire.specs.Conversation.{Conv, Turn, turnOf}
 use Rattle.requests.specs.declared.Request.{Request as RequestIn}
+use Rattle.requests.specs.declared.Request.the-variants.{Call as RequestCall, Room as RequestRoom, Read as RequestRead, Malformed as RequestMalformed}
 use Rattle.requests.specs.Parsing.{requestOf}
 use Rattle.requests.specs.Requests.{Asked, asksCall, asksRoom, asksRead, malformed, askedOf, daysOf}
 use Rattle.buffer.specs.Buffer.{over}
@@ -91,12 +93,34 @@ onlyReads (asksRoom n) = true
 onlyReads (asksRead n) = false
 onlyReads malformed = true
 
+-- a call that is a question
+unfoldable pub isQuestion : Call → Bool
+isQuestion (Enter s) = false
+isQuestion (Amend s) = false
+isQuestion (Strike k) = false
+isQuestion TakeBack = false
+isQuestion (Publish rule) = false
+isQuestion Write = false
+isQuestion (Ask w) = true
+
+-- what a request wants of a service: nothing, where it is a question, a room or a line of no form
+abbrev pub wantedBy : RequestIn → List Wanted
+wantedBy (RequestCall c k) = cond (isQuestion c) [] (WantedCall c k ∷ [])
+wantedBy (RequestRoom n) = []
+wantedBy (RequestRead n) = WantedRead n ∷ []
+wantedBy RequestMalformed = []
+
+-- what a look tells as wanted
+abbrev pub wantedIn : Looked → List Wanted
+wantedIn (Done v later place) = []
+wantedIn (Wants x) = x ∷ []
+
 -- an answer beside a service that is as it was
 abbrev pub beside : Service → ℕ → ℕ → Answered
 beside sv room place = record { service = sv; room = room; place = place }
 
--- A request w that asks q, its days in a list. One that only reads may be answered, whatever service stands beside the blocks, and that is
--- as it was. Of another it is told what it wants, and nothing is written.
+-- A request w that asks q, its days in a list. One that is answered only reads, whatever service stands beside the blocks, and that is
+-- as it was. Of another it is told what it wants, and nothing is written. Which of the two comes is `wantedBy`.
 abbrev pub LooksAt : Blocks → ℕ → RequestIn → Asked → List ℕ → List ℕ → List ℕ → List ℕ → Looked → List ℕ → List ℕ → Type 0
 LooksAt bs room w q days numbers text out (Done v later place) numbers′ out′ =
     (v ≡ w) × (onlyReads q ≡ true) × ((sv : Service) → Given sv bs → Carries sv bs room q numbers text out (beside sv later place) bs numbers′ text out′)
@@ -104,5 +128,6 @@ LooksAt bs room w q days numbers text out (Wants x) numbers′ out′ = (q ≡ a
 
 -- the same of a request's line, with every place of the list lent for days
 pub record Looks (bs : Blocks) (room : ℕ) (line days numbers text out : List ℕ) (r : Looked) (days′ numbers′ out′ : List ℕ) : Type 0 where
+  pub wanted : wantedIn r ≡ wantedBy (requestOf (askedOf 32768 line))
   pub at : LooksAt bs (roomOf room) (requestOf (askedOf 32768 line)) (askedOf 32768 line) days′ numbers text out r numbers′ out′
   pub kept : days′ ≡ over (daysOf 32768 line) days

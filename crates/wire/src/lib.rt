@@ -5,7 +5,7 @@ ghost use mathlib.Core.List.{List};
 ghost use lib.ListN.{length, take};
 ghost use Rattle.requests.specs.Requests.{asksCall};
 ghost use Rattle.requests.specs.Parsing.{askedFrom, daysIn, roomIn};
-ghost use Rattle.wire.specs.Answering.{Restarted, Answers, Carries, askedIn, LooksAt, Looks, roomOf};
+ghost use Rattle.wire.specs.Answering.{Restarted, Answers, Carries, askedIn, wantedIn, wantedBy, LooksAt, Looks, roomOf};
 ghost use Rattle.wire.specs.Contracts.{CallTurn, AskTurn, least};
 ghost use Rattle.outcomes.specs.Outcomes.{asking};
 ghost use Rattle.published_index.specs.Index.{Published};
@@ -93,6 +93,7 @@ fn look_call(
     requires { ⌜ (room ≤ 65536) × (k ≤ length (now days)) ⌝ }
     requires { ⌜ (length (now numbers) ≡ 65536) × (length (now text) ≡ 65536) ⌝ }
     ensures { λ r. ⌜ LooksAt (blocks (now (index .entry))) room (Request.Call call k) (asksCall call (take k (now (days .entry)))) (now (days .entry)) (now (numbers .entry)) (now (text .entry)) (now (out .entry)) r (now (numbers .exit)) (now (out .exit)) ⌝ }
+    ensures { λ r. ⌜ wantedIn r ≡ wantedBy (Request.Call call k) ⌝ }
 {
     let Call::Ask(question) = call else {
         return Looked::Wants(Wanted::Call(call, k));
@@ -123,6 +124,7 @@ fn look_at(
     requires { ⌜ (room ≤ 65536) × (roomIn request ≤ 65536) × (daysIn request ≤ length (now days)) ⌝ }
     requires { ⌜ (length (now numbers) ≡ 65536) × (length (now text) ≡ 65536) ⌝ }
     ensures { λ r. ⌜ LooksAt (blocks (now (index .entry))) room request (askedFrom request (now (days .entry))) (now (days .entry)) (now (numbers .entry)) (now (text .entry)) (now (out .entry)) r (now (numbers .exit)) (now (out .exit)) ⌝ }
+    ensures { λ r. ⌜ wantedIn r ≡ wantedBy request ⌝ }
 {
     match request {
         Request::Call(call, k) => look_call(index, room, call, k, days, numbers, text, out),

@@ -20,7 +20,7 @@ returns c =
     let clamped = c .before .before .before .before .before .before in
     let parsed = clamped .before in
     let start = parsed .before .before .before in
-    looks (omega (arith, start .good)) (parsed .parse .ensures) (rw (clamped .room-of .ensures) at (c .look-at .ensures))
+    looks (omega (arith, start .good)) (parsed .parse .ensures) (rw (clamped .room-of .ensures) at (c .look-at .ensures .0)) (c .look-at .ensures .1)
 
 pub look-spec : {M : Type 1} → statement M
 look-spec = tie.close (tie.spec (λ c κs. search needs) (λ c κs. search needs) look-at-requires returns)

@@ -19,16 +19,16 @@ returns-2 : tie.Need-returns-2
 returns-2 c =
     let known = c .before .before .before in
     let start = known .before .before .before .before .before in
-    rw (known .request2 .given .1) (looks-room (start .args .days .now) (rw (known .request2 .given .1) at (start .pre .1 .0 .1)) (c .put-ok .ensures))
+    rw (known .request2 .given .1) (looks-room (start .args .days .now) (rw (known .request2 .given .1) at (start .pre .1 .0 .1)) (c .put-ok .ensures), refl)
 
 returns-3 : tie.Need-returns-3
-returns-3 c = rw (c .before .request3 .given .1) (refl, refl, refl)
+returns-3 c = rw (c .before .request3 .given .1) ((refl, refl, refl), refl)
 
 returns-4 : tie.Need-returns-4
 returns-4 c =
     let told = c .before .before in
     let start = told .before .before .before .before .before in
-    rw (told .enum-told .given .1) (looks-malformed (start .args .days .now) (start .pre .1 .0 .0) (c .put-malformed .ensures))
+    rw (told .enum-told .given .1) (looks-malformed (start .args .days .now) (start .pre .1 .0 .0) (c .put-malformed .ensures), refl)
 
 pub look-at-spec : {M : Type 1} → statement M
 look-at-spec =

@@ -1,6 +1,7 @@
 -- `wire::look_call` meets its contract. Assumes nothing.
 use Rattle.basis.proofs.Prelude.{refl, sym, length-take-le, arith, needs}
-use Rattle.wire.proofs.Looking.{looks-question}
+use Rattle.wire.specs.Answering.{isQuestion}
+use Rattle.wire.proofs.Looking.{looks-question, no-question}
 use Rattle.wire.proofs.look_call.Statement.{statement}
 use Rattle.wire.proofs.look_call.Tie as tie
 
@@ -27,18 +28,19 @@ ask-turn-requires c κs =
 
 -- a question
 returns-2 : tie.Need-returns-2
+unfolding isQuestion
 returns-2 c =
     let asked = c .before .before in
     let known = asked .before .before .before .before .before .before in
     let a = known .before .before .before .before .before .args in
-    rw (known .call .given .1) (looks-question (a .days .now) (a .k) (asked .ask-turn .ensures))
+    rw (known .call .given .1) (looks-question (a .days .now) (a .k) (asked .ask-turn .ensures), refl)
 
 pub look-call-spec : {M : Type 1} → statement M
 look-call-spec =
     tie.close
     (tie.spec
     (λ c. search needs)
-    (λ c. (refl, refl, refl))
+    (λ c. ((refl, refl, refl), rw (no-question (c .before .before .before .before .args .call) (c .match .keys2))))
     slice-aggregate-ask-turn
     (λ c. search needs)
     slice-aggregate-ask-turn-2
