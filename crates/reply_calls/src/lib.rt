@@ -8,10 +8,10 @@ ghost use Rattle.replies.specs.Sending.{Sends, fitsIn, replyText};
 ghost use Rattle.replies.specs.Fitting.{Fits};
 use model::Call;
 use model::Question;
+use outcomes::Outcome;
 use refusal::ACCEPTED;
 use replies::OUT;
 use replies::Shape;
-use outcomes::Outcome;
 
 const TAB: u8 = 9;
 

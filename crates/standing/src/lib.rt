@@ -142,7 +142,10 @@ fn plan_amend(s: Spell, p: usize, old: Spell, n: usize, d: usize) -> Plan
     ensures { λ r. ⌜ r ≡ planAmend s p old n d ⌝ }
     ensures { λ r. ⌜ (r .refusal ≡ accepted → Sound s) ⌝ }
 {
-    let refusal = first_of(spell_checks::refusal_of(s), refusal_if(p >= n, UNKNOWN_NUMBER));
+    let refusal = first_of(
+        spell_checks::refusal_of(s),
+        refusal_if(p >= n, UNKNOWN_NUMBER),
+    );
     if refusal != ACCEPTED {
         return unplanned(d, refusal);
     }
