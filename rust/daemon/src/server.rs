@@ -1,4 +1,4 @@
-//! The loop that owns the blocks. It answers questions from the live state, carries changes out on a working copy, and makes that the
+//! The loop that owns the blocks. It answers questions from the live state, carries changes out on a working copy, and makes what they gave the
 //! state when their commit has ended.
 
 use crate::archive::{Allowed, Came, Lent, State, Whole, PUBLISH, READ};
@@ -56,9 +56,11 @@ pub struct Server {
     /// Connections to go on with in this pass, and those to write to at its end.
     ready: Vec<u64>,
     touched: Vec<u64>,
-    /// Connections whose next request is a change that waits for the commit in hand.
+    /// Connections whose next request waits for the end of a commit.
     parked: Vec<u64>,
+    /// What is committed, what the commit in hand makes of it, and what the changes since then make of that.
     live: State,
+    handed: State,
     working: State,
     lent: Lent,
     head: Head,
@@ -101,6 +103,7 @@ impl Server {
             ready: Vec::new(),
             touched: Vec::new(),
             parked: Vec::new(),
+            handed: parts.state.clone(),
             working: parts.state.clone(),
             live: parts.state,
             lent: Lent::new(),
@@ -187,8 +190,7 @@ impl Server {
     fn go_on(&mut self, token: u64) {
         let mut filled = false;
         while let Some(connection) = self.connections.get_mut(&token) {
-            let waits = connection.holds() && self.committing.is_some();
-            if waits || connection.is_slow() {
+            if connection.is_slow() {
                 break;
             }
             if let Some(request) = connection.next_request() {
@@ -226,7 +228,7 @@ impl Server {
 
     // ---- Requests
 
-    /// Carries a request out; false where it has to wait for the commit in hand.
+    /// Carries a request out; false where it has to wait for the end of a commit.
     fn carry_out(&mut self, token: u64, request: Whole) -> bool {
         let Some(connection) = self.connections.get_mut(&token) else { return false };
         let line = connection.framing.line(&request);
@@ -257,7 +259,7 @@ impl Server {
             self.give(token, DENIED.to_vec(), true);
             return true;
         }
-        if self.committing.is_some() || self.batch.changes.len() >= MOST_CHANGES {
+        if self.batch.changes.len() >= MOST_CHANGES {
             return self.park(token, request);
         }
         self.change(token, &request);
@@ -294,11 +296,10 @@ impl Server {
             });
             self.batch.publishes |= word == PUBLISH || word == READ;
         }
-        if self.batch.changes.is_empty() {
+        if self.batch.changes.is_empty() && self.committing.is_none() {
             connection.answer(&answer);
         } else {
-            connection.hold(&answer);
-            self.batch.held.push(Held { connection: token, answer, certain: false });
+            self.hold(token, answer, false);
         }
     }
 
@@ -306,16 +307,26 @@ impl Server {
     fn give(&mut self, token: u64, answer: Vec<u8>, certain: bool) {
         let Some(connection) = self.connections.get_mut(&token) else { return };
         if connection.holds() {
-            connection.hold(&answer);
-            self.batch.held.push(Held { connection: token, answer, certain });
+            self.hold(token, answer, certain);
         } else {
             connection.answer(&answer);
         }
     }
 
+    /// Lets an answer wait for the last commit that it rests on: the one to come, or where that has no change yet the one in hand.
+    fn hold(&mut self, token: u64, answer: Vec<u8>, certain: bool) {
+        let Some(connection) = self.connections.get_mut(&token) else { return };
+        connection.hold(&answer);
+        let batch = match &mut self.committing {
+            Some(batch) if self.batch.changes.is_empty() => batch,
+            _ => &mut self.batch,
+        };
+        batch.held.push(Held { connection: token, answer, certain });
+    }
+
     // ---- Commits
 
-    /// Hands the changes of this pass over, where no commit is in hand.
+    /// Hands the changes since the last commit over, where none is in hand.
     fn commit(&mut self) {
         if self.committing.is_some() || self.batch.changes.is_empty() {
             return;
@@ -325,21 +336,22 @@ impl Server {
         let after = self.head.sequence + changes.len() as i64;
         let due = after / ROWS_A_SNAPSHOT > self.head.sequence / ROWS_A_SNAPSHOT;
         let snapshot = due.then(|| Snapshot::of(&self.working));
+        self.handed.follow(&self.working, batch.publishes);
         self.committer.commit(Work { changes, snapshot });
         self.committing = Some(batch);
     }
 
     fn commit_ended(&mut self, came: Result<Head, Failure>) -> Result<(), String> {
-        let Some(batch) = self.committing.take() else { return Ok(()) };
+        let Some(mut batch) = self.committing.take() else { return Ok(()) };
         let made = match came {
             Ok(head) => {
                 self.head = head;
-                self.live.follow(&self.working, batch.publishes);
+                self.live.follow(&self.handed, batch.publishes);
                 true
             }
             Err(failure) if failure.nothing_written() => {
                 eprintln!("phayaklitd: nothing was written, and the changes are answered `unavailable`: {failure}");
-                self.working.follow(&self.live, batch.publishes);
+                self.drop_later(&mut batch);
                 false
             }
             Err(failure) => {
@@ -361,12 +373,20 @@ impl Server {
         Ok(())
     }
 
-    /// Ends the commit in hand, answers what it was for, and keeps the words for the next start.
+    /// Takes back to the live state what was carried out since: the changes of a commit that was not made, and those that were made on them.
+    fn drop_later(&mut self, batch: &mut Batch) {
+        let later = take(&mut self.batch);
+        batch.held.extend(later.held);
+        self.handed.follow(&self.live, batch.publishes);
+        self.working.follow(&self.live, batch.publishes || later.publishes);
+    }
+
+    /// Ends the commit in hand and the one to come, answers what they were for, and keeps the words for the next start.
     fn end(&mut self) -> Result<(), String> {
-        if self.committing.is_some() {
-            if let Some(came) = self.committer.await_end() {
-                self.commit_ended(came)?;
-            }
+        while self.committing.is_some() {
+            let Some(came) = self.committer.await_end() else { break };
+            self.commit_ended(came)?;
+            self.commit();
         }
         for connection in self.connections.values_mut() {
             connection.flush();

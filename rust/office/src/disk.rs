@@ -1,12 +1,9 @@
 //! A disk that is full: changes are answered `unavailable`, questions go on, and so does the service when there is space again.
 
-use crate::service::{Client, Place, Program, Service};
+use crate::service::{Client, Place, Program, UNAVAILABLE};
 use account::wire::Wire;
 use check::shown::bytes;
 use std::fs;
-use std::process::Command;
-
-const UNAVAILABLE: &[u8] = b"unavailable\n";
 
 pub fn check(program: &Program) -> Result<String, String> {
     let limited = limited(program)?;
@@ -39,10 +36,7 @@ fn full(program: &Program, place: &Place) -> Result<String, String> {
 /// A limit on the size of files, which must not kill it.
 fn limited(program: &Program) -> Result<String, String> {
     let place = &Place::new("limited");
-    let mut command = Command::new("sh");
-    command.arg("-c").arg("ulimit -f 600; exec \"$0\" --data \"$1\" --socket \"$2\"");
-    command.arg(&program.0).arg(place.data()).arg(place.socket());
-    let service = Service::of(command, place)?;
+    let service = program.start_limited(place, 600)?;
     let mut client = service.connect()?;
     let mut wire = Wire::default();
     let before = fill(&mut client, &mut wire, 1)?;

@@ -1,13 +1,11 @@
 //! Commits that fail: where nothing was written the service says so and goes on; where a synchronisation failed it ends, and answers nobody.
 
 use crate::rows::with_database;
-use crate::service::{expect, Client, Place, Program, Service};
+use crate::service::{expect, Client, Place, Program, Service, UNAVAILABLE};
 use crate::tracer::Tracer;
 use std::fs;
 use std::thread::{sleep, spawn};
 use std::time::{Duration, Instant};
-
-const UNAVAILABLE: &[u8] = b"unavailable\n";
 
 pub fn check(program: &Program) -> Result<String, String> {
     let of_another = program.clone();

@@ -1,7 +1,7 @@
-//! Many connections edit and ask at once: the journal's order explains every answer.
+//! Many connections edit and ask at once: the journal's order explains every answer, where changes can be kept and where they no more can.
 
 use crate::rows::{self, Exchange};
-use crate::service::{Client, Place, Program};
+use crate::service::{Client, Place, Program, Service, UNAVAILABLE};
 use account::account::Account;
 use account::wire::Wire;
 use check::shown::bytes;
@@ -11,12 +11,31 @@ use std::thread::{spawn, JoinHandle};
 const CONNECTIONS: usize = 16;
 /// The spells of one connection: others do not name them.
 const SPELLS: usize = 60;
+/// The largest file of a journal that is soon full, in blocks of 512 bytes.
+const FEW_BLOCKS: usize = 600;
 
 type Talk = Vec<Exchange>;
 
 pub fn check(program: &Program, requests: usize, seed: u64) -> Result<String, String> {
     let place = Place::new("many");
     let service = program.start(&place)?;
+    let (changes, dropped) = crowd(&service, &place, requests, seed)?;
+    let (status, told) = service.end()?;
+    if !status.success() || dropped > 0 {
+        return Err(format!("{dropped} requests are answered `unavailable`, and it ended with {status}: {told}"));
+    }
+    let place = Place::new("many-full");
+    let service = program.start_limited(&place, FEW_BLOCKS)?;
+    let (kept, dropped) = crowd(&service, &place, requests, seed)?;
+    service.kill()?;
+    if kept == 0 || dropped == 0 {
+        return Err(format!("the journal is not full after some changes: {kept} are kept and {dropped} not"));
+    }
+    Ok(format!("{CONNECTIONS} connections, {changes} changes, {requests} requests each; {kept} changes where no more can be kept"))
+}
+
+/// So many requests of each connection: how many changes the journal has, and how many requests could not be carried out.
+fn crowd(service: &Service, place: &Place, requests: usize, seed: u64) -> Result<(usize, usize), String> {
     let mut talks: Vec<JoinHandle<Result<Talk, String>>> = Vec::new();
     for connection in 0..CONNECTIONS {
         let client = service.connect()?;
@@ -26,16 +45,13 @@ pub fn check(program: &Program, requests: usize, seed: u64) -> Result<String, St
     for talk in talks {
         heard.push(talk.join().map_err(|_| "a client failed".to_string())??);
     }
-    let rows = rows::of(&place)?;
+    let rows = rows::of(place)?;
     let states = explained(&rows)?;
     for talk in &heard {
         explain(talk, &rows, &states)?;
     }
-    let (status, told) = service.end()?;
-    if !status.success() {
-        return Err(format!("it ended with {status}: {told}"));
-    }
-    Ok(format!("{CONNECTIONS} connections, {} changes, {requests} requests each", rows.len()))
+    let dropped = heard.iter().flatten().filter(|(_, answer)| answer == UNAVAILABLE).count();
+    Ok((rows.len(), dropped))
 }
 
 /// Requests one at a time, or some at once, and their answers.
@@ -85,10 +101,11 @@ fn explained(rows: &[Exchange]) -> Result<Vec<Account>, String> {
     Ok(states)
 }
 
-/// Each answer is one in a state not before that of the answer before it; an accepted change is the journal's next row of that request.
+/// Each answer is one in a state not before that of the answer before it; an accepted change is the journal's next row of that request. What
+/// could not be carried out is no row.
 fn explain(talk: &Talk, rows: &[Exchange], states: &[Account]) -> Result<(), String> {
     let mut at = 0;
-    for (request, answer) in talk {
+    for (request, answer) in talk.iter().filter(|(_, answer)| answer != UNAVAILABLE) {
         let unexplained = || format!("{} answers {} in no state from change {at} on", bytes(answer), bytes(request));
         let changes = answer == b"ok\n";
         let found = (at..states.len()).find(|&state| {

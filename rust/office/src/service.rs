@@ -65,6 +65,9 @@ impl Drop for Place {
     }
 }
 
+/// What a change that can't be kept is answered.
+pub const UNAVAILABLE: &[u8] = b"unavailable\n";
+
 /// The program to try.
 #[derive(Clone)]
 pub struct Program(pub String);
@@ -79,6 +82,14 @@ impl Program {
     /// Starts it and waits until it serves.
     pub fn start(&self, place: &Place) -> Result<Service, String> {
         Service::of(self.command(place), place)
+    }
+
+    /// The same with a limit on the size of its files, in blocks of 512 bytes.
+    pub fn start_limited(&self, place: &Place, blocks: usize) -> Result<Service, String> {
+        let mut command = Command::new("sh");
+        command.arg("-c").arg(format!("ulimit -f {blocks}; exec \"$0\" --data \"$1\" --socket \"$2\""));
+        command.arg(&self.0).arg(place.data()).arg(place.socket());
+        Service::of(command, place)
     }
 
     /// Runs it to its end: its status, and what it printed and told.
