@@ -10,7 +10,7 @@ use Rattle.outcomes.specs.declared.Outcome.{Outcome}
 use Rattle.outcomes.specs.Outcomes.{toldOf, foundOf, wroteOf, tickingOf, answerOf}
 
 -- what a question over the rows found, beside a list lent for a text
-abbrev pub told : rows.Outcome → List ℕ → Answer
+abbrev pub told : rows.Reported → List ℕ → Answer
 told o text = answerOf (foundOf (o .result)) (o .out) text
 
 module _ (m : State) (q : Request) where

@@ -108,11 +108,11 @@ module _ {A : Type 0} where
         rw (append-assoc (f x) (written f l) rest, reads x (written f l ++ rest), e .0, drop-at (f x) (written f l ++ rest) k (long x), read-back l rest (e .1))
 
   -- how a loop writes the values of an array a into a list: the first i are written
-  pub record Laid (f : A → List ℕ) (g : List ℕ → A) (a : List A) (before c : List ℕ) (i : ℕ) : Type 0 where
+  pub record Putting (f : A → List ℕ) (g : List ℕ → A) (a : List A) (before c : List ℕ) (i : ℕ) : Type 0 where
     pub so-far : c ≡ over (written f (take i a)) before
     pub back : Every (λ x. g (f x) ≡ x) (take i a)
 
-  pub laid-none : (f : A → List ℕ) (g : List ℕ → A) (a : List A) (before : List ℕ) → Laid f g a before before 0
+  pub laid-none : (f : A → List ℕ) (g : List ℕ → A) (a : List A) (before : List ℕ) → Putting f g a before before 0
   unfolding written Every
   laid-none f g a before = record { so-far = refl; back = tt }
 
@@ -123,7 +123,7 @@ module _ {A : Type 0} where
     fits : (i : ℕ) → i ≤ length a → i * k ≤ length before
     fits i h = le-trans (mul-le-mul-right k h) room
 
-    pub laid-more : (c c′ : List ℕ) (i at : ℕ) (d : A) → i < length a → at ≡ i * k → Laid f g a before c i → Put f g (getD a i d) at c c′ → Laid f g a before c′ (i + 1)
+    pub laid-more : (c c′ : List ℕ) (i at : ℕ) (d : A) → i < length a → at ≡ i * k → Putting f g a before c i → Put f g (getD a i d) at c c′ → Putting f g a before c′ (i + 1)
     laid-more c c′ i at d h e so p =
         let more : i * k + k ≤ length before = rw (suc-mul i k) at (fits (suc i) h) in
         record {
@@ -132,10 +132,10 @@ module _ {A : Type 0} where
           back = every-more (λ x. g (f x) ≡ x) a i d h (so .back) (p .back);
         }
 
-    pub laid-length : (c : List ℕ) (i : ℕ) → i ≤ length a → Laid f g a before c i → length c ≡ length before
+    pub laid-length : (c : List ℕ) (i : ℕ) → i ≤ length a → Putting f g a before c i → length c ≡ length before
     laid-length c i h so = ap length (so .so-far) ∙ over-length (written f (take i a)) before (rw (length-so-far i h) (fits i h))
 
-    pub laid-all : (c : List ℕ) (i : ℕ) → i ≡ length a → Laid f g a before c i → PutAll f g a before c
+    pub laid-all : (c : List ℕ) (i : ℕ) → i ≡ length a → Putting f g a before c i → PutAll f g a before c
     laid-all c i e so =
         let whole : take i a ≡ a = take-all i a (omega arith) in
         record {

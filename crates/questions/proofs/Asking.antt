@@ -27,7 +27,7 @@ as-question {ix} {days} {ns} {o = o} {ns′} e a = subst (λ (w : Question). Ask
 
 module _ {ix days ns : List ℕ} {l : Listed} {o : Outcome} (is : o ≡ foundOf l) {ns′ : List ℕ} where
   -- what the rows' outcome r tells is the account's answer
-  gave-asked : (w : Question) (r : rows.Outcome) → Gave l ns′ r
+  gave-asked : (w : Question) (r : rows.Reported) → Gave l ns′ r
       → ((m : State) (text : List ℕ) → Shows ix (m .published) → told r text ≡ step m (asking (Ask w) days ns text) .answer)
       → Asked ix w days ns o ns′
   gave-asked w r g answers = record { answer = λ m text s. rw (is, g .result, g .out) (answers m text s) }

@@ -1,4 +1,4 @@
-pub mod Laid
+pub mod PutUpTo
 pub mod Runs
 pub mod Claims
 pub mod Tied

@@ -13,7 +13,7 @@ use Rattle.coding.specs.declared.Next.the-variants.{Stop, Go}
 use Rattle.coding.specs.Coded.{codeWidth, resultWidth, codeAt, nextOf, decodeFrom, decode, told, resultsOf, numbersOf, textsOf}
 use Rattle.coding.proofs.Decoding.{Room, next-room, decode-stop, decode-go}
 use Rattle.replay.specs.Replayed.{tellAt, Holds, Replayed}
-use Rattle.replay.proofs.Laid.{Laid, laid-done, laid-more, put-drop, put-length, part-back, part-length}
+use Rattle.replay.proofs.PutUpTo.{PutUpTo, upto-done, upto-more, put-drop, put-length, part-back, part-length}
 
 -- ---- The loop's invariant
 
@@ -30,9 +30,9 @@ module _ (sv₀ : Service) (bs₀ : Blocks) (codes days results₀ numbers₀ te
     pub more : List Answer
     pub to-come : run state (decodeFrom codes (whole - made) made (drop d days) (drop n numbers) (drop t text)) ≡ more
     pub count : made + length more ≡ length (answers m₀)
-    pub told : Laid results₀ results (resultWidth * made) (resultsOf more) (resultsOf (answers m₀))
-    pub listed : Laid numbers₀ numbers n (numbersOf more) (numbersOf (answers m₀))
-    pub written : Laid text₀ text t (textsOf more) (textsOf (answers m₀))
+    pub told : PutUpTo results₀ results (resultWidth * made) (resultsOf more) (resultsOf (answers m₀))
+    pub listed : PutUpTo numbers₀ numbers n (numbersOf more) (numbersOf (answers m₀))
+    pub written : PutUpTo text₀ text t (textsOf more) (textsOf (answers m₀))
 
   -- THE LOOP'S INVARIANT
   pub record Going (sv : Service) (bs : Blocks) (results numbers text : List ℕ) (made d n t : ℕ) : Type 0 where
@@ -70,9 +70,9 @@ module _ (sv₀ : Service) (bs₀ : Blocks) (codes days results₀ numbers₀ te
         let none : f .more ≡ [] = sym (f .to-come) ∙ ap (run (f .state)) e in
         record {
           count = omega (arith, rw none at (f .count));
-          told = laid-done results₀ results (resultsOf (answers m₀)) (resultWidth * made) (rw none at (f .told));
-          listed = laid-done numbers₀ numbers (numbersOf (answers m₀)) n (rw none at (f .listed));
-          written = laid-done text₀ text (textsOf (answers m₀)) t (rw none at (f .written));
+          told = upto-done results₀ results (resultsOf (answers m₀)) (resultWidth * made) (rw none at (f .told));
+          listed = upto-done numbers₀ numbers (numbersOf (answers m₀)) n (rw none at (f .listed));
+          written = upto-done text₀ text (textsOf (answers m₀)) t (rw none at (f .written));
         }
 
     pub ended-all : whole ≤ made → (m₀ : State) → Represents sv₀ bs₀ m₀ → Holds (answers m₀) results₀ numbers₀ text₀ made results numbers text
@@ -134,9 +134,9 @@ module _ (sv₀ : Service) (bs₀ : Blocks) (codes days results₀ numbers₀ te
             more = more;
             to-come = refl;
             count = omega (arith, rw key at (f .count));
-            told = rw next (laid-more results results′ (told (answerOf (r .outcome) ns ts)) (resultWidth * made) resultWidth room refl er results₀ (resultsOf more) (resultsOf (answers m₀)) (rw key at (f .told)));
-            listed = laid-more numbers numbers′ ns n (c .numbers) numbers-room ln en numbers₀ (numbersOf more) (numbersOf (answers m₀)) (rw key at (f .listed));
-            written = laid-more text text′ ts t (c .text) text-room lt et text₀ (textsOf more) (textsOf (answers m₀)) (rw key at (f .written));
+            told = rw next (upto-more results results′ (told (answerOf (r .outcome) ns ts)) (resultWidth * made) resultWidth room refl er results₀ (resultsOf more) (resultsOf (answers m₀)) (rw key at (f .told)));
+            listed = upto-more numbers numbers′ ns n (c .numbers) numbers-room ln en numbers₀ (numbersOf more) (numbersOf (answers m₀)) (rw key at (f .listed));
+            written = upto-more text text′ ts t (c .text) text-room lt et text₀ (textsOf more) (textsOf (answers m₀)) (rw key at (f .written));
           }
 
       pub turn : Met sv bs asked r bs′ ns ts → Going (r .service) bs′ results′ numbers′ text′ (made + 1) (d + c .days) (n + c .numbers) (t + c .text)
@@ -187,16 +187,16 @@ whole-room codes results whole k e h = (omega arith, omega arith)
 -- ---- The beginning
 
 module _ (new : Bool) (register codes days results numbers text : List ℕ) (made : ℕ) (results′ numbers′ text′ : List ℕ) where
-  abbrev Held : State → Type 0
-  Held m = Holds (run m (decode codes days results numbers text)) results numbers text made results′ numbers′ text′
+  abbrev StateHeld : State → Type 0
+  StateHeld m = Holds (run m (decode codes days results numbers text)) results numbers text made results′ numbers′ text′
 
   abbrev Claim : ℕ → ℕ → Type 0
   Claim refusal line =
       Replayed new register codes days results numbers text (record { refusal = refusal; line = line; made = made }) results′ numbers′ text′
 
-  pub replayed-fresh : new ≡ true → Held fresh → Claim 0 0
+  pub replayed-fresh : new ≡ true → StateHeld fresh → Claim 0 0
   replayed-fresh e h = record { refusal = rw e; line = rw e; calls = rw e h }
 
   pub replayed-read : (refusal line : ℕ) → new ≡ false → refusal ≡ refusalIn (readText register) → line ≡ lineIn (readText register)
-      → Held (begun (readText register)) → Claim refusal line
+      → StateHeld (begun (readText register)) → Claim refusal line
   replayed-read refusal line e er el h = record { refusal = rw e er; line = rw e el; calls = rw e h }

@@ -8,7 +8,7 @@ use Rattle.buffer.specs.Buffer.{overlaid}
 use Rattle.buffer.proofs.Overlaid.{overlaid-all}
 use Rattle.stabbing.specs.declared.Listed.{Listed}
 use Rattle.calendar.specs.Calendar.{isDay, daysOk}
-use Rattle.stabbing.specs.Answer.{Outcome, Gave, give, question, risingFrom, containsAny, dayIn, daysOf, daysIn}
+use Rattle.stabbing.specs.Answer.{Reported, Gave, give, question, risingFrom, containsAny, dayIn, daysOf, daysIn}
 use Rattle.stabbing.specs.Contracts.{Holds, from}
 use Rattle.stabbing.proofs.Starts.{latest-is}
 use Rattle.stabbing.proofs.Steps.{keep-room}
@@ -92,14 +92,14 @@ module _ {ix : List ℕ} {d : ℕ} {part : List ℕ} (q : AddAsks ix d part) whe
   given = day-in ix d part (q .dated) ∙ rw listed (give-all (numbered ix finds) (formula fs ls (start fs ls d d) finds) part few)
 
   asked-is : asked ix d part ≡ numbered ix finds ++ drop (length (numbered ix finds)) part
-  asked-is = ap (λ (o : Outcome). o .out) given
+  asked-is = ap (λ (o : Reported). o .out) given
 
   pub asked-length : length (asked ix d part) ≡ length part
   asked-length = ap length asked-is ∙ length-append (numbered ix finds) (drop (length (numbered ix finds)) part) ∙ omega (arith, length-drop (length (numbered ix finds)) part, few)
 
   module _ {r : Listed} {xs : List ℕ} (g : Gave r xs (dayIn ix d part)) where
     count-is : r .count ≡ length (numbered ix finds)
-    count-is = ap (λ (l : Listed). l .count) (g .result ∙ ap (λ (o : Outcome). o .result) given)
+    count-is = ap (λ (l : Listed). l .count) (g .result ∙ ap (λ (o : Reported). o .result) given)
 
     pub count-in : r .count ≤ length xs
     count-in = omega (arith, count-is, few, ap length (g .out), asked-length)

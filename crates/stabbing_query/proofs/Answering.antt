@@ -13,7 +13,7 @@ use Rattle.stabbing.specs.Index.{firstColumn, lastColumn, startTable, latestTab
 use Rattle.stabbing.proofs.Block.{built-holds}
 use Rattle.calendar.specs.Calendar.{isDay}
 pub use Rattle.calendar.proofs.Calendar.{dated}
-use Rattle.stabbing.specs.Answer.{Outcome, refused, give, question, dayOf, dayIn, Gave, spanOf, spanIn, covering, coverOf, coverIn}
+use Rattle.stabbing.specs.Answer.{Reported, refused, give, question, dayOf, dayIn, Gave, spanOf, spanIn, covering, coverOf, coverIn}
 use Rattle.stabbing.specs.Contracts.{Holds}
 use Rattle.stabbing_query.specs.Contracts.{Now, Does, ClimbAt, WalkAsks, SpanAsks, numbered, decoded, listedOf}
 use Rattle.stabbing_query.proofs.Keeping.{now-place, comparisons-is}
@@ -127,10 +127,10 @@ module _ {ix : List ℕ} {h l m : ℕ} (q : Question ix h l m) where
   unfolding question
   answers out = rw (q .start, listing fs ls (holding .sorted) h l, comparisons-formula fs ls (holding .sorted) h l) (rw (keep-map (λ p. getD ix p 0) (λ p. getD (numbers ix) p 0) (fitsAt fs ls h l) (length fs) (holding .numbers)))
 
-  pub gives : (out : List ℕ) {after : List ℕ} {a r : Listed} {o : Outcome} → o ≡ question (numbers ix) fs ls h l out → Gave a after (listedOf ix l m out) → r ≡ a → Gave r after o
+  pub gives : (out : List ℕ) {after : List ℕ} {a r : Listed} {o : Reported} → o ≡ question (numbers ix) fs ls h l out → Gave a after (listedOf ix l m out) → r ≡ a → Gave r after o
   gives out z g t = rw (z, t) (rw (answers out) at g)
 
-pub refusal : {n : ℕ} {out : List ℕ} {o : Outcome} → o ≡ refused n out → {r : Listed} → r ≡ record { refusal = n; count = 0; comparisons = 0 } → Gave r out o
+pub refusal : {n : ℕ} {out : List ℕ} {o : Reported} → o ≡ refused n out → {r : Listed} → r ≡ record { refusal = n; count = 0; comparisons = 0 } → Gave r out o
 refusal e z = rw e (record { result = z; out = refl })
 
 -- day: a day on the calendar, and its start as it is stored

@@ -1,6 +1,6 @@
 -- What each call's result is, in terms of the account: pure facts, no code. Assumes nothing.
 use Rattle.basis.proofs.Prelude.{_∙_, _≡_, ap, refl, sym, _-_, _<_, _≤_, suc, ℕ, List, [], _∷_, reverse-reverse, false, true, drop, getD, length, length-append, length-drop, length-replicate, length-reverse, length-take, take, length-take-le, arith}
-use Rattle.standing.proofs.Names.{over, own-over, accepted, unknownNumber, noHistory, Spell, earlierOf, stands, Sound, Good, sameOf, text-order, blank, insert, remove, replace, idle, enterRefusal, amendRefusal, strikeRefusal, takeBackRefusal, frontOr, restOf, Undo, Standing, listOf, entries, undo, pastOf, pasts, Goods, Wf, Fresh, Edits, afterTakeBack, TakesBack, indexOf, relisted, holding, freshStanding, entering, replacing, noted, blankEntry, without, remove-at, length-insert, removed-gone, orderly-none, orderly-insert, orderly-remove, orderly-replace, remove-none, remove-insert, enters, amends, pop}
+use Rattle.standing.proofs.Names.{over, own-over, accepted, unknownNumber, noHistory, Spell, earlierOf, stands, Sound, Good, sameOf, text-order, blank, insert, remove, replace, idle, enterRefusal, amendRefusal, strikeRefusal, takeBackRefusal, frontOr, restOf, Undo, Standing, listOf, entries, undo, pastOf, pasts, Goods, Wf, Fresh, Edits, afterTakeBack, TakesBack, standsAt, relisted, holding, freshStanding, entering, replacing, noted, blankEntry, without, remove-at, length-insert, removed-gone, orderly-none, orderly-insert, orderly-remove, orderly-replace, remove-none, remove-insert, enters, amends, pop}
 use Rattle.standing.proofs.Places.{same, over-same, list-over, past-over, wf-over}
 use Rattle.standing.proofs.Edits.{idle-index, insert-remove}
 use Rattle.standing.proofs.Checks.{found, strike-refusal}
@@ -10,7 +10,7 @@ pub list-length : {st : Standing} → Wf st → length (listOf st) ≡ st .count
 list-length {st} w = length-take-le (st .count) (st .spells) (omega (arith, w .places, w .count-in))
 
 -- a removal at the place of the number k is the removal of k
-pub removed-is : (k : ℕ) {p : ℕ} (l : List Spell) → p ≡ indexOf k l → without p l ≡ remove k l
+pub removed-is : (k : ℕ) {p : ℕ} (l : List Spell) → p ≡ standsAt k l → without p l ≡ remove k l
 removed-is k l e = ap (λ (i : ℕ). without i l) e ∙ sym (remove-at k l)
 
 -- ---- Enter
@@ -26,7 +26,7 @@ enter-made {st} {s} w sound done =
 
 -- ---- Strike and amend: the spell that stands at p goes
 
-module _ {st : Standing} (w : Wf st) (k : ℕ) {p : ℕ} (e : p ≡ indexOf k (listOf st)) (h : p < st .count) where
+module _ {st : Standing} (w : Wf st) (k : ℕ) {p : ℕ} (e : p ≡ standsAt k (listOf st)) (h : p < st .count) where
   there : stands (listOf st) k ≡ true
   there = found (listOf st) k (list-length w) e h
 
@@ -50,7 +50,7 @@ module _ {st : Standing} (w : Wf st) (k : ℕ) {p : ℕ} (e : p ≡ indexOf k (l
       (unfold undo in rw (remove-none k (remove k (listOf st)) (removed-gone k (listOf st) (w .good .unique))) put-back)
       (unfold strikeRefusal in rw there))
 
-pub strike-unknown : {st : Standing} (w : Wf st) (k : ℕ) {p : ℕ} → p ≡ indexOf k (listOf st) → st .count ≤ p
+pub strike-unknown : {st : Standing} (w : Wf st) (k : ℕ) {p : ℕ} → p ≡ standsAt k (listOf st) → st .count ≤ p
     → Edits st (record { standing = st; refusal = unknownNumber }) false (strikeRefusal (listOf st) k) (remove k (listOf st)) (replacing k (listOf st))
 strike-unknown {st} w k e h = refused false w (λ z. omega arith) (strike-refusal (listOf st) k (list-length w) e h)
 
@@ -60,11 +60,11 @@ amend-room {st} {p} w h =
     omega (arith, length-append (take p (listOf st)) (drop (suc p) (listOf st)), length-take p (listOf st), length-drop (suc p) (listOf st), list-length w, w .count-in)
 
 -- what is found is the spell of an idle amend
-pub idle-is : {st : Standing} (s : Spell) (w : Wf st) {p : ℕ} → p ≡ indexOf (s .number) (listOf st) → p < st .count
+pub idle-is : {st : Standing} (s : Spell) (w : Wf st) {p : ℕ} → p ≡ standsAt (s .number) (listOf st) → p < st .count
     → idle (listOf st) s ≡ sameOf (getD (listOf st) p blank) s
 idle-is {st} s w {p} e h = rw e (idle-index s (listOf st) (there w (s .number) e h))
 
-pub amend-made : {st : Standing} {s : Spell} (w : Wf st) {p : ℕ} (e : p ≡ indexOf (s .number) (listOf st)) (h : p < st .count) → Sound s
+pub amend-made : {st : Standing} {s : Spell} (w : Wf st) {p : ℕ} (e : p ≡ standsAt (s .number) (listOf st)) (h : p < st .count) → Sound s
     → amendRefusal (listOf st) s ≡ accepted → idle (listOf st) s ≡ false
     → Edits st (record { standing = holding st (insert s (without p (listOf st))) (noted (record { number = s .number; stood = true; spell = getD (listOf st) p blank }) (entries st)); refusal = accepted })
     (idle (listOf st) s)

@@ -1,11 +1,11 @@
 -- The order of the checks: what enter, amend and strike compute is the refusal of the account. Assumes nothing.
 use Rattle.basis.proofs.Prelude.{_∙_, _≡_, ap, refl, sym, _<_, _≤_, ℕ, List, Bool, cond, false, true, eqb, eqb-true, leb, ltb, length, le-leb, le-ltb, lt-leb, lt-ltb, ltb-false, ltb-true, by-test}
-use Rattle.standing.proofs.Names.{accepted, duplicateNumber, unknownNumber, full, Spell, refusalOf, stands, orElse, enterRefusal, amendRefusal, strikeRefusal, indexOf, enterCheck, amendCheck}
+use Rattle.standing.proofs.Names.{accepted, duplicateNumber, unknownNumber, full, Spell, refusalOf, stands, orElse, enterRefusal, amendRefusal, strikeRefusal, standsAt, enterCheck, amendCheck}
 use Rattle.standing.proofs.Edits.{stands-index}
 
 -- ---- A number is looked for in the list l of n spells: p is where it stands, or n
 
-module _ (l : List Spell) (k : ℕ) {n p : ℕ} (long : length l ≡ n) (at-index : p ≡ indexOf k l) where
+module _ (l : List Spell) (k : ℕ) {n p : ℕ} (long : length l ≡ n) (at-index : p ≡ standsAt k l) where
   stands-is : stands l k ≡ ltb p n
   stands-is = rw (at-index, ← long) (stands-index k l)
 
@@ -31,7 +31,7 @@ two false f = refl
 beyond : (p n : ℕ) → cond (ltb p n) accepted unknownNumber ≡ cond (leb n p) unknownNumber accepted
 beyond p n = by-test (ltb p n) (λ e. rw (e, lt-leb n p (ltb-true p n e))) (λ e. rw (e, le-leb n p (ltb-false p n e)))
 
-module _ (l : List Spell) (s : Spell) {n p : ℕ} (long : length l ≡ n) (at-index : p ≡ indexOf (s .number) l) where
+module _ (l : List Spell) (s : Spell) {n p : ℕ} (long : length l ≡ n) (at-index : p ≡ standsAt (s .number) l) where
   pub enter-refusal : enterRefusal l s ≡ enterCheck s p n
   unfolding enterRefusal
   enter-refusal = rw (stands-is l (s .number) long at-index, long) (ap (λ (r : ℕ). orElse (refusalOf s) r) (two (ltb p n) (leb 1024 n)))

@@ -38,8 +38,8 @@ pub use Rattle.standing_journal.specs.declared.Undo.{Undo}
 pub use Rattle.standing_list.proofs.Search.{remove-at}
 pub use Rattle.standing_list.proofs.Changing.{counted-is}
 pub use Rattle.standing_list.specs.List.{changing, countedOf, putting, without}
-pub use Rattle.standing_list.specs.Search.{foundIn, indexOf}
-pub use Rattle.standing_list.specs.declared.Found.{Found}
+pub use Rattle.standing_list.specs.Search.{foundIn, standsAt}
+pub use Rattle.standing_list.specs.declared.Located.{Located}
 unfoldable pub use Rattle.standing_list.specs.Search.{lead}
 pub use Rattle.standing_journal.specs.Journal.{noting}
 pub use Rattle.standing.specs.Contracts.{amendCheck, deeperBy, enterCheck, newestOf, noPlan, planAmend, planBack, planEnter, planStrike}

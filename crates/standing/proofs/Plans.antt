@@ -1,6 +1,6 @@
 -- A plan carried out is what the account says of its call: pure facts, no code. Assumes nothing.
 use Rattle.basis.proofs.Prelude.{_∙_, _≡_, ap, refl, sym, _+_, _-_, _<_, _≤_, suc, ℕ, List, _∷_, Bool, cond, false, true, eqb, leb, drop-of-length-le, append-nil, getD, length, length-reverse, length-take, take, length-take-le, take-all, arith, eqb-false, eqb-true, le-leb, leb-false, leb-true, lt-leb, lt-ltb, by-test}
-use Rattle.standing.proofs.Names.{own-over, accepted, unknownNumber, noHistory, Spell, Sound, sameOf, blank, insert, remove, idle, enterRefusal, amendRefusal, strikeRefusal, enters, amends, Call, Enter, Amend, Strike, TakeBack, Publish, Write, Ask, Undo, blankEntry, noting, Standing, Edited, Plan, listOf, entries, Wf, TakesBack, Keeps, Does, indexOf, changing, countedOf, counted-is, putting, without, Found, foundIn, relisted, holding, noted, entering, amendCheck, deeperBy, enterCheck, newestOf, noPlan, planAmend, planBack, planEnter, planStrike, planOf, numberOf, Takes}
+use Rattle.standing.proofs.Names.{own-over, accepted, unknownNumber, noHistory, Spell, Sound, sameOf, blank, insert, remove, idle, enterRefusal, amendRefusal, strikeRefusal, enters, amends, Call, Enter, Amend, Strike, TakeBack, Publish, Write, Ask, Undo, blankEntry, noting, Standing, Edited, Plan, listOf, entries, Wf, TakesBack, Keeps, Does, standsAt, changing, countedOf, counted-is, putting, without, Located, foundIn, relisted, holding, noted, entering, amendCheck, deeperBy, enterCheck, newestOf, noPlan, planAmend, planBack, planEnter, planStrike, planOf, numberOf, Takes}
 use Rattle.standing.proofs.Places.{same}
 use Rattle.standing.proofs.Checks.{found, missed, place-in, enter-refusal, amend-refusal}
 use Rattle.standing.proofs.Past.{unmade, refused}
@@ -60,7 +60,7 @@ module _ {st : Standing} (w : Wf st) where
 
   -- ---- Each edit
 
-  module _ (s : Spell) {p : ℕ} (at : p ≡ indexOf (s .number) (listOf st)) where
+  module _ (s : Spell) {p : ℕ} (at : p ≡ standsAt (s .number) (listOf st)) where
     -- the plans of an entry and of an amend, by what the checks gave
     abbrev entered : ℕ → Plan
     entered z = cond (eqb z accepted)
@@ -110,14 +110,14 @@ module _ {st : Standing} (w : Wf st) where
             (amend-made w at h taken done (idles ∙ other))))
             (λ e. rw (e, kept z) (refused (idle (listOf st) s) w (eqb-false z accepted e) is))
 
-  strike-does : (k : ℕ) {p : ℕ} → p ≡ indexOf k (listOf st) → Does st (Strike k) (outcome st (planStrike k p (getD (listOf st) p blank) (st .count) (st .depth)))
+  strike-does : (k : ℕ) {p : ℕ} → p ≡ standsAt k (listOf st) → Does st (Strike k) (outcome st (planStrike k p (getD (listOf st) p blank) (st .count) (st .depth)))
   unfolding Does
   strike-does k {p} at =
       by-test (leb (st .count) p)
       (λ e. rw (e, kept unknownNumber) (strike-unknown w k at (leb-true (st .count) p e)))
       (λ e. rw (e, made accepted p false blank (record { number = k; stood = true; spell = getD (listOf st) p blank }) refl) (strike-made w k at (leb-false (st .count) p e)))
 
-  back-does : {p : ℕ} → p ≡ indexOf (newestOf (st .depth) (st .journal) .number) (listOf st) → Does st TakeBack (outcome st (planBack (newestOf (st .depth) (st .journal)) p (st .depth)))
+  back-does : {p : ℕ} → p ≡ standsAt (newestOf (st .depth) (st .journal) .number) (listOf st) → Does st TakeBack (outcome st (planBack (newestOf (st .depth) (st .journal)) p (st .depth)))
   unfolding Does
   back-does {p} at =
       by-test (eqb (st .depth) 0)
@@ -142,7 +142,7 @@ module _ {st : Standing} (w : Wf st) where
 
 -- what is found under the number that a call is about leads to a plan that, carried out, is what the account says
 pub does : {st : Standing} (w : Wf st) (c : Call) → let newest = newestOf (st .depth) (st .journal) in
-    let p = indexOf (numberOf c (newest .number)) (listOf st) in
+    let p = standsAt (numberOf c (newest .number)) (listOf st) in
     let plan = planOf c newest p (getD (listOf st) p blank) (st .count) (st .depth) in
     Takes c (plan .refusal) → Does st c (outcome st plan)
 unfolding planOf numberOf Takes Does
@@ -160,7 +160,7 @@ pub as-planned : {c c′ : Call} (e : Undo) (p : ℕ) (old : Spell) (n d : ℕ) 
 as-planned e p old n d is h = rw is h
 
 -- what the code makes, step by step, is a plan carried out
-pub carried : {st : Standing} (w : Wf st) (c : Call) {e : Undo} {k : ℕ} {f : Found} {x : Plan} {a : List Spell} {m : ℕ} {j : List Undo} {d : ℕ}
+pub carried : {st : Standing} (w : Wf st) (c : Call) {e : Undo} {k : ℕ} {f : Located} {x : Plan} {a : List Spell} {m : ℕ} {j : List Undo} {d : ℕ}
     → e ≡ newestOf (st .depth) (st .journal)
     → k ≡ numberOf c (e .number)
     → f ≡ foundIn k (listOf st)
@@ -168,6 +168,6 @@ pub carried : {st : Standing} (w : Wf st) (c : Call) {e : Undo} {k : ℕ} {f : F
     → a ≡ applied st x .spells → m ≡ applied st x .count → j ≡ applied st x .journal → d ≡ applied st x .depth
     → Does st c (record { standing = record { spells = a; count = m; journal = j; depth = d }; refusal = x .refusal })
 carried {st} w c {x = x} ee ek ef ex ea em ej ed =
-    let is : x ≡ planOf c (newestOf (st .depth) (st .journal)) (indexOf (numberOf c (newestOf (st .depth) (st .journal) .number)) (listOf st)) (getD (listOf st) (indexOf (numberOf c (newestOf (st .depth) (st .journal) .number)) (listOf st)) blank) (st .count) (st .depth) =
+    let is : x ≡ planOf c (newestOf (st .depth) (st .journal)) (standsAt (numberOf c (newestOf (st .depth) (st .journal) .number)) (listOf st)) (getD (listOf st) (standsAt (numberOf c (newestOf (st .depth) (st .journal) .number)) (listOf st)) blank) (st .count) (st .depth) =
     ex .0 ∙ rw (ef, ek, ee) in
     rw (ea, em, ej, ed, is) (does w c (rw is at (ex .1)))

@@ -7,7 +7,7 @@ use Rattle.buffer.specs.Buffer.{over}
 use Rattle.spell.specs.declared.Spell.{Spell}
 use Rattle.spell.specs.Blank.{blank}
 use Rattle.register.specs.declared.Reading.{Reading}
-use Rattle.standing_list.specs.Search.{indexOf}
+use Rattle.standing_list.specs.Search.{standsAt}
 use Rattle.standing_journal.specs.declared.Undo.{Undo}
 use Rattle.standing_journal.specs.Journal.{blankEntry}
 use Rattle.standing.specs.declared.Standing.{Standing}
@@ -45,4 +45,4 @@ entering s = record { number = s .number; stood = false; spell = s }
 
 -- the spell of the number k goes from the list l, by an amend or a strike: the entry holds it
 abbrev pub replacing : ℕ → List Spell → Undo
-replacing k l = record { number = k; stood = true; spell = getD l (indexOf k l) blank }
+replacing k l = record { number = k; stood = true; spell = getD l (standsAt k l) blank }

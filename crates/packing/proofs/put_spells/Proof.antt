@@ -3,13 +3,13 @@ use Rattle.basis.proofs.Prelude.{_≡_, sym, _*_, _-_, _≤_, length, arith, ne
 use Rattle.spell.specs.Blank.{blank}
 use Rattle.packing.specs.Blocks.{written}
 use Rattle.packing.specs.Words.{spellWords, spellOf}
-use Rattle.packing.proofs.Blocks.{put-none, written-length, Laid, laid-none, laid-more, laid-length, laid-all}
+use Rattle.packing.proofs.Blocks.{put-none, written-length, Putting, laid-none, laid-more, laid-length, laid-all}
 use Rattle.packing.proofs.Words.{spell-long}
 use Rattle.packing.proofs.put_spells.Statement.{statement}
 use Rattle.packing.proofs.put_spells.Tie as tie
 
 abbrev Inv-loop : tie.InvT-loop
-Inv-loop out₀ spells i₀ out i = (i ≤ 1024) × Laid spellWords spellOf spells out₀ out i
+Inv-loop out₀ spells i₀ out i = (i ≤ 1024) × Putting spellWords spellOf spells out₀ out i
 
 abbrev μ-loop : tie.MeasureT-loop
 μ-loop out₀ spells i₀ out i = 1024 - i

@@ -2,7 +2,7 @@
 use Rattle.basis.proofs.Prelude.{_≡_, sym, _*_, _-_, _≤_, ℕ, List, length, arith, needs}
 use denote.Ref.{now}
 use Rattle.packing.specs.Blocks.{written}
-use Rattle.packing.proofs.Blocks.{put-none, written-length, Laid, laid-none, laid-more, laid-length, laid-all}
+use Rattle.packing.proofs.Blocks.{put-none, written-length, Putting, laid-none, laid-more, laid-length, laid-all}
 use Rattle.standing_journal.specs.declared.Undo.{Undo}
 use Rattle.standing_journal.specs.Words.{entryWords, entryOf}
 use Rattle.standing_journal.specs.Journal.{blankEntry}
@@ -11,7 +11,7 @@ use Rattle.standing_journal.proofs.put_journal.Statement.{statement}
 use Rattle.standing_journal.proofs.put_journal.Tie as tie
 
 abbrev Inv-loop : tie.InvT-loop
-Inv-loop out₀ journal i₀ out i = (i ≤ 64) × Laid entryWords entryOf journal out₀ out i
+Inv-loop out₀ journal i₀ out i = (i ≤ 64) × Putting entryWords entryOf journal out₀ out i
 
 abbrev μ-loop : tie.MeasureT-loop
 μ-loop out₀ journal i₀ out i = 64 - i

@@ -3,12 +3,12 @@ use Rattle.basis.proofs.Prelude.{_∙_, _≡_, sym, _+_, _≤_, ℕ, List, [], 
 use Rattle.buffer.specs.Buffer.{over}
 
 -- l as it is up to the place at, and new in its places from there on: the whole is all over what the list was, l₀
-abbrev pub Laid : List ℕ → List ℕ → ℕ → List ℕ → List ℕ → Type 0
-Laid l₀ l at new all = take at l ++ over new (drop at l) ≡ over all l₀
+abbrev pub PutUpTo : List ℕ → List ℕ → ℕ → List ℕ → List ℕ → Type 0
+PutUpTo l₀ l at new all = take at l ++ over new (drop at l) ≡ over all l₀
 
 -- at the end nothing is new
-pub laid-done : (l₀ l all : List ℕ) (at : ℕ) → Laid l₀ l at [] all → l ≡ over all l₀
-laid-done l₀ l all at e = sym (take-append-drop at l) ∙ e
+pub upto-done : (l₀ l all : List ℕ) (at : ℕ) → PutUpTo l₀ l at [] all → l ≡ over all l₀
+upto-done l₀ l all at e = sym (take-append-drop at l) ∙ e
 
 -- a turn puts the part u into the m places at k
 module _ (l l′ u : List ℕ) (k m : ℕ) (room : k + m ≤ length l) (long : length u ≡ m) (put : l′ ≡ (take k l ++ u) ++ drop (k + m) l) where
@@ -29,8 +29,8 @@ module _ (l l′ u : List ℕ) (k m : ℕ) (room : k + m ≤ length l) (long : l
       let e : length (u ++ v) ≡ m + length v = omega (arith, length-append u v) in
       rw (put-take, put-drop, e) (simp (append-assoc, drop-drop, add-assoc))
 
-  pub laid-more : (l₀ v all : List ℕ) → Laid l₀ l k (u ++ v) all → Laid l₀ l′ (k + m) v all
-  laid-more l₀ v all e = put-over v ∙ e
+  pub upto-more : (l₀ v all : List ℕ) → PutUpTo l₀ l k (u ++ v) all → PutUpTo l₀ l′ (k + m) v all
+  upto-more l₀ v all e = put-over v ∙ e
 
 -- a part of k places at the place n, lent and back with u in it
 pub part-back : (l u : List ℕ) (n k m : ℕ) → k ≡ m → take n l ++ (u ++ drop k (drop n l)) ≡ (take n l ++ u) ++ drop (n + m) l
