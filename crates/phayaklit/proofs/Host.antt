@@ -10,7 +10,7 @@ use Rattle.service.specs.Packed.{packed, unpacked, Packs}
 use Rattle.rules.specs.Rules.{isRule}
 use Rattle.model.specs.Publishing.{publishedOf}
 use Rattle.published_index.specs.Index.{indexOf}
-use Rattle.service.specs.Service.{Blocks, Valid, Represents, Changed, Publishes}
+use Rattle.service.specs.Service.{Blocks, Valid, Represents, Changes, Publishes}
 use Rattle.phayaklit.specs.declared.Reply.{Reply}
 use Rattle.phayaklit.specs.Host.{Held, Laid, outcomeOf, steppedOf}
 
@@ -28,8 +28,8 @@ pub begun-fresh : (words : List ℕ) (bs : Blocks) (sv : Service) → Packs sv w
 begun-fresh words bs sv p f = (rw (p .back) (f .0), (laid words sv p, p .words ∙ ap packed (f .1)))
 
 -- an edit of the service of the words, packed again
-pub edited : (words words′ : List ℕ) (sv : Service) (c : Call) (r : Stepped) (x : Reply) → sv ≡ unpacked words → steppedOf words′ x ≡ r → Changed sv c r
-    → Changed (unpacked words) c (steppedOf words′ x)
+pub edited : (words words′ : List ℕ) (sv : Service) (c : Call) (r : Stepped) (x : Reply) → sv ≡ unpacked words → steppedOf words′ x ≡ r → Changes sv c r
+    → Changes (unpacked words) c (steppedOf words′ x)
 edited words words′ sv c r x e f h = rw (← e, f) h
 
 -- publish keeps the service, so the words need not be packed again

@@ -9,7 +9,7 @@ ghost use Rattle.service.specs.Places.{freshService};
 ghost use Rattle.service.specs.Packed.{packed, unpacked};
 ghost use Rattle.published_index.specs.Index.{indexOf, Published};
 ghost use Rattle.questions.specs.Asked.{Asked};
-ghost use Rattle.service.specs.Service.{blocks, Valid, Represents, Changed, Publishes, Wrote, Begins};
+ghost use Rattle.service.specs.Service.{blocks, Valid, Represents, Changed, Changes, Publishes, Wrote, Begins};
 ghost use Rattle.phayaklit.specs.Host.{version, Held, Laid, spellIn, outcomeOf, steppedOf, startedOf};
 use model::Call;
 use model::Question;
@@ -140,6 +140,16 @@ pub extern "C" fn phayaklit_read(
 
 // ---- Edits: the index is not touched
 
+// Any call, as an edit of the service in the host's words: the one place that unpacks it, edits it and packs it again.
+fn edit(words: &mut [u16; SERVICE], call: Call) -> Reply
+    requires { ⌜ Held (now words) ⌝ }
+    ensures { λ r. ⌜ Changes (unpacked (now (words .entry))) call (steppedOf (now (words .exit)) r) ⌝ }
+    ensures { λ _. ⌜ Laid (now (words .exit)) ⌝ }
+{
+    let service = service::unpack(words);
+    put_back(service::edit(service, call), words)
+}
+
 // Put a spell in.
 #[no_mangle]
 pub extern "C" fn phayaklit_enter(words: &mut [u16; SERVICE], entry: Entry) -> Reply
@@ -147,8 +157,7 @@ pub extern "C" fn phayaklit_enter(words: &mut [u16; SERVICE], entry: Entry) -> R
     ensures { λ r. ⌜ Changed (unpacked (now (words .entry))) (Call.Enter (spellIn entry)) (steppedOf (now (words .exit)) r) ⌝ }
     ensures { λ _. ⌜ Laid (now (words .exit)) ⌝ }
 {
-    let service = service::unpack(words);
-    put_back(service::enter(service, spell_in(entry)), words)
+    edit(words, Call::Enter(spell_in(entry)))
 }
 
 // Replace the spell of that number by the given one.
@@ -158,8 +167,7 @@ pub extern "C" fn phayaklit_amend(words: &mut [u16; SERVICE], entry: Entry) -> R
     ensures { λ r. ⌜ Changed (unpacked (now (words .entry))) (Call.Amend (spellIn entry)) (steppedOf (now (words .exit)) r) ⌝ }
     ensures { λ _. ⌜ Laid (now (words .exit)) ⌝ }
 {
-    let service = service::unpack(words);
-    put_back(service::amend(service, spell_in(entry)), words)
+    edit(words, Call::Amend(spell_in(entry)))
 }
 
 // Remove the spell of that number.
@@ -169,8 +177,7 @@ pub extern "C" fn phayaklit_strike(words: &mut [u16; SERVICE], number: u16) -> R
     ensures { λ r. ⌜ Changed (unpacked (now (words .entry))) (Call.Strike number) (steppedOf (now (words .exit)) r) ⌝ }
     ensures { λ _. ⌜ Laid (now (words .exit)) ⌝ }
 {
-    let service = service::unpack(words);
-    put_back(service::strike(service, number), words)
+    edit(words, Call::Strike(number))
 }
 
 // The standing list becomes the front of the past, which loses it.
@@ -180,8 +187,7 @@ pub extern "C" fn phayaklit_take_back(words: &mut [u16; SERVICE]) -> Reply
     ensures { λ r. ⌜ Changed (unpacked (now (words .entry))) Call.TakeBack (steppedOf (now (words .exit)) r) ⌝ }
     ensures { λ _. ⌜ Laid (now (words .exit)) ⌝ }
 {
-    let service = service::unpack(words);
-    put_back(service::take_back(service), words)
+    edit(words, Call::TakeBack)
 }
 
 // ---- Publish and writing: the service is read and not written

@@ -5,9 +5,9 @@ use Rattle.spell.specs.declared.Spell.{Spell}
 use Rattle.standing.specs.declared.Edited.{Edited}
 use Rattle.standing_journal.specs.declared.Undo.{Undo}
 use Rattle.standing.specs.Places.{entering, replacing}
-use Rattle.standing.specs.Standing.{Wf, listOf, pasts, makes, afterEdit, Edits, Does}
+use Rattle.standing.specs.Standing.{Wf, listOf, pasts, makes, afterEdit, Edits, TakesBack, Does}
 use Rattle.model.specs.declared.Call.{Call}
-use Rattle.model.specs.declared.Call.the-variants.{Enter, Amend, Strike, TakeBack}
+use Rattle.model.specs.declared.Call.the-variants.{Enter, Amend, Strike, TakeBack, Publish, Write, Ask}
 use Rattle.model.specs.Edits.{insert, remove, replace, idle, enterRefusal, amendRefusal, strikeRefusal, takeBackRefusal, remember, frontOr, restOf}
 use Rattle.model.specs.Effects.{State, withStanding, Effect, refused, done, settle}
 use Rattle.model.specs.Model.{become, edit, takeBack, effectOf}
@@ -15,7 +15,7 @@ use Rattle.outcomes.specs.Outcomes.{toldOf, asking, answerOf}
 use Rattle.service.specs.declared.Service.{Service}
 use Rattle.service.specs.declared.Stepped.{Stepped}
 use Rattle.service.specs.Places.{serviceOf, leavesOf}
-use Rattle.service.specs.Service.{Blocks, Represents, Changed}
+use Rattle.service.specs.Service.{Blocks, Valid, Represents, Changed, Changes}
 
 -- the call's result
 abbrev pub steppedOf : Edited → Stepped
@@ -68,7 +68,7 @@ module _ (sv : Service) (c : Call) (e : Edited) (i : List Spell → Bool) (n : L
     shows = h .shows;
   }
 
-  pub edit-changed : Changed sv c (steppedOf e)
+  edit-changed : Changed sv c (steppedOf e)
   unfolding settle
   edit-changed = changed sv c e (d .wf) (d .whole ∙ sym left) (λ t. d .kept (unmade (i l) (n l) (rw (d .refusal) at t))) (λ m bs days h.
       let k : ℕ = n l in
@@ -81,18 +81,6 @@ module _ (sv : Service) (c : Call) (e : Edited) (i : List Spell → Bool) (n : L
       (λ y. by-cases (Follows e bs m) (eqb k accepted) (λ t. done t m (kept (rw y) h)) refused)
       (λ y. by-cases (Follows e bs m) (eqb k accepted) (λ t. done t _ (made (rw (y, t)) h)) refused)))
 
-pub enter-changed : (sv : Service) (s : Spell) (e : Edited) → Does (sv .standing) (Enter s) e → Changed sv (Enter s) (steppedOf e)
-unfolding effectOf leavesOf Does
-enter-changed sv s e d = edit-changed sv (Enter s) e (λ _. false) (λ l. enterRefusal l s) (insert s) (entering s) refl (λ m ds. refl) d
-
-pub amend-changed : (sv : Service) (s : Spell) (e : Edited) → Does (sv .standing) (Amend s) e → Changed sv (Amend s) (steppedOf e)
-unfolding effectOf leavesOf Does
-amend-changed sv s e d = edit-changed sv (Amend s) e (λ l. idle l s) (λ l. amendRefusal l s) (replace s) (replacing (s .number) (listOf (sv .standing))) refl (λ m ds. refl) d
-
-pub strike-changed : (sv : Service) (k : ℕ) (e : Edited) → Does (sv .standing) (Strike k) e → Changed sv (Strike k) (steppedOf e)
-unfolding effectOf leavesOf Does
-strike-changed sv k e d = edit-changed sv (Strike k) e (λ _. false) (λ l. strikeRefusal l k) (remove k) (replacing k (listOf (sv .standing))) refl (λ m ds. refl) d
-
 -- ---- Take back
 
 -- it is refused where there is no past
@@ -101,8 +89,8 @@ unfolding takeBackRefusal
 no-past [] t = refl
 no-past (l ∷ past) t = absurd (false≢true (sym t))
 
-pub back-changed : (sv : Service) (e : Edited) → Does (sv .standing) TakeBack e → Changed sv TakeBack (steppedOf e)
-unfolding effectOf takeBack settle takeBackRefusal frontOr restOf leavesOf Does
+back-changed : (sv : Service) (e : Edited) → TakesBack (sv .standing) e → Changed sv TakeBack (steppedOf e)
+unfolding effectOf takeBack settle takeBackRefusal frontOr restOf leavesOf
 back-changed sv e d = changed sv TakeBack e (d .wf) (d .whole) (λ t. d .kept (no-past (pasts (sv .standing)) (rw (d .refusal) at t))) (λ m bs days h.
     subst (λ (past : List (List Spell)). Follows e bs m (takeBack past m)) (h .past)
     (go m bs (pasts (sv .standing)) (h .past) h (d .refusal) (d .list) (d .past)))
@@ -112,3 +100,27 @@ back-changed sv e d = changed sv TakeBack e (d .wf) (d .whole) (λ t. d .kept (n
         → Follows e bs m (takeBack past m)
     go m bs [] p h r l b days numbers text c = (rw r, record { valid = record { standing = d .wf }; standing = l ∙ h .standing; past = b ∙ p; shows = h .shows })
     go m bs (x ∷ past) p h r l b days numbers text c = (rw r, record { valid = record { standing = d .wf }; standing = l; past = b; shows = h .shows })
+
+-- ---- Any call
+
+-- what a call makes of the standing list is what it makes of the service
+pub changes : (sv : Service) (c : Call) (e : Edited) → Does (sv .standing) c e → Changes sv c (steppedOf e)
+unfolding effectOf leavesOf Does Changes
+changes sv (Enter s) e d = edit-changed sv (Enter s) e (λ _. false) (λ l. enterRefusal l s) (insert s) (entering s) refl (λ m ds. refl) d
+changes sv (Amend s) e d = edit-changed sv (Amend s) e (λ l. idle l s) (λ l. amendRefusal l s) (replace s) (replacing (s .number) (listOf (sv .standing))) refl (λ m ds. refl) d
+changes sv (Strike k) e d = edit-changed sv (Strike k) e (λ _. false) (λ l. strikeRefusal l k) (remove k) (replacing k (listOf (sv .standing))) refl (λ m ds. refl) d
+changes sv TakeBack e d = back-changed sv e d
+changes sv (Publish rule) e d = ap steppedOf d
+changes sv Write e d = ap steppedOf d
+changes sv (Ask w) e d = ap steppedOf d
+
+-- and leaves the service one that the calls gave
+pub changes-valid : {sv : Service} (c : Call) (r : Stepped) → Valid sv → Changes sv c r → Valid (r .service)
+unfolding Changes
+changes-valid (Enter s) r v d = d .valid
+changes-valid (Amend s) r v d = d .valid
+changes-valid (Strike k) r v d = d .valid
+changes-valid TakeBack r v d = d .valid
+changes-valid (Publish rule) r v d = rw d v
+changes-valid Write r v d = rw d v
+changes-valid (Ask w) r v d = rw d v

@@ -16,17 +16,14 @@ use Rattle.service.specs.declared.Service.{Service}
 use Rattle.service.specs.declared.Stepped.{Stepped}
 use Rattle.service.specs.declared.Started.{Started}
 use Rattle.service.specs.Places.{freshService}
-use Rattle.service.specs.Service.{Blocks, blocks, Valid, Represents, Given, keeping, Met, Begins}
+use Rattle.service.specs.Service.{Blocks, blocks, Valid, Represents, Given, keeping, Met, Changes, Begins}
 use Rattle.service.specs.Packed.{unpacked, Packs}
 use Rattle.service.specs.History.{Steps}
 use Rattle.service.proofs.Asking.{asked-met}
 use Rattle.service.proofs.Beginning.{publishes-met}
 use Rattle.service.proofs.fresh.Reads as fresh-reads
 use Rattle.service.proofs.read.Reads as read-reads
-use Rattle.service.proofs.enter.Reads as enter-reads
-use Rattle.service.proofs.amend.Reads as amend-reads
-use Rattle.service.proofs.strike.Reads as strike-reads
-use Rattle.service.proofs.take_back.Reads as take-back-reads
+use Rattle.service.proofs.edit.Reads as edit-reads
 use Rattle.service.proofs.publish.Reads as publish-reads
 use Rattle.service.proofs.write.Reads as write-reads
 use Rattle.questions.proofs.day.Reads as day-reads
@@ -49,24 +46,32 @@ module _ (κs : Lfts 2) (r : Started) (text index index′ : RefT (List ℕ)) wh
   pub read-is : read-reads.Post κs (text, (index, tt)) r (text, (index′, tt)) ≡ Begins (readText (now text)) r (blocks (now index′))
   read-is = refl
 
--- ---- Edits
+-- ---- Edits: of an edit or a take back a step
 
-module _ (κs : Lfts 0) (sv : Service) (r : Stepped) {bs : Blocks} {days numbers text : List ℕ} where
-  pub enter-steps : (s : Spell) → (enter-reads.Pre κs (sv, (s, tt)) → enter-reads.Post κs (sv, (s, tt)) r (sv, (s, tt)))
-      → Steps sv bs (asking (Enter s) days numbers text) r bs numbers text
-  enter-steps s met g = met (g .valid) .met bs days numbers text g
+module _ (κs : Lfts 0) (sv : Service) (r : Stepped) where
+  -- the contract of `edit`, of the call c
+  abbrev pub Edits : Call → Type 0
+  Edits c = edit-reads.Pre κs (sv, (c, tt)) → edit-reads.Post κs (sv, (c, tt)) r (sv, (c, tt))
 
-  pub amend-steps : (s : Spell) → (amend-reads.Pre κs (sv, (s, tt)) → amend-reads.Post κs (sv, (s, tt)) r (sv, (s, tt)))
-      → Steps sv bs (asking (Amend s) days numbers text) r bs numbers text
-  amend-steps s met g = met (g .valid) .met bs days numbers text g
+  pub edit-is : (c : Call) → edit-reads.Post κs (sv, (c, tt)) r (sv, (c, tt)) ≡ Changes sv c r
+  edit-is c = refl
 
-  pub strike-steps : (k : ℕ) → (strike-reads.Pre κs (sv, (k, tt)) → strike-reads.Post κs (sv, (k, tt)) r (sv, (k, tt)))
-      → Steps sv bs (asking (Strike k) days numbers text) r bs numbers text
-  strike-steps k met g = met (g .valid) .met bs days numbers text g
+  module _ {bs : Blocks} {days numbers text : List ℕ} where
+    pub enter-steps : (s : Spell) → Edits (Enter s) → Steps sv bs (asking (Enter s) days numbers text) r bs numbers text
+    unfolding Changes
+    enter-steps s met g = met (g .valid) .met bs days numbers text g
 
-  pub take-back-steps : (take-back-reads.Pre κs (sv, tt) → take-back-reads.Post κs (sv, tt) r (sv, tt))
-      → Steps sv bs (asking TakeBack days numbers text) r bs numbers text
-  take-back-steps met g = met (g .valid) .met bs days numbers text g
+    pub amend-steps : (s : Spell) → Edits (Amend s) → Steps sv bs (asking (Amend s) days numbers text) r bs numbers text
+    unfolding Changes
+    amend-steps s met g = met (g .valid) .met bs days numbers text g
+
+    pub strike-steps : (k : ℕ) → Edits (Strike k) → Steps sv bs (asking (Strike k) days numbers text) r bs numbers text
+    unfolding Changes
+    strike-steps k met g = met (g .valid) .met bs days numbers text g
+
+    pub take-back-steps : Edits TakeBack → Steps sv bs (asking TakeBack days numbers text) r bs numbers text
+    unfolding Changes
+    take-back-steps met g = met (g .valid) .met bs days numbers text g
 
 -- ---- Publish and writing
 
@@ -150,18 +155,8 @@ module _ (κs : Lfts 1) (index : RefT (List ℕ)) where
 pub read-asks : (κs : Lfts 2) (text index : RefT (List ℕ)) → read-reads.Pre κs (text, (index, tt)) ≡ Unit {0}
 read-asks κs text index = refl
 
-module _ (κs : Lfts 0) (sv : Service) where
-  pub enter-asks : (s : Spell) → enter-reads.Pre κs (sv, (s, tt)) ≡ Valid sv
-  enter-asks s = refl
-
-  pub amend-asks : (s : Spell) → amend-reads.Pre κs (sv, (s, tt)) ≡ Valid sv
-  amend-asks s = refl
-
-  pub strike-asks : (k : ℕ) → strike-reads.Pre κs (sv, (k, tt)) ≡ Valid sv
-  strike-asks k = refl
-
-  pub take-back-asks : take-back-reads.Pre κs (sv, tt) ≡ Valid sv
-  take-back-asks = refl
+pub edit-asks : (κs : Lfts 0) (sv : Service) (c : Call) → edit-reads.Pre κs (sv, (c, tt)) ≡ Valid sv
+edit-asks κs sv c = refl
 
 pub write-asks : (κs : Lfts 1) (sv : Service) (text : RefT (List ℕ)) → write-reads.Pre κs (sv, (text, tt)) ≡ Valid sv
 write-asks κs sv text = refl

@@ -7,6 +7,7 @@ use Rattle.refusal.specs.Table.{accepted}
 use mathlib.Core.List.{List}
 use Rattle.standing.specs.Standing.{Wf, listOf, pasts}
 use Rattle.model.specs.declared.Call.{Call}
+use Rattle.model.specs.declared.Call.the-variants.{Enter, Amend, Strike, TakeBack, Publish, Write, Ask}
 use Rattle.register.specs.Text.{Register}
 use Rattle.model.specs.Model.{State, begun, refusalIn, lineIn, Request, step}
 use Rattle.outcomes.specs.declared.Outcome.{Outcome}
@@ -63,9 +64,19 @@ pub record Changed (sv : Service) (c : Call) (r : Stepped) : Type 0 where
   pub kept : eqb (r .outcome .refusal) accepted ≡ false → r .service ≡ sv
   pub met : (bs : Blocks) (days numbers text : List ℕ) → Given sv bs → Met sv bs (asking c days numbers text) r bs numbers text
 
--- the same of writing
+-- and of any call that is given to `edit`: one that is neither leaves the service as it was, and 0 is told
+unfoldable pub Changes : Service → Call → Stepped → Type 0
+Changes sv (Enter s) r = Changed sv (Enter s) r
+Changes sv (Amend s) r = Changed sv (Amend s) r
+Changes sv (Strike k) r = Changed sv (Strike k) r
+Changes sv TakeBack r = Changed sv TakeBack r
+Changes sv (Publish rule) r = r ≡ keeping sv (toldOf accepted)
+Changes sv Write r = r ≡ keeping sv (toldOf accepted)
+Changes sv (Ask w) r = r ≡ keeping sv (toldOf accepted)
+
+-- the postcondition of writing
 pub record Wrote (sv : Service) (text : List ℕ) (o : Outcome) (text′ : List ℕ) : Type 0 where
-  pub met : (bs : Blocks) (days numbers : List ℕ) → Given sv bs → Met sv bs (asking Call.Write days numbers text) (keeping sv o) bs numbers text′
+  pub met : (bs : Blocks) (days numbers : List ℕ) → Given sv bs → Met sv bs (asking Write days numbers text) (keeping sv o) bs numbers text′
 
 -- publish by a rule: the index becomes that of the published list, every word of it, whatever it held before, or stays where there is no
 -- such rule; the service is as it was, and no more is told than the refusal

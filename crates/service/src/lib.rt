@@ -2,18 +2,16 @@
 ghost use mathlib.Core.Path.{_≡_};
 ghost use Rattle.register.specs.Text.{readText};
 ghost use Rattle.model.specs.Model.{fresh};
-ghost use Rattle.outcomes.specs.Outcomes.{toldOf, asking};
-ghost use Rattle.service.specs.Places.{serviceOf, freshService};
-ghost use Rattle.service.specs.Service.{blocks, Valid, Represents, Given, keeping, Met, Changed, Publishes, Wrote, Begins};
+ghost use Rattle.outcomes.specs.Outcomes.{asking};
+ghost use Rattle.service.specs.Places.{freshService};
+ghost use Rattle.service.specs.Service.{blocks, Valid, Represents, Given, keeping, Met, Changes, Publishes, Wrote, Begins};
 ghost use Rattle.service.specs.Packed.{unpacked, Packs};
 ghost use Rattle.service.specs.Contracts.{Beside};
 use model::Call;
 use outcomes::Outcome;
 use outcomes::told;
 use outcomes::wrote;
-use spell::Spell;
 use stabbing::INDEX;
-use standing::Edited;
 use standing::Standing;
 use standing::words::STANDING;
 
@@ -65,45 +63,20 @@ pub fn read(text: &[u8], index: &mut [u16; INDEX]) -> Started
 
 // ---- Edits: the index is not touched
 
-fn edited(e: Edited) -> Stepped
-    ensures { λ r. ⌜ r ≡ record { service = serviceOf (e .standing); outcome = toldOf (e .refusal) } ⌝ }
+// An edit or a take back: enter puts a spell in, amend replaces the spell of its number by the given one, strike removes the spell of a
+// number, and by take back the standing list becomes the front of the past, which loses it. Any other call leaves the service as it was.
+pub fn edit(service: Service, call: Call) -> Stepped
+    requires { ⌜ Valid service ⌝ }
+    ensures { λ r. ⌜ Changes service call r ⌝ }
 {
+    let e = standing::edit(service.standing, call);
     let standing = e.standing;
-    let service = Service { standing };
+    let after = Service { standing };
     let outcome = told(e.refusal);
-    Stepped { service, outcome }
-}
-
-// Put a spell in.
-pub fn enter(service: Service, s: Spell) -> Stepped
-    requires { ⌜ Valid service ⌝ }
-    ensures { λ r. ⌜ Changed service (Call.Enter s) r ⌝ }
-{
-    edited(standing::edit(service.standing, Call::Enter(s)))
-}
-
-// Replace the spell of that number by the given one.
-pub fn amend(service: Service, s: Spell) -> Stepped
-    requires { ⌜ Valid service ⌝ }
-    ensures { λ r. ⌜ Changed service (Call.Amend s) r ⌝ }
-{
-    edited(standing::edit(service.standing, Call::Amend(s)))
-}
-
-// Remove the spell of that number.
-pub fn strike(service: Service, number: u16) -> Stepped
-    requires { ⌜ Valid service ⌝ }
-    ensures { λ r. ⌜ Changed service (Call.Strike number) r ⌝ }
-{
-    edited(standing::edit(service.standing, Call::Strike(number)))
-}
-
-// The standing list becomes the front of the past, which loses it.
-pub fn take_back(service: Service) -> Stepped
-    requires { ⌜ Valid service ⌝ }
-    ensures { λ r. ⌜ Changed service Call.TakeBack r ⌝ }
-{
-    edited(standing::edit(service.standing, Call::TakeBack))
+    Stepped {
+        service: after,
+        outcome,
+    }
 }
 
 // ---- Publish and writing
@@ -177,7 +150,7 @@ pub fn step(
     requires { ⌜ Given service (blocks (now index)) ⌝ }
     ensures { λ r. ⌜ Met service (blocks (now (index .entry))) (asking call (now (dates .entry)) (now (numbers .entry)) (now (text .entry))) r (blocks (now (index .exit))) (now (numbers .exit)) (now (text .exit)) ⌝ }
 {
-    let e = edited(standing::edit(service.standing, call));
+    let e = edit(service, call);
     let next = e.service;
     let o = e.outcome;
     let outcome = beside(service, index, call, o, dates, numbers, text);

@@ -1,14 +1,9 @@
 -- `phayaklit::phayaklit_take_back` meets its contract. Assumes nothing.
-use Rattle.phayaklit.proofs.Host.{held, edited}
 use Rattle.basis.proofs.Prelude.{needs}
+use Rattle.service.specs.Service.{Changes}
 use Rattle.phayaklit.proofs.phayaklit_take_back.Statement.{statement}
 use Rattle.phayaklit.proofs.phayaklit_take_back.Tie as tie
 
 pub phayaklit-take-back-spec : {M : Type 1} → statement M
-phayaklit-take-back-spec =
-    tie.close
-    (tie.spec
-    (λ c κs. search needs)
-    (λ c κs. held _ _ (c .unpack .ensures) (c .before .before .pre))
-    (λ c κs. search needs)
-    (λ c. (edited _ _ _ _ _ _ (c .before .before .before .unpack .ensures) (c .put-back .ensures .0) (c .before .before .take-back .ensures), c .put-back .ensures .1)))
+unfolding Changes
+phayaklit-take-back-spec = tie.close (tie.spec (λ c κs. search needs) (λ c. c .edit .ensures))
