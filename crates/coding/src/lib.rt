@@ -1,9 +1,8 @@
 // A call coded in words, as types here and definitions in specs/.
 use model::Call;
 
-// A call in ten words: its number (1 enter, 2 amend, 3 strike, 4 take back, 5 publish, 6 write, 7 day, 8 span, 9 cover,
-// 10 days, 11 mask), the fields of a spell, and how many places of the lists of days, numbers and text it is lent. A mask stands in the place
-// of the value, its base day in that of the first day.
+// A call in ten words: its number (`opOf` in specs/Coded.antt), the fields of a spell, and how many places of the lists of days, numbers and
+// text it is lent. A mask stands in the place of the value, its base day in that of the first day.
 pub struct Code {
     pub op: u64,
     pub number: u16,

@@ -12,7 +12,7 @@ use Rattle.requests.specs.Requests.{Asked, asksCall, asksRoom, asksRead, malfor
 use Rattle.requests.specs.declared.Request.{Request}
 use Rattle.requests.specs.declared.Request.the-variants.{Call as RequestCall, Room as RequestRoom, Read as RequestRead, Malformed as RequestMalformed}
 
--- questions follow `write` in the order of their numbers: 33 `day`, 34 `span`, 35 `cover`, 36 `days`, 37 `mask`
+-- questions follow `write`, in the order of their numbers among the questions
 unfoldable pub questionWord : Question → ℕ
 questionWord w = 32 + questionNumber w
 

@@ -1,9 +1,33 @@
 -- `questions::mask` meets its contract: the days question is asked for the ticked days. Assumes nothing.
-use Rattle.basis.proofs.Prelude.{sym, length-take-le, needs}
+use Rattle.basis.proofs.Prelude.{_∙_, _≡_, ap, sym, ℕ, List, false, length, length-take-le, needs}
+use Rattle.refusal.specs.Table.{offCalendar}
+use Rattle.calendar.specs.Calendar.{daysOk}
+use Rattle.masks.specs.Masks.{ticks}
 use Rattle.masks.proofs.Claims.{Given, all-gives, off-gives}
-use Rattle.questions.proofs.Asking.{mask-off-asked, mask-asked}
+use Rattle.model.specs.declared.Call.the-variants.{Ask}
+use Rattle.model.specs.declared.Question.the-variants.{Days, Mask}
+use Rattle.model.proofs.Masks.{ticking, mask-off, mask-as-days}
+use Rattle.outcomes.specs.declared.Outcome.{Outcome}
+use Rattle.outcomes.specs.Outcomes.{toldOf, tickingOf, asking}
+use Rattle.outcomes.proofs.Answers.{ticking-told}
+use Rattle.questions.specs.Asked.{Asked}
 use Rattle.questions.proofs.mask.Statement.{statement}
 use Rattle.questions.proofs.mask.Tie as tie
+
+module _ {ix : List ℕ} {b k : ℕ} {days ns : List ℕ} where
+  -- a ticked day off the calendar
+  mask-off-asked : {o : Outcome} → daysOk (ticks b k) ≡ false → o ≡ toldOf offCalendar → Asked ix (Mask b k) days ns o ns
+  mask-off-asked off is = record { answer = λ m text s. rw (is, mask-off m (asking (Ask (Mask b k)) days ns text) b k off) }
+
+  -- what the days question gave for the ticked days, with their number
+  mask-asked : {ds : List ℕ} {n : ℕ} {o r : Outcome} {ns′ : List ℕ} → ds ≡ ticks b k → n ≡ length (ticks b k) → Asked ix Days ds ns o ns′
+      → r ≡ tickingOf o n → Asked ix (Mask b k) days ns r ns′
+  mask-asked {ds} {n} {o} {ns′ = ns′} e many a is = record {
+    answer = λ m text s.
+        rw (is, many) (ticking-told o (length (ticks b k)) ns′ text
+        ∙ ap (ticking (length (ticks b k))) (a .answer m text s)
+        ∙ sym (mask-as-days m (asking (Ask (Mask b k)) days ns text) b k ds e));
+  }
 
 -- all ticked days are on the calendar
 on : (c : tie.After-n) →
