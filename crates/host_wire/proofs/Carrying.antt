@@ -4,7 +4,7 @@ use Rattle.buffer.specs.Buffer.{over}
 use Rattle.model.specs.Model.{State}
 use Rattle.model.specs.Journal.{journal}
 use Rattle.requests.specs.declared.Request.{Request}
-use Rattle.requests.specs.Requests.{Asked, askedOf, daysOf}
+use Rattle.requests.specs.Requests.{Demand, askedOf, daysOf}
 use Rattle.service.specs.declared.Service.{Service}
 use Rattle.service.specs.Packed.{unpacked}
 use Rattle.service.specs.Service.{Blocks, Represents, Given}
@@ -24,11 +24,11 @@ use Rattle.host_wire.proofs.Words.{word-parsed, power-none, power-keeps
 -- ---- What leaves the service as it is
 
 -- the state after a request is the one before
-abbrev Stays : Service → Blocks → ℕ → Asked → List ℕ → Type 0
+abbrev Stays : Service → Blocks → ℕ → Demand → List ℕ → Type 0
 Stays sv bs room q payload = (m : State) → Represents sv bs m → turnOf q payload (conv m room) .next .state ≡ m
 
 -- then its service need not be taken from the answer
-pub unchanged : {sv : Service} {bs bs′ : Blocks} {room : ℕ} (q : Asked) {payload numbers text out numbers′ text′ out′ : List ℕ} {r : Answered}
+pub unchanged : {sv : Service} {bs bs′ : Blocks} {room : ℕ} (q : Demand) {payload numbers text out numbers′ text′ out′ : List ℕ} {r : Answered}
     → Stays sv bs room q payload → Given sv bs → Answers sv bs room q payload numbers text out r bs′ numbers′ text′ out′
     → Answers sv bs room q payload numbers text out (record { service = sv; room = r .room; place = r .place }) bs′ numbers′ text′ out′
 unchanged q same g a =
@@ -47,11 +47,11 @@ unchanged q same g a =
     }
 
 -- so it is where the word only reads
-pub stays-read : (sv : Service) (bs : Blocks) (room : ℕ) (q : Asked) (payload : List ℕ) → powerOf (wordOf q) ≡ 0 → Stays sv bs room q payload
+pub stays-read : (sv : Service) (bs : Blocks) (room : ℕ) (q : Demand) (payload : List ℕ) → powerOf (wordOf q) ≡ 0 → Stays sv bs room q payload
 stays-read sv bs room q payload none m rep = power-keeps m payload room q none
 
 -- and where it changes, and the answer's first byte says that it did not
-pub stays-refused : {sv : Service} {bs bs′ : Blocks} {room : ℕ} (q : Asked) {payload numbers text out numbers′ text′ out′ : List ℕ} {r : Answered} (power : ℕ) → power ≡ powerOf (wordOf q) → 1 ≤ power
+pub stays-refused : {sv : Service} {bs bs′ : Blocks} {room : ℕ} (q : Demand) {payload numbers text out numbers′ text′ out′ : List ℕ} {r : Answered} (power : ℕ) → power ≡ powerOf (wordOf q) → 1 ≤ power
     → changedAt power out′ (r .place) ≡ 0 → Answers sv bs room q payload numbers text out r bs′ numbers′ text′ out′ → Stays sv bs room q payload
 stays-refused {room = room} q {payload} {out′ = out′} {r = r} power is some none a m rep =
     let told : changedAt (powerOf (wordOf q)) out′ (r .place) ≡ length (journal m (eventsOf q payload room))
@@ -60,7 +60,7 @@ stays-refused {room = room} q {payload} {out′ = out′} {r = r} power is some 
 
 -- ---- What is wanted of it
 
-module _ (q : Asked) {words words′ : List ℕ} {bs bs′ : Blocks} {room : ℕ} {payload numbers text out numbers′ text′ out′ : List ℕ} {r : Carried}
+module _ (q : Demand) {words words′ : List ℕ} {bs bs′ : Blocks} {room : ℕ} {payload numbers text out numbers′ text′ out′ : List ℕ} {r : Carried}
     (a : Answers (unpacked words) bs (roomOf room) q payload numbers text out (answeredOf words′ r) bs′ numbers′ text′ out′) (w : r .word ≡ wordOf q) where
   pub carries-read : powerOf (wordOf q) ≡ 0 → r .changed ≡ 0 → words′ ≡ words → CarriesOf q words bs room payload numbers text out r words′ bs′ numbers′ text′ out′
   carries-read none c same = record {
@@ -81,7 +81,7 @@ module _ (q : Asked) {words words′ : List ℕ} {bs bs′ : Blocks} {room : ℕ
     kept = λ none. absurd (some (is ∙ none));
   }
 
-module _ (q : Asked) {words words′ : List ℕ} {bs bs′ : Blocks} {room allowed : ℕ} (payload : List ℕ) {numbers text out numbers′ text′ out′ : List ℕ} {r : Carried}
+module _ (q : Demand) {words words′ : List ℕ} {bs bs′ : Blocks} {room allowed : ℕ} (payload : List ℕ) {numbers text out numbers′ text′ out′ : List ℕ} {r : Carried}
     {power : ℕ} (is : power ≡ powerOf (wordOf q)) where
   pub within-allowed : power ≤ allowed → CarriesOf q words bs room payload numbers text out r words′ bs′ numbers′ text′ out′
       → RequestedOf q words bs room allowed payload numbers text out r words′ bs′ numbers′ text′ out′

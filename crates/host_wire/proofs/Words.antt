@@ -9,7 +9,7 @@ use Rattle.coding.specs.Coded.{questionNumber}
 use Rattle.model.specs.Model.{State, Answer, step}
 use Rattle.model.specs.Journal.{reads, Event, call, reading, left, journal}
 use Rattle.model.proofs.Journal.{journal-left}
-use Rattle.requests.specs.Requests.{Asked, asksCall, asksRoom, asksRead, malformed}
+use Rattle.requests.specs.Requests.{Demand, asksCall, asksRoom, asksRead, malformed}
 use Rattle.requests.specs.Parsing.{requestOf}
 use Rattle.replies.specs.Replies.{okText, refusedText, shapeOf, shapeText, callText}
 use Rattle.wire.specs.Conversation.{turnOf, callOf, registerOf}
@@ -19,7 +19,7 @@ use Rattle.host_wire.specs.Words.{questionWord, callWord, wordOf, wordIn
 use Rattle.host_wire.specs.Carrying.{eventsOf}
 
 -- the word of the program's form of what is asked
-pub word-parsed : (q : Asked) → wordIn (requestOf q) ≡ wordOf q
+pub word-parsed : (q : Demand) → wordIn (requestOf q) ≡ wordOf q
 word-parsed (asksCall c ds) = refl
 word-parsed (asksRoom n) = refl
 word-parsed (asksRead n) = refl
@@ -52,7 +52,7 @@ power-changes : (c : Call) → reads c ≡ false → powerOf (callWord c) ≡ 1
 power-changes c e = call-power c ∙ ap (λ (b : Bool). cond b 0 1) e
 
 -- and so a request's that does
-pub power-onlyReads : (q : Asked) → onlyReads q ≡ true → powerOf (wordOf q) ≡ 0
+pub power-onlyReads : (q : Demand) → onlyReads q ≡ true → powerOf (wordOf q) ≡ 0
 unfolding powerOf
 power-onlyReads (asksCall c ds) e = power-reads c e
 power-onlyReads (asksRoom n) e = refl
@@ -78,7 +78,7 @@ length-none (x ∷ l) e = absurd (omega (arith, e))
 
 module _ (m : State) (payload : List ℕ) (room : ℕ) where
   -- the state after a request is that after its event
-  pub turn-left : (q : Asked) → turnOf q payload (conv m room) .next .state ≡ left m (eventsOf q payload room)
+  pub turn-left : (q : Demand) → turnOf q payload (conv m room) .next .state ≡ left m (eventsOf q payload room)
   unfolding turnOf left
   turn-left (asksCall c ds) = refl
   turn-left (asksRoom n) = refl
@@ -86,7 +86,7 @@ module _ (m : State) (payload : List ℕ) (room : ℕ) where
   turn-left malformed = refl
 
   -- a journal keeps nothing of one whose word leaves the state
-  pub power-none : (q : Asked) → powerOf (wordOf q) ≡ 0 → journal m (eventsOf q payload room) ≡ []
+  pub power-none : (q : Demand) → powerOf (wordOf q) ≡ 0 → journal m (eventsOf q payload room) ≡ []
   unfolding journal powerOf
   power-none (asksCall c ds) none = go (reads c) refl
     where
@@ -98,12 +98,12 @@ module _ (m : State) (payload : List ℕ) (room : ℕ) where
   power-none malformed none = refl
 
   -- of which a journal keeps nothing, the state is as it was
-  pub unkept : (q : Asked) → journal m (eventsOf q payload room) ≡ [] → turnOf q payload (conv m room) .next .state ≡ m
+  pub unkept : (q : Demand) → journal m (eventsOf q payload room) ≡ [] → turnOf q payload (conv m room) .next .state ≡ m
   unfolding left
   unkept q none = turn-left q ∙ sym (journal-left m (eventsOf q payload room)) ∙ ap (left m) none
 
   -- so of one whose word leaves it
-  pub power-keeps : (q : Asked) → powerOf (wordOf q) ≡ 0 → turnOf q payload (conv m room) .next .state ≡ m
+  pub power-keeps : (q : Demand) → powerOf (wordOf q) ≡ 0 → turnOf q payload (conv m room) .next .state ≡ m
   power-keeps q none = unkept q (power-none q none)
 
 -- ---- The first byte of an answer
@@ -128,7 +128,7 @@ module _ (m : State) (payload : List ℕ) (room : ℕ) {out out′ : List ℕ} {
   changed-call c ds e s true f = first-byte 111 111 (rw (f, accepted-ok c (step m (callOf c ds room) .answer) e) at s)
   changed-call c ds e s false f = first-byte 114 111 (rw f at s)
 
-  pub changed-journal : (q : Asked) → (powerOf (wordOf q) ≡ 0 → ⊥) → Sends (turnOf q payload (conv m room) .reply) out place out′
+  pub changed-journal : (q : Demand) → (powerOf (wordOf q) ≡ 0 → ⊥) → Sends (turnOf q payload (conv m room) .reply) out place out′
       → changedAt (powerOf (wordOf q)) out′ place ≡ length (journal m (eventsOf q payload room))
   unfolding turnOf journal changedAt powerOf
   changed-journal (asksCall c ds) some s = go (reads c) refl (eqb (step m (callOf c ds room) .answer .refusal) accepted) refl

@@ -8,7 +8,7 @@ use lib.ListN.{length}
 use Rattle.buffer.specs.Buffer.{over}
 use Rattle.model.specs.Model.{State}
 use Rattle.model.specs.Journal.{Event, call, reading, journal}
-use Rattle.requests.specs.Requests.{Asked, asksCall, asksRoom, asksRead, malformed, askedOf, daysOf}
+use Rattle.requests.specs.Requests.{Demand, asksCall, asksRoom, asksRead, malformed, askedOf, daysOf}
 use Rattle.service.specs.Packed.{unpacked}
 use Rattle.service.specs.Service.{Blocks, Represents}
 use Rattle.wire.specs.declared.Answered.{Answered}
@@ -19,7 +19,7 @@ use Rattle.host_wire.specs.declared.Carried.{Carried}
 use Rattle.host_wire.specs.Words.{wordOf, powerOf}
 
 -- what a request is to the account: a call that is lent lists of so many places, a reading, or nothing
-abbrev pub eventsOf : Asked → List ℕ → ℕ → List Event
+abbrev pub eventsOf : Demand → List ℕ → ℕ → List Event
 eventsOf (asksCall c ds) payload room = call (callOf c ds room) ∷ []
 eventsOf (asksRoom n) payload room = []
 eventsOf (asksRead n) payload room = reading (registerOf n payload) ∷ []

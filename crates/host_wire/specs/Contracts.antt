@@ -7,7 +7,7 @@ use lib.Dec.{leb}
 use lib.ListN.{length}
 use Rattle.model.specs.Model.{State}
 use Rattle.model.specs.Journal.{journal}
-use Rattle.requests.specs.Requests.{Asked}
+use Rattle.requests.specs.Requests.{Demand}
 use Rattle.service.specs.Packed.{unpacked}
 use Rattle.service.specs.Service.{Blocks, Represents}
 use Rattle.wire.specs.Answering.{roomOf, Answers}
@@ -17,7 +17,7 @@ use Rattle.host_wire.specs.Words.{wordOf, powerOf}
 use Rattle.host_wire.specs.Carrying.{eventsOf, answeredOf, heldAt}
 
 -- a request that asks q is carried out, its days read already
-pub record CarriesOf (q : Asked) (words : List ℕ) (bs : Blocks) (room : ℕ) (payload numbers text out : List ℕ) (r : Carried) (words′ : List ℕ) (bs′ : Blocks) (numbers′ text′ out′ : List ℕ) : Type 0 where
+pub record CarriesOf (q : Demand) (words : List ℕ) (bs : Blocks) (room : ℕ) (payload numbers text out : List ℕ) (r : Carried) (words′ : List ℕ) (bs′ : Blocks) (numbers′ text′ out′ : List ℕ) : Type 0 where
   pub answers : Answers (unpacked words) bs (roomOf room) q payload numbers text out (answeredOf words′ r) bs′ numbers′ text′ out′
   pub word : r .word ≡ wordOf q
   pub changed : (m : State) → Represents (unpacked words) bs m → r .changed ≡ length (journal m (eventsOf q payload (roomOf room)))
@@ -25,7 +25,7 @@ pub record CarriesOf (q : Asked) (words : List ℕ) (bs : Blocks) (room : ℕ) (
   pub kept : powerOf (wordOf q) ≡ 0 → words′ ≡ words
 
 -- or held back, and all is as it was
-pub record HeldOf (q : Asked) (words : List ℕ) (bs : Blocks) (room : ℕ) (numbers text out : List ℕ) (r : Carried) (words′ : List ℕ) (bs′ : Blocks) (numbers′ text′ out′ : List ℕ) : Type 0 where
+pub record HeldOf (q : Demand) (words : List ℕ) (bs : Blocks) (room : ℕ) (numbers text out : List ℕ) (r : Carried) (words′ : List ℕ) (bs′ : Blocks) (numbers′ text′ out′ : List ℕ) : Type 0 where
   pub told : r ≡ heldAt (wordOf q) room
   pub words-kept : words′ ≡ words
   pub blocks-kept : bs′ ≡ bs
@@ -34,7 +34,7 @@ pub record HeldOf (q : Asked) (words : List ℕ) (bs : Blocks) (room : ℕ) (num
   pub out-kept : out′ ≡ out
 
 -- by whether its word does no more than is allowed
-abbrev pub RequestedOf : Asked → List ℕ → Blocks → ℕ → ℕ → List ℕ → List ℕ → List ℕ → List ℕ → Carried → List ℕ → Blocks → List ℕ → List ℕ → List ℕ → Type 0
+abbrev pub RequestedOf : Demand → List ℕ → Blocks → ℕ → ℕ → List ℕ → List ℕ → List ℕ → List ℕ → Carried → List ℕ → Blocks → List ℕ → List ℕ → List ℕ → Type 0
 RequestedOf q words bs room allowed payload numbers text out r words′ bs′ numbers′ text′ out′ =
     cond (leb (powerOf (wordOf q)) allowed)
     (CarriesOf q words bs room payload numbers text out r words′ bs′ numbers′ text′ out′)

@@ -8,7 +8,7 @@ use Rattle.model.specs.declared.Call.{Call}
 use Rattle.model.specs.declared.Call.the-variants.{Enter, Amend, Strike, TakeBack, Publish, Write, Ask}
 use Rattle.model.specs.declared.Question.{Question}
 use Rattle.coding.specs.Coded.{questionNumber}
-use Rattle.requests.specs.Requests.{Asked, asksCall, asksRoom, asksRead, malformed}
+use Rattle.requests.specs.Requests.{Demand, asksCall, asksRoom, asksRead, malformed}
 use Rattle.requests.specs.declared.Request.{Request}
 use Rattle.requests.specs.declared.Request.the-variants.{Call as RequestCall, Room as RequestRoom, Read as RequestRead, Malformed as RequestMalformed}
 
@@ -26,7 +26,7 @@ callWord Write = 32
 callWord (Ask w) = questionWord w
 
 -- the number of a request's word; 0 for a line of no form
-abbrev pub wordOf : Asked → ℕ
+abbrev pub wordOf : Demand → ℕ
 wordOf (asksCall c ds) = callWord c
 wordOf (asksRoom n) = 1
 wordOf (asksRead n) = 2

@@ -1,5 +1,5 @@
 -- How many bytes follow a line: only the word `read` has any, the first of the table. Assumes nothing.
-use Rattle.requests.proofs.Names.{String, Found, found, unreadable, readLength, readNumber, readMask, readLine, Ask, Layout, Alone, Number, Pair, MaskFields, DayFields, Length, Unknown, Room, Read, limitOf, Request, table, begins, bytesOf, headOf, Asked, asksCall, asksRoom, asksRead, malformed, asking, ended, DayList, readDays, askDays, askedBy, askedOf, following, requestOf, Announces, Asks, followingIn}
+use Rattle.requests.proofs.Names.{String, Found, found, unreadable, readLength, readNumber, readMask, readLine, Ask, Layout, Alone, Number, Pair, MaskFields, DayFields, Length, Unknown, Room, Read, limitOf, Request, table, begins, bytesOf, headOf, Demand, asksCall, asksRoom, asksRead, malformed, asking, ended, DayList, readDays, askDays, askedBy, askedOf, following, requestOf, Announces, Asks, followingIn}
 use Rattle.basis.proofs.Prelude.{_≡_, refl, sym, _<_, _≤_, ℕ, List, [], _∷_, Bool, _&&_, both, cond, false, true, drop, length, arith, le-leb, lt-leb}
 use Rattle.model.specs.declared.Question.the-variants.{Days}
 use Rattle.requests.specs.declared.Layout.the-variants.{Spell}
@@ -18,12 +18,12 @@ silent (Length Room) = true
 silent (Length Read) = false
 silent Unknown = true
 
-none-ended : (a : Asked) (s : List ℕ) → following a ≡ 0 → following (ended a s) ≡ 0
+none-ended : (a : Demand) (s : List ℕ) → following a ≡ 0 → following (ended a s) ≡ 0
 unfolding following
 none-ended a [] e = e
 none-ended a (b ∷ s) e = refl
 
-none-asking : {A : Type 0} (f : Found A) (k : A → List ℕ → Asked) → ((a : A) (rest : List ℕ) → following (k a rest) ≡ 0) → following (asking f k) ≡ 0
+none-asking : {A : Type 0} (f : Found A) (k : A → List ℕ → Demand) → ((a : A) (rest : List ℕ) → following (k a rest) ≡ 0) → following (asking f k) ≡ 0
 unfolding following
 none-asking (found a rest) k h = h a rest
 none-asking unreadable k h = refl
@@ -77,7 +77,7 @@ module _ (rows : List (String × Layout)) (s : List ℕ) where
 
 -- ---- A line
 
-pub following-in : (q : Request) (a : Asked) → q ≡ requestOf a → followingIn q ≡ following a
+pub following-in : (q : Request) (a : Demand) → q ≡ requestOf a → followingIn q ≡ following a
 unfolding following
 following-in q (asksCall c ds) e = rw e
 following-in q (asksRoom n) e = rw e

@@ -1,18 +1,18 @@
 -- What a line asks, as the program holds it: its days stand in the lent list, and its room is one that can be lent. Assumes nothing.
 use Rattle.basis.proofs.Prelude.{_≡_, ap, refl, _≤_, suc, zero, ℕ, List, [], _++_, _∷_, Bool, cond, false, true, leb, drop, length, take, take-at, arith}
-use Rattle.requests.proofs.Names.{Found, found, unreadable, readNumber, readLength, readMask, length-within, readLine, Call, Ask, Request, Layout, Alone, Number, Pair, MaskFields, DayFields, Length, Unknown, LengthWord, Room, Read, Head, table, headOf, aloneCall, spellCall, numberCall, pairCall, limitOf, Asked, asksCall, asksRoom, asksRead, malformed, asks, asking, ended, lengthAsks, DayList, lastDay, nextDay, readDays, askDays, askedBy, daysBy, askedOf, daysOf, requestOf, askedFrom, daysIn, roomIn, Parses}
+use Rattle.requests.proofs.Names.{Found, found, unreadable, readNumber, readLength, readMask, length-within, readLine, Call, Ask, Request, Layout, Alone, Number, Pair, MaskFields, DayFields, Length, Unknown, LengthWord, Room, Read, Head, table, headOf, aloneCall, spellCall, numberCall, pairCall, limitOf, Demand, asksCall, asksRoom, asksRead, malformed, asks, asking, ended, lengthAsks, DayList, lastDay, nextDay, readDays, askDays, askedBy, daysBy, askedOf, daysOf, requestOf, askedFrom, daysIn, roomIn, Parses}
 use Rattle.model.specs.declared.Question.the-variants.{Days, Mask}
 use Rattle.requests.specs.declared.Layout.the-variants.{Spell}
 
 -- the days of a call are the first of a list that begins with xs, at most n of them; a room is at most 65,536
-Sound : Asked → List ℕ → ℕ → Type 0
+Sound : Demand → List ℕ → ℕ → Type 0
 Sound (asksCall c ds) xs n = ((rest : List ℕ) → take (length ds) (xs ++ rest) ≡ ds) × (length ds ≤ n)
 Sound (asksRoom k) xs n = k ≤ 65536
 Sound (asksRead k) xs n = Unit {0}
 Sound malformed xs n = Unit {0}
 
 -- what is the whole line asks no days
-sound-ended : (a : Asked) (s xs : List ℕ) (n : ℕ) → Sound a xs n → Sound (ended a s) xs n
+sound-ended : (a : Demand) (s xs : List ℕ) (n : ℕ) → Sound a xs n → Sound (ended a s) xs n
 unfolding Sound
 sound-ended a [] xs n h = h
 sound-ended a (b ∷ s) xs n h = tt
@@ -21,7 +21,7 @@ sound-call : (c : Call) (n : ℕ) → Sound (asks c) [] n
 unfolding Sound
 sound-call c n = (λ _. refl, omega arith)
 
-sound-asking : {A : Type 0} (f : Found A) (k : A → List ℕ → Asked) (n : ℕ) → ((a : A) (rest : List ℕ) → f ≡ found a rest → Sound (k a rest) [] n) → Sound (asking f k) [] n
+sound-asking : {A : Type 0} (f : Found A) (k : A → List ℕ → Demand) (n : ℕ) → ((a : A) (rest : List ℕ) → f ≡ found a rest → Sound (k a rest) [] n) → Sound (asking f k) [] n
 unfolding Sound
 sound-asking (found a rest) k n h = h a rest refl
 sound-asking unreadable k n h = tt
@@ -71,21 +71,21 @@ sound n s = go (headOf table s) (leb (length s) 65536)
     go h false = unfold Sound in tt
 
 -- ---- a parsed line
-held : (a : Asked) (xs rest : List ℕ) (n : ℕ) → Sound a xs n → askedFrom (requestOf a) (xs ++ rest) ≡ a
+held : (a : Demand) (xs rest : List ℕ) (n : ℕ) → Sound a xs n → askedFrom (requestOf a) (xs ++ rest) ≡ a
 unfolding Sound
 held (asksCall c ds) xs rest n s = ap (asksCall c) (s .0 rest)
 held (asksRoom k) xs rest n s = refl
 held (asksRead k) xs rest n s = refl
 held malformed xs rest n s = refl
 
-days-within : (a : Asked) (xs : List ℕ) (n : ℕ) → Sound a xs n → daysIn (requestOf a) ≤ n
+days-within : (a : Demand) (xs : List ℕ) (n : ℕ) → Sound a xs n → daysIn (requestOf a) ≤ n
 unfolding Sound
 days-within (asksCall c ds) xs n s = s .1
 days-within (asksRoom k) xs n s = omega arith
 days-within (asksRead k) xs n s = omega arith
 days-within malformed xs n s = omega arith
 
-room-within : (a : Asked) (xs : List ℕ) (n : ℕ) → Sound a xs n → roomIn (requestOf a) ≤ 65536
+room-within : (a : Demand) (xs : List ℕ) (n : ℕ) → Sound a xs n → roomIn (requestOf a) ≤ 65536
 unfolding Sound
 room-within (asksCall c ds) xs n s = omega arith
 room-within (asksRoom k) xs n s = s

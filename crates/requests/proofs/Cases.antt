@@ -1,6 +1,6 @@
 -- Lines with what they ask, computed: one for each word, and lines at the edges of the forms. Assumes nothing.
 use Rattle.basis.proofs.Prelude.{_≡_, refl, ℕ, List, [], _++_, _∷_, map, cond, eqb}
-use Rattle.requests.proofs.Names.{code, String, none, _then_, binary32, ofBits, Urgency, Grade, Reading, passed, readDigits, readDecimal, hexValue, readHex, readLetter, readValue, readUrgency, readLine, Enter, Amend, Strike, TakeBack, Publish, Write, Ask, Day, Span, Cover, words, begins, headOf, Asked, asksCall, asks, asksRoom, asksRead, malformed, readDays, askedBy, askedOf}
+use Rattle.requests.proofs.Names.{code, String, none, _then_, binary32, ofBits, Urgency, Grade, Reading, passed, readDigits, readDecimal, hexValue, readHex, readLetter, readValue, readUrgency, readLine, Enter, Amend, Strike, TakeBack, Publish, Write, Ask, Day, Span, Cover, words, begins, headOf, Demand, asksCall, asks, asksRoom, asksRead, malformed, readDays, askedBy, askedOf}
 use Rattle.spell.specs.declared.Spell.{Spell}
 use Rattle.model.specs.declared.Question.the-variants.{Days, Mask}
 
@@ -13,7 +13,7 @@ abbrev spell : ℕ → ℕ → ℕ → ℕ → Urgency → Spell
 spell n c f l u = record { number = n; candidate = c; first = f; last = l; urgency = u }
 
 -- a line for each word, and one of no word
-abbrev table : List (String × Asked)
+abbrev table : List (String × Demand)
 table =
     ("enter 31 502 100 465 G 1\n", asks (Enter (spell 31 502 100 465 (Grade 1))))
     ∷ ("amend 32 733 120 140 C 42280000\n", asks (Amend (spell 32 733 120 140 (Reading (ofBits binary32 0x4228_0000)))))
@@ -34,7 +34,7 @@ table =
     ∷ []
 
 -- lines at the edges
-abbrev edges : List (String × Asked)
+abbrev edges : List (String × Demand)
 edges =
     -- a tab with no day after it, and none after the tab
     ("days 4 \n", malformed)

@@ -8,10 +8,10 @@ use Rattle.requests.specs.declared.Layout.{Layout}
 use Rattle.requests.specs.declared.LengthWord.{LengthWord}
 use Rattle.requests.specs.declared.Request.{Request}
 use Rattle.requests.specs.declared.Request.the-variants.{Call as RequestCall, Room as RequestRoom, Read as RequestRead, Malformed as RequestMalformed}
-use Rattle.requests.specs.Requests.{Asked, asksCall, asksRoom, asksRead, malformed, lengthAsks, askedBy, askedOf, following, daysOf}
+use Rattle.requests.specs.Requests.{Demand, asksCall, asksRoom, asksRead, malformed, lengthAsks, askedBy, askedOf, following, daysOf}
 
 -- the program's form of what is asked: the days of a call stand in the first places of the lent list, and their count beside it
-abbrev pub requestOf : Asked → Request
+abbrev pub requestOf : Demand → Request
 requestOf (asksCall c ds) = RequestCall c (length ds)
 requestOf (asksRoom n) = RequestRoom n
 requestOf (asksRead n) = RequestRead n
@@ -30,7 +30,7 @@ Announces line r = (room : ℕ) → r ≡ following (askedOf room line)
 -- ---- What the program's form asks
 
 -- what a request asks, its days in the first places of a list
-abbrev pub askedFrom : Request → List ℕ → Asked
+abbrev pub askedFrom : Request → List ℕ → Demand
 askedFrom (RequestCall c k) days = asksCall c (take k days)
 askedFrom (RequestRoom n) days = asksRoom n
 askedFrom (RequestRead n) days = asksRead n

@@ -16,28 +16,28 @@ use Rattle.requests.specs.declared.LengthWord.the-variants.{Room, Read}
 use Rattle.requests.specs.Words.{table, headOf, aloneCall, spellCall, numberCall, pairCall, limitOf}
 
 -- a call of the account, with the days of a days question; a room; a reading of so many bytes; or nothing that has a form
-pub data Asked : Type 0 where
-  asksCall : Call → List ℕ → Asked
-  asksRoom : ℕ → Asked
-  asksRead : ℕ → Asked
-  malformed : Asked
+pub data Demand : Type 0 where
+  asksCall : Call → List ℕ → Demand
+  asksRoom : ℕ → Demand
+  asksRead : ℕ → Demand
+  malformed : Demand
 
 -- a call with no days
-abbrev pub asks : Call → Asked
+abbrev pub asks : Call → Demand
 asks c = asksCall c []
 
 -- what is asked by a value that is read, and by what comes after it; a field that can't be read is of no form
-abbrev pub asking : {A : Type 0} → Found A → (A → List ℕ → Asked) → Asked
+abbrev pub asking : {A : Type 0} → Found A → (A → List ℕ → Demand) → Demand
 asking (found a rest) f = f a rest
 asking unreadable f = malformed
 
 -- nothing comes after
-abbrev pub ended : Asked → List ℕ → Asked
+abbrev pub ended : Demand → List ℕ → Demand
 ended a [] = a
 ended a (b ∷ rest) = malformed
 
 -- what a decimal asks
-abbrev pub lengthAsks : LengthWord → ℕ → Asked
+abbrev pub lengthAsks : LengthWord → ℕ → Demand
 lengthAsks Room n = asksRoom n
 lengthAsks Read n = asksRead n
 
@@ -69,13 +69,13 @@ readDays zero s = record { days = []; whole = false }
 readDays (suc room) s = nextDay (readNumber tab s) (readDays room) (lastDay (readNumber lf s))
 
 -- what is asked by a list of days
-abbrev pub askDays : DayList → Asked
+abbrev pub askDays : DayList → Demand
 askDays l = cond (l .whole) (asksCall (Ask Days) (l .days)) malformed
 
 -- ---- What is asked, by the layout of the fields s
 
 -- The six fields of a spell are those of a register line. A list of days has at most `room`.
-unfoldable pub askedBy : Layout → ℕ → List ℕ → Asked
+unfoldable pub askedBy : Layout → ℕ → List ℕ → Demand
 askedBy (Alone w) room s = ended (asks (aloneCall w)) s
 askedBy (Spell w) room s = asking (readLine s) (λ x. ended (asks (spellCall w x)))
 askedBy (Number w) room s = asking (readNumber lf s) (λ n. ended (asks (numberCall w n)))
@@ -99,7 +99,7 @@ daysBy Unknown room s = []
 -- ---- A line
 
 -- what a line asks; one longer than 65,536 bytes with its LF is malformed
-unfoldable pub askedOf : ℕ → List ℕ → Asked
+unfoldable pub askedOf : ℕ → List ℕ → Demand
 askedOf room s = cond (leb (length s) 65536) (askedBy (headOf table s .layout) room (drop (headOf table s .at) s)) malformed
 
 -- the days that are read of a line
@@ -107,7 +107,7 @@ unfoldable pub daysOf : ℕ → List ℕ → List ℕ
 daysOf room s = cond (leb (length s) 65536) (daysBy (headOf table s .layout) room (drop (headOf table s .at) s)) []
 
 -- how many bytes follow a line that asks this: those of the text of a `read`
-unfoldable pub following : Asked → ℕ
+unfoldable pub following : Demand → ℕ
 following (asksCall c ds) = 0
 following (asksRoom n) = 0
 following (asksRead n) = n

@@ -11,14 +11,14 @@ use Rattle.standing.proofs.Calls.{fresh-is}
 use Rattle.outcomes.specs.declared.Outcome.{Outcome}
 use Rattle.outcomes.specs.Outcomes.{asking, answerOf}
 use Rattle.published_index.specs.Index.{Published}
-use Rattle.questions.specs.Asked.{Asked as AskedOf}
+use Rattle.questions.specs.Asked.{Asked}
 use Rattle.service.specs.declared.Service.{Service}
 use Rattle.service.specs.Places.{freshService}
 use Rattle.service.specs.Service.{Blocks, blocks, Given, keeping}
 use Rattle.service.proofs.Asking.{asked-met}
 use Rattle.requests.specs.declared.Request.{Request}
 use Rattle.requests.specs.declared.Request.the-variants.{Call as RequestCall, Room as RequestRoom, Malformed as RequestMalformed}
-use Rattle.requests.specs.Requests.{Asked, asksCall, asksRoom, malformed, askedOf, daysOf}
+use Rattle.requests.specs.Requests.{Demand, asksCall, asksRoom, malformed, askedOf, daysOf}
 use Rattle.requests.specs.Parsing.{requestOf, askedFrom, Parses}
 use Rattle.requests.proofs.Asking.{parsed-asked}
 use Rattle.replies.specs.Replies.{okText, malformedText, callText}
@@ -37,7 +37,7 @@ use Rattle.wire.proofs.Turns.{turn-call, turn-room, turn-malformed}
 fresh-given : {ix : List ℕ} → Published ix → Given freshService (blocks ix)
 fresh-given p = record { valid = record { standing = fresh-is .wf }; published = p }
 
-module _ {ix : List ℕ} {w : Question} {days numbers : List ℕ} {o : Outcome} {numbers′ : List ℕ} (text : List ℕ) (a : AskedOf ix w days numbers o numbers′) where
+module _ {ix : List ℕ} {w : Question} {days numbers : List ℕ} {o : Outcome} {numbers′ : List ℕ} (text : List ℕ) (a : Asked ix w days numbers o numbers′) where
   pub asked-fits : Published ix → Fits (answerOf o numbers′ text)
   asked-fits p = fits freshService (blocks ix) (fresh-given p) (asking (Ask w) days numbers text) (keeping freshService o) (blocks ix) numbers′ text (asked-met a freshService text (fresh-given p))
 
@@ -72,7 +72,7 @@ looks {bs} {room} {line} {days} {numbers} {text} {out} {q} {r} {days′} {number
     let is : q ≡ requestOf (askedOf 32768 line) = p .request ∙ ap (λ (n : ℕ). requestOf (askedOf n line)) e in
     record {
       wanted = w ∙ ap wantedBy is;
-      at = subst (λ (a : Asked). LooksAt bs (roomOf room) (requestOf (askedOf 32768 line)) a days′ numbers text out r numbers′ out′) asks
+      at = subst (λ (a : Demand). LooksAt bs (roomOf room) (requestOf (askedOf 32768 line)) a days′ numbers text out r numbers′ out′) asks
           (subst (λ (w : Request). LooksAt bs (roomOf room) w (askedFrom q days′) days′ numbers text out r numbers′ out′) is l);
       kept = p .places ∙ ap (λ (n : ℕ). over (daysOf n line) days) e;
     }

@@ -21,7 +21,7 @@ use Rattle.wire.specs.Conversation.{Conv, Turn, turnOf}
 use Rattle.requests.specs.declared.Request.{Request as RequestIn}
 use Rattle.requests.specs.declared.Request.the-variants.{Call as RequestCall, Room as RequestRoom, Read as RequestRead, Malformed as RequestMalformed}
 use Rattle.requests.specs.Parsing.{requestOf}
-use Rattle.requests.specs.Requests.{Asked, asksCall, asksRoom, asksRead, malformed, askedOf, daysOf}
+use Rattle.requests.specs.Requests.{Demand, asksCall, asksRoom, asksRead, malformed, askedOf, daysOf}
 use Rattle.buffer.specs.Buffer.{over}
 
 -- the answer of a turn, with the service and the blocks that stand for the conversation after it
@@ -49,25 +49,25 @@ pub record Restarted (room n : ℕ) (payload out : List ℕ) (r : Answered) (bs�
   pub taken : (m : State) → Taken (turnOf (asksRead n) payload (conv m room)) out r bs′ out′
 
 -- every place of the lists lent for numbers and text: a call is lent their first places
-abbrev pub numbersBy : Asked → State → ℕ → List ℕ → List ℕ → List ℕ
+abbrev pub numbersBy : Demand → State → ℕ → List ℕ → List ℕ → List ℕ
 numbersBy (asksCall c ds) m room numbers text = step m (lentOf c ds room numbers text) .answer .numbers ++ drop room numbers
 numbersBy (asksRoom n) m room numbers text = numbers
 numbersBy (asksRead n) m room numbers text = numbers
 numbersBy malformed m room numbers text = numbers
 
-abbrev pub textBy : Asked → State → ℕ → List ℕ → List ℕ → List ℕ
+abbrev pub textBy : Demand → State → ℕ → List ℕ → List ℕ → List ℕ
 textBy (asksCall c ds) m room numbers text = step m (lentOf c ds room numbers text) .answer .text ++ drop room text
 textBy (asksRoom n) m room numbers text = text
 textBy (asksRead n) m room numbers text = text
 textBy malformed m room numbers text = text
 
 -- THE POSTCONDITION of a request that asks q, begun with these lists
-pub record Answers (sv : Service) (bs : Blocks) (room : ℕ) (q : Asked) (payload numbers text out : List ℕ) (r : Answered) (bs′ : Blocks) (numbers′ text′ out′ : List ℕ) : Type 0 where
+pub record Answers (sv : Service) (bs : Blocks) (room : ℕ) (q : Demand) (payload numbers text out : List ℕ) (r : Answered) (bs′ : Blocks) (numbers′ text′ out′ : List ℕ) : Type 0 where
   pub turned : Turned sv bs (λ m. turnOf q payload (conv m room)) out r bs′ out′
   pub lists : (m : State) → Represents sv bs m → (numbers′ ≡ numbersBy q m room numbers text) × (text′ ≡ textBy q m room numbers text)
 
 -- the same whatever bytes follow its line: a call's answer does not depend on them
-abbrev pub Carries : Service → Blocks → ℕ → Asked → List ℕ → List ℕ → List ℕ → Answered → Blocks → List ℕ → List ℕ → List ℕ → Type 0
+abbrev pub Carries : Service → Blocks → ℕ → Demand → List ℕ → List ℕ → List ℕ → Answered → Blocks → List ℕ → List ℕ → List ℕ → Type 0
 Carries sv bs room q numbers text out r bs′ numbers′ text′ out′ = (payload : List ℕ) → Answers sv bs room q payload numbers text out r bs′ numbers′ text′ out′
 
 -- a room above 65,536 counts as 65,536
@@ -82,12 +82,12 @@ pub record Served (sv : Service) (bs : Blocks) (room : ℕ) (line payload days n
 -- ---- A look at a request, which wants no service or is told
 
 -- what is asked of a service, the days of a call in the first places of a list
-abbrev pub askedIn : Wanted → List ℕ → Asked
+abbrev pub askedIn : Wanted → List ℕ → Demand
 askedIn (WantedCall c k) days = asksCall c (take k days)
 askedIn (WantedRead n) days = asksRead n
 
 -- a request that only reads
-abbrev pub onlyReads : Asked → Bool
+abbrev pub onlyReads : Demand → Bool
 onlyReads (asksCall c ds) = reads c
 onlyReads (asksRoom n) = true
 onlyReads (asksRead n) = false
@@ -121,7 +121,7 @@ beside sv room place = record { service = sv; room = room; place = place }
 
 -- A request w that asks q, its days in a list. One that is answered only reads, whatever service stands beside the blocks, and that is
 -- as it was. Of another it is told what it wants, and nothing is written. Which of the two comes is `wantedBy`.
-abbrev pub LooksAt : Blocks → ℕ → RequestIn → Asked → List ℕ → List ℕ → List ℕ → List ℕ → Looked → List ℕ → List ℕ → Type 0
+abbrev pub LooksAt : Blocks → ℕ → RequestIn → Demand → List ℕ → List ℕ → List ℕ → List ℕ → Looked → List ℕ → List ℕ → Type 0
 LooksAt bs room w q days numbers text out (Done v later place) numbers′ out′ =
     (v ≡ w) × (onlyReads q ≡ true) × ((sv : Service) → Given sv bs → Carries sv bs room q numbers text out (beside sv later place) bs numbers′ text out′)
 LooksAt bs room w q days numbers text out (Wants x) numbers′ out′ = (q ≡ askedIn x days) × (numbers′ ≡ numbers) × (out′ ≡ out)

@@ -9,7 +9,7 @@ use Rattle.register.specs.Text.{Register, readText}
 use Rattle.register.specs.Text.Register.{bad}
 use Rattle.model.specs.declared.Call.{Call}
 use Rattle.model.specs.Model.{State, fresh, begun, Request, After, step}
-use Rattle.requests.specs.Requests.{Asked, asksCall, asksRoom, asksRead, malformed, askedOf}
+use Rattle.requests.specs.Requests.{Demand, asksCall, asksRoom, asksRead, malformed, askedOf}
 use Rattle.replies.specs.Replies.{okText, malformedText, callText, readingText}
 
 -- the account's state, and how many places later questions and writes are lent
@@ -42,7 +42,7 @@ unfoldable pub registerOf : ℕ → List ℕ → Register
 registerOf n payload = cond (leb n 65536) (readText payload) (bad malformedNumber 0)
 
 -- the turn of a request; the payload are the bytes after the line of a `read`
-unfoldable pub turnOf : Asked → List ℕ → Conv → Turn
+unfoldable pub turnOf : Demand → List ℕ → Conv → Turn
 turnOf (asksCall c days) payload v = turnBy c (v .room) (step (v .state) (callOf c days (v .room)))
 turnOf (asksRoom n) payload v = record { next = record { state = v .state; room = n }; reply = okText }
 turnOf (asksRead n) payload v = record {
