@@ -132,13 +132,21 @@ impl Connection {
         while self.sent < self.output.len() && !self.broken {
             match self.stream.write(&self.output[self.sent..]) {
                 Ok(count) => self.sent += count,
-                Err(error) if error.kind() == ErrorKind::WouldBlock => return,
+                Err(error) if error.kind() == ErrorKind::WouldBlock => return self.forget_sent(),
                 Err(error) if error.kind() == ErrorKind::Interrupted => (),
                 Err(_) => self.broken = true,
             }
         }
         self.output.clear();
         self.sent = 0;
+    }
+
+    /// Lets go of what is sent, where that is the greater part: a client that reads all the time may never have taken everything.
+    fn forget_sent(&mut self) {
+        if self.sent > self.output.len() / 2 {
+            self.output.drain(..self.sent);
+            self.sent = 0;
+        }
     }
 
     /// Whether there is nothing left to do for it.
