@@ -5,6 +5,8 @@ use std::fs;
 use std::os::unix::fs::PermissionsExt;
 use std::os::unix::net::UnixDatagram;
 use std::process::Command;
+use std::thread::sleep;
+use std::time::Duration;
 
 pub fn check(program: &Program) -> Result<String, String> {
     begins(program)?;
@@ -87,7 +89,14 @@ fn begins_again(program: &Program) -> Result<(), String> {
         let mode = fs::metadata(place.data().join(name)).map_err(|error| error.to_string())?.permissions().mode();
         expect(&format!("{name} is {mode:o}"), mode & 0o777 == 0o600)?;
     }
-    expect("a socket is not of this machine alone", all_local(service.process())?)?;
+    // a connection that comes or goes while they are listed is looked for again
+    let local = |_| {
+        all_local(service.process()).unwrap_or(false) || {
+            sleep(Duration::from_millis(10));
+            false
+        }
+    };
+    expect("a socket is not of this machine alone", (0..50).any(local))?;
     expect("a change is refused", service.connect()?.ask(b"enter\t1\t7\t1\t10\tG\t2\n")? == b"ok\n")?;
     service.kill()?;
     expect("no socket is left behind", place.socket().exists())?;
@@ -138,7 +147,7 @@ fn limit(program: &Program) -> Result<(), String> {
         if service.connect()?.ask(b"days\n").is_ok_and(|answer| answer == b"listed\t0\t-\n") {
             return Ok(());
         }
-        std::thread::sleep(std::time::Duration::from_millis(5));
+        sleep(Duration::from_millis(5));
     }
     Err("a place that became free is not given again".to_string())
 }
@@ -147,7 +156,7 @@ fn limit(program: &Program) -> Result<(), String> {
 fn systemd(program: &Program) -> Result<(), String> {
     let place = Place::new("systemd");
     let told = UnixDatagram::bind(place.folder().join("notify")).map_err(|error| error.to_string())?;
-    told.set_read_timeout(Some(std::time::Duration::from_secs(20))).map_err(|error| error.to_string())?;
+    told.set_read_timeout(Some(Duration::from_secs(20))).map_err(|error| error.to_string())?;
     let script = "import os, socket, sys\ns = socket.socket(socket.AF_UNIX)\ns.bind(sys.argv[2])\ns.listen()\n\
         os.dup2(s.fileno(), 3)\nos.set_inheritable(3, True)\nos.environ.update(LISTEN_FDS='1', LISTEN_PID=str(os.getpid()))\n\
         os.execv(sys.argv[1], [sys.argv[1], '--data', sys.argv[3]])";
