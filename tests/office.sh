@@ -7,6 +7,7 @@
 #     clients                      slow, silent and rude clients, half-closed connections, bursts, no descriptors left
 #     order                        by its system calls: the commit's synchronisation before the answer's write, one commit and few writes
 #     damage                       a damaged, forged, foreign or other journal is refused, and nothing is changed
+#     log                          a damaged write-ahead log is refused, one whose last commit is cut off is not
 #     failures                     a write or a synchronisation that fails, another program that holds the journal
 #     disk                         a full disk, and a limit on the size of files
 #     many [--length N --seed N]   16 connections that edit and ask at once, N requests each
@@ -44,7 +45,7 @@ missing libsqlite3-dev
 } > "$work/said" 2>&1 &
 others=$!
 (cd "$top/rust" && cargo test --quiet --release --package daemon > /dev/null)
-for name in manners record kept clients order damage failures disk; do
+for name in manners record kept clients order damage log failures disk; do
     try "$name"
 done
 came=0

@@ -4,7 +4,9 @@
 use crate::archive::{self, State, Words, SERVICE_WORDS};
 use crate::sha256::{sum, Sum};
 use crate::sqlite::{Database, Failure, Open};
-use std::fs;
+use crate::write_ahead::{self, Log};
+use std::fs::{self, File};
+use std::io::{self, BufReader, ErrorKind, Read};
 use std::path::{Path, PathBuf};
 
 /// What marks a database as a journal of this program.
@@ -70,6 +72,8 @@ impl Snapshot {
 
 pub struct Journal {
     database: Database,
+    /// Behind the commits of the log lies one that is not whole.
+    is_cut: bool,
 }
 
 /// Why a journal can't be used, in a sentence.
@@ -84,13 +88,69 @@ pub fn file_in(folder: &Path) -> PathBuf {
     folder.join("journal.db")
 }
 
+/// SQLite's write-ahead log of a database; where its path is a link, it is beside the file itself.
+fn log_of(database: &Path) -> PathBuf {
+    let mut name = fs::canonicalize(database).unwrap_or_else(|_| database.to_path_buf()).into_os_string();
+    name.push("-wal");
+    name.into()
+}
+
+/// The bytes of a page of a database, as its header tells them: 1 stands for the most.
+fn page_of(database: &Path) -> usize {
+    let mut header = [0; 18];
+    let told = File::open(database).and_then(|mut file| file.read_exact(&mut header));
+    match u16::from_be_bytes([header[16], header[17]]) {
+        1 => 65_536,
+        page if told.is_ok() && page.is_power_of_two() => page.into(),
+        _ => 4096,
+    }
+}
+
+fn look_at_log(database: &Path, log: &Path) -> Result<Log, Refusal> {
+    let failed = |error: io::Error| format!("{}: {error}", log.display());
+    match File::open(log) {
+        Ok(file) => write_ahead::look(BufReader::with_capacity(1 << 16, file), page_of(database)).map_err(failed),
+        Err(error) if error.kind() == ErrorKind::NotFound => Ok(Log::Whole),
+        Err(error) => Err(failed(error)),
+    }
+}
+
+/// Sees that SQLite will pass over no commit of the write-ahead log that was acknowledged. Whether the last one, which may not have been, is not whole.
+fn check_log(database: &Path) -> Result<bool, Refusal> {
+    let log = log_of(database);
+    let is_empty = |file: &Path| fs::metadata(file).map_or(true, |file| file.len() == 0);
+    // SQLite would remove the log
+    if is_empty(database) && !is_empty(&log) {
+        return Err(format!("{} is damaged: it is missing or empty, beside a write-ahead log", database.display()));
+    }
+    let mut before = None;
+    loop {
+        match look_at_log(database, &log)? {
+            Log::Whole => return Ok(false),
+            Log::Cut => return Ok(true),
+            // a service that runs may write the log anew while it is looked at: damage is found there again
+            Log::Damaged(place) if before.as_ref() != Some(&place) => before = Some(place),
+            Log::Damaged(_) => {
+                let shown = log.display();
+                return Err(format!("{shown} is damaged: commits that were acknowledged can't be read any more"));
+            }
+        }
+    }
+}
+
 impl Journal {
     /// The journal of a folder to write to; made where there is none.
     pub fn open(folder: &Path) -> Result<Journal, Refusal> {
         let path = file_in(folder);
+        let is_cut = check_log(&path)?;
+        if is_cut {
+            let log = log_of(&path);
+            eprintln!("phayaklitd: {} ends with a commit that is not whole, and is passed over", log.display());
+        }
         let fresh = fs::metadata(&path).map_or(true, |file| file.len() == 0);
         let how = if fresh { Open::OrCreate } else { Open::ToWrite };
-        let journal = Journal::at(&path, how)?;
+        let mut journal = Journal::at(&path, how)?;
+        journal.is_cut = is_cut;
         if journal.is_empty()? {
             journal.make()?;
         }
@@ -99,18 +159,29 @@ impl Journal {
         Ok(journal)
     }
 
+    /// Lets nothing of a commit that is not whole lie behind those to come, where it could be taken for a later one.
+    pub fn clear_log(&self) {
+        if self.is_cut {
+            // where this can't be done, as on a full disk, they are written over it
+            let _ = self.database.run("PRAGMA wal_checkpoint(TRUNCATE)");
+        }
+    }
+
     /// The journal of a folder to read, also where nothing can be written: there SQLite needs to be told that nobody else writes either.
     pub fn open_to_read(folder: &Path) -> Result<Journal, Refusal> {
         let path = file_in(folder);
         if !path.exists() {
             return Err(format!("{} has no journal.db", folder.display()));
         }
+        check_log(&path)?;
         let mut journal = Journal::at(&path, Open::ToRead)?;
-        let is_closed = !folder.join("journal.db-wal").exists();
+        let is_closed = !log_of(&path).exists();
         let looked = journal.database.number("PRAGMA application_id");
         if is_closed && looked.is_err_and(|failure| failure.is_unopened()) {
             journal = Journal::at(&path, Open::Unwritten)?;
         }
+        // rows, head and words as they are at one moment, also where a service goes on writing
+        journal.database.run("BEGIN").map_err(failed("journal.db"))?;
         journal.check_versions()?;
         Ok(journal)
     }
@@ -119,7 +190,7 @@ impl Journal {
         let shown = path.display().to_string();
         let database = Database::open(path, how).map_err(failed(&shown))?;
         database.wait_at_most(2000);
-        Ok(Journal { database })
+        Ok(Journal { database, is_cut: false })
     }
 
     /// Whether the database has nothing in it, as one that a program that ended at once has left.

@@ -19,6 +19,7 @@ mod start;
 mod status;
 mod system;
 mod time;
+mod write_ahead;
 
 use committer::Committer;
 use journal::Journal;

@@ -6,6 +6,7 @@ mod disk;
 mod failures;
 mod kept;
 mod kills;
+mod log;
 mod manners;
 mod many;
 mod order;
@@ -28,6 +29,7 @@ fn tried(own: &str, name: &str, words: &[String]) -> Result<String, String> {
         "disk" => disk::check(&program)?,
         "order" => order::check(&program)?,
         "damage" => damage::check(&program)?,
+        "log" => log::check(&program)?,
         "manners" => manners::check(&program)?,
         "record" => record::check(&program, own)?,
         "kept" => kept::check(&program)?,
