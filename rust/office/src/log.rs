@@ -4,7 +4,9 @@
 use crate::service::{expect, Client, Place, Program};
 use std::fs;
 use std::os::unix::fs::symlink;
-use std::thread::spawn;
+use std::process::Command;
+use std::thread::{sleep, spawn};
+use std::time::Duration;
 
 /// So many changes has a log that was never carried over to the database; and so many are made while others read.
 const CHANGES: u64 = 30;
@@ -32,6 +34,7 @@ pub fn check(program: &Program) -> Result<String, String> {
     cut_off(program, &begun)?;
     // what lies behind a log that was begun anew
     goes_on(program, &anew.changed(anew.log.len() - 100), anew.changes, false)?;
+    held_up(program)?;
     let readings = read_meanwhile(program)?;
     Ok(format!(
         "{} damages are refused, a last commit that is cut off is not; {readings} readings meanwhile",
@@ -109,12 +112,7 @@ fn left_by(program: &Program) -> Result<[Left; 3], String> {
     }
     let begun = Left::at(&place, CHANGES)?;
     expect("not every change has a commit", begun.ends().len() as u64 == CHANGES + 1)?;
-    let mut carried_over = begun.clone();
-    while carried_over.database.len() == begun.database.len() {
-        expect("the log is never carried over", carried_over.changes < 5000)?;
-        change(&mut client, carried_over.changes + 1)?;
-        carried_over = Left::at(&place, carried_over.changes + 1)?;
-    }
+    let carried_over = until_carried_over(&place, &mut client, CHANGES)?;
     for number in 1..=5 {
         change(&mut client, carried_over.changes + number)?;
     }
@@ -123,6 +121,19 @@ fn left_by(program: &Program) -> Result<[Left; 3], String> {
     expect("the log is not begun anew", is_anew)?;
     service.kill()?;
     Ok([begun, carried_over, anew])
+}
+
+/// Changes until the log is carried over to the database, which grows then: the files.
+fn until_carried_over(place: &Place, client: &mut Client, changes: u64) -> Result<Left, String> {
+    let size = || fs::metadata(place.data().join("journal.db")).map_or(0, |file| file.len());
+    let before = size();
+    for number in changes + 1..changes + 5000 {
+        change(client, number)?;
+        if size() > before {
+            return Left::at(place, number);
+        }
+    }
+    Err("the log is never carried over".to_string())
 }
 
 /// Single bytes of the header, and of the first frame, one in the midst and the last but one that ends a commit; and whole blocks.
@@ -213,6 +224,32 @@ fn cut_off(program: &Program, left: &Left) -> Result<(), String> {
         goes_on(program, &left.with_log(log, format!("{zeros} zeros behind it")), left.changes, false)?;
     }
     Ok(())
+}
+
+/// A reader that has seen the header of a log, and is held up while that is begun anew: it looks again, and finds no damage.
+fn held_up(program: &Program) -> Result<(), String> {
+    let place = Place::new("log-held-up");
+    let service = program.start(&place)?;
+    let mut client = service.connect()?;
+    let carried_over = until_carried_over(&place, &mut client, 0)?;
+    let (log, trace) = (place.data().join("journal.db-wal"), place.folder().join("trace"));
+    let mut command = Command::new("strace");
+    command.arg("-o").arg(&trace).arg("-P").arg(&log).args(["-e", "inject=read:delay_exit=1500000:when=1"]);
+    command.arg(&program.0).arg("verify").arg("--data").arg(place.data());
+    let reader = spawn(move || command.output());
+    let reads = || fs::read_to_string(&trace).map_or(0, |trace| trace.matches("read(").count());
+    while reads() == 0 {
+        expect("nothing is read", !reader.is_finished())?;
+        sleep(Duration::from_millis(1));
+    }
+    for number in 1..=60 {
+        change(&mut client, carried_over.changes + number)?;
+    }
+    let out =
+        reader.join().map_err(|_| "the reader failed".to_string())?.map_err(|error| format!("strace: {error}"))?;
+    expect("the log is not begun anew", Left::at(&place, 0)?.log[16..24] != carried_over.log[16..24])?;
+    expect("the log is looked at once only", reads() > carried_over.log.len() / 65_536 * 3 / 2)?;
+    expect(&format!("a reader that was held up: {}", String::from_utf8_lossy(&out.stderr)), out.status.success())
 }
 
 /// Readers while changes are made, over which the log is begun anew more than once: none takes it for damaged. How many there were.
