@@ -72,8 +72,6 @@ impl Snapshot {
 
 pub struct Journal {
     database: Database,
-    /// Behind the commits of the log lies one that is not whole.
-    is_cut: bool,
 }
 
 /// Why a journal can't be used, in a sentence.
@@ -142,29 +140,39 @@ impl Journal {
     /// The journal of a folder to write to; made where there is none.
     pub fn open(folder: &Path) -> Result<Journal, Refusal> {
         let path = file_in(folder);
-        let is_cut = check_log(&path)?;
-        if is_cut {
+        if check_log(&path)? {
             let log = log_of(&path);
             eprintln!("phayaklitd: {} ends with a commit that is not whole, and is passed over", log.display());
         }
         let fresh = fs::metadata(&path).map_or(true, |file| file.len() == 0);
         let how = if fresh { Open::OrCreate } else { Open::ToWrite };
-        let mut journal = Journal::at(&path, how)?;
-        journal.is_cut = is_cut;
+        let journal = Journal::at(&path, how)?;
         if journal.is_empty()? {
             journal.make()?;
         }
         journal.check_versions()?;
-        journal.database.run("PRAGMA synchronous = FULL").map_err(failed("journal.db"))?;
         Ok(journal)
     }
 
-    /// Lets nothing of a commit that is not whole lie behind those to come, where it could be taken for a later one.
-    pub fn clear_log(&self) {
-        if self.is_cut {
-            // where this can't be done, as on a full disk, they are written over it
-            let _ = self.database.run("PRAGMA wal_checkpoint(TRUNCATE)");
+    /// Makes a journal that was found whole ready for changes: each commit goes to the write-ahead log, and is synchronised before it ends.
+    pub fn make_ready(&self) -> Result<(), Refusal> {
+        // a copy may be of another mode, in which a loss of power can take a commit back that has ended
+        let mode = self.mode("PRAGMA journal_mode = WAL").map_err(failed("journal.db"))?;
+        if mode != "wal" {
+            return Err(format!("journal.db can't have a write-ahead log: its mode is {mode}"));
         }
+        self.database.run("PRAGMA synchronous = FULL").map_err(failed("journal.db"))?;
+        // the log begins empty: later commits rest on no frame of which it is not known that it is on the disk, and none lies behind them
+        if let Err(failure) = self.database.run("PRAGMA wal_checkpoint(TRUNCATE)") {
+            eprintln!("phayaklitd: journal.db-wal is not carried over to journal.db, and goes on: {failure}");
+        }
+        Ok(())
+    }
+
+    fn mode(&self, sql: &str) -> Result<String, Failure> {
+        let mut told = self.database.prepare(sql)?;
+        told.next()?;
+        Ok(String::from_utf8_lossy(told.bytes(0)).into_owned())
     }
 
     /// The journal of a folder to read, also where nothing can be written: there SQLite needs to be told that nobody else writes either.
@@ -190,7 +198,7 @@ impl Journal {
         let shown = path.display().to_string();
         let database = Database::open(path, how).map_err(failed(&shown))?;
         database.wait_at_most(2000);
-        Ok(Journal { database, is_cut: false })
+        Ok(Journal { database })
     }
 
     /// Whether the database has nothing in it, as one that a program that ended at once has left.

@@ -33,6 +33,7 @@ pub fn check(program: &Program) -> Result<String, String> {
         program.verified(place, CHANGES as u64 + 3)?;
         all_there(&mut program.start(place)?.connect()?)?;
     }
+    of_another_mode(program, &place)?;
     ended_in_the_midst(program)?;
     Ok("words, copies, and an end in the midst of changes".to_string())
 }
@@ -67,6 +68,21 @@ fn copied(place: &Place, to: &Place) -> Result<(), String> {
     let file = to.data().join("journal.db");
     let copy = format!("copy = sqlite3.connect({file:?})\ndb.backup(copy)\ncopy.close()");
     with_database(&place.data(), &copy).map(|_| ())
+}
+
+/// A copy by `VACUUM INTO` has no write-ahead log, and a commit without one may be taken back by a loss of power: it has one from the start on.
+fn of_another_mode(program: &Program, place: &Place) -> Result<(), String> {
+    let other = Place::new("mode");
+    fs::create_dir_all(other.data()).map_err(|error| error.to_string())?;
+    let file = other.data().join("journal.db");
+    with_database(&place.data(), &format!("db.execute('VACUUM INTO ?', [{file:?}])"))?;
+    let mode = "print(*db.execute('PRAGMA journal_mode').fetchone())";
+    expect("the copy has a write-ahead log", with_database(&other.data(), mode)?.trim() == "delete")?;
+    let service = program.start(&other)?;
+    all_there(&mut service.connect()?)?;
+    expect("it has no write-ahead log", with_database(&other.data(), mode)?.trim() == "wal")?;
+    service.end()?;
+    program.verified(&other, CHANGES as u64 + 3)
 }
 
 /// Where it is asked to end while changes arrive, exactly those are made that are answered.

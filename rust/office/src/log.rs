@@ -111,7 +111,7 @@ fn left_by(program: &Program) -> Result<[Left; 3], String> {
         change(&mut client, number)?;
     }
     let begun = Left::at(&place, CHANGES)?;
-    expect("not every change has a commit", begun.ends().len() as u64 == CHANGES + 1)?;
+    expect("not every change has a commit", begun.ends().len() as u64 == CHANGES)?;
     let carried_over = until_carried_over(&place, &mut client, CHANGES)?;
     for number in 1..=5 {
         change(&mut client, carried_over.changes + number)?;
@@ -192,10 +192,8 @@ fn goes_on(program: &Program, left: &Left, changes: u64, is_told: bool) -> Resul
     let mut client = service.connect()?;
     let sequence = client.status("sequence")?;
     expect(&named(format!("it begins with {sequence}, for {changes}")), sequence == changes.to_string())?;
-    if is_told {
-        let log = Left::at(&place, changes)?.log;
-        expect(&named("the commit that is not whole is left in the log".to_string()), log.is_empty())?;
-    }
+    let log = Left::at(&place, changes)?.log;
+    expect(&named("the log does not begin empty".to_string()), log.is_empty())?;
     change(&mut client, changes + 1).map_err(named)?;
     let (status, told) = service.end()?;
     expect(&named(format!("it ended with {status}: {told}")), status.success() && told.contains(CUT) == is_told)?;
