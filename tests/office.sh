@@ -5,11 +5,11 @@
 #     record                       status, history, the users and times of changes, and what another user may do
 #     kept                         the words after some thousand changes, a copy that is made meanwhile, an end in the midst of changes
 #     clients                      slow, silent and rude clients, half-closed connections, bursts, no descriptors left
-#     order                        by its system calls: the commit's synchronisation before the answer's write, one commit and few writes
+#     order                        by its system calls: folders synchronised before it serves, a commit before its answer, one commit and few writes
 #     damage                       a damaged, forged, foreign or other journal is refused, and nothing is changed
 #     log                          a damaged write-ahead log is refused, one whose last commit is cut off is not
 #     failures                     a write or a synchronisation that fails, another program that holds the journal
-#     disk                         a full disk, and a limit on the size of files
+#     disk                         a full disk, and a limit on the size of files with messages that can't be written
 #     many [--length N --seed N]   16 connections that edit and ask at once, N requests each
 #     kills [--length N --seed N]  killed N times at random moments, with requests in flight, and compared with the plain account
 set -euo pipefail

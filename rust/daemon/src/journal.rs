@@ -4,6 +4,7 @@
 use crate::archive::{self, State, Words, SERVICE_WORDS};
 use crate::sha256::{sum, Sum};
 use crate::sqlite::{Database, Failure, Open};
+use crate::system::tell;
 use crate::write_ahead::{self, Log};
 use std::fs::{self, File};
 use std::io::{self, BufReader, ErrorKind, Read};
@@ -142,7 +143,7 @@ impl Journal {
         let path = file_in(folder);
         if check_log(&path)? {
             let log = log_of(&path);
-            eprintln!("phayaklitd: {} ends with a commit that is not whole, and is passed over", log.display());
+            tell(&format!("{} ends with a commit that is not whole, and is passed over", log.display()));
         }
         let fresh = fs::metadata(&path).map_or(true, |file| file.len() == 0);
         let how = if fresh { Open::OrCreate } else { Open::ToWrite };
@@ -164,7 +165,7 @@ impl Journal {
         self.database.run("PRAGMA synchronous = FULL").map_err(failed("journal.db"))?;
         // the log begins empty: later commits rest on no frame of which it is not known that it is on the disk, and none lies behind them
         if let Err(failure) = self.database.run("PRAGMA wal_checkpoint(TRUNCATE)") {
-            eprintln!("phayaklitd: journal.db-wal is not carried over to journal.db, and goes on: {failure}");
+            tell(&format!("journal.db-wal is not carried over to journal.db, and goes on: {failure}"));
         }
         Ok(())
     }

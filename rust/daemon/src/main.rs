@@ -33,13 +33,13 @@ use std::{env, fs};
 fn main() -> ExitCode {
     match options::read(env::args().skip(1)) {
         Err(wrong) => {
-            eprint!("phayaklitd: {wrong}\n{USAGE}");
+            system::tell(&format!("{wrong}\n{}", USAGE.trim_end()));
             ExitCode::from(2)
         }
         Ok(asked) => match carry_out(asked) {
             Ok(()) => ExitCode::SUCCESS,
             Err(told) => {
-                eprintln!("phayaklitd: {told}");
+                system::tell(&told);
                 ExitCode::FAILURE
             }
         },
@@ -81,7 +81,8 @@ fn serve(serving: &Serving) -> Result<(), String> {
     let mut server = Server::new(parts).map_err(failed)?;
     start::tell_ready();
     let (folder, limit) = (serving.data.display(), serving.connections);
-    eprintln!("phayaklitd: serving {folder} from change {} on, to at most {limit} connections", head.sequence);
+    let from = head.sequence;
+    system::tell(&format!("serving {folder} from change {from} on, to at most {limit} connections"));
     server.serve()?;
     if let Some(path) = &serving.socket {
         // the next start removes it where this can't be done

@@ -166,7 +166,7 @@ impl Server {
                 Ok((stream, _)) => self.admit(stream),
                 Err(error) if error.kind() == ErrorKind::WouldBlock => return,
                 Err(error) if error.kind() == ErrorKind::Interrupted => (),
-                Err(error) => return eprintln!("phayaklitd: a connection can't be taken: {error}"),
+                Err(error) => return system::tell(&format!("a connection can't be taken: {error}")),
             }
         }
     }
@@ -350,7 +350,7 @@ impl Server {
                 true
             }
             Err(failure) if failure.nothing_written() => {
-                eprintln!("phayaklitd: nothing was written, and the changes are answered `unavailable`: {failure}");
+                system::tell(&format!("nothing was written, and the changes are answered `unavailable`: {failure}"));
                 self.drop_later(&mut batch);
                 false
             }
@@ -394,7 +394,7 @@ impl Server {
         if self.head.sequence > 0 {
             self.committer.commit(Work { changes: Vec::new(), snapshot: Some(Snapshot::of(&self.live)) });
             if let Some(Err(failure)) = self.committer.await_end() {
-                eprintln!("phayaklitd: the words are not kept, and the next start takes longer: {failure}");
+                system::tell(&format!("the words are not kept, and the next start takes longer: {failure}"));
             }
         }
         Ok(())

@@ -5,7 +5,7 @@ use crate::journal::{Change, Head, Journal};
 use crate::options::Serving;
 use crate::{replay, system, time};
 use std::fs::{self, File, OpenOptions};
-use std::io::ErrorKind;
+use std::io::{self, ErrorKind};
 use std::os::fd::FromRawFd;
 use std::os::linux::net::SocketAddrExt;
 use std::os::unix::fs::FileTypeExt;
@@ -13,10 +13,22 @@ use std::os::unix::net::{SocketAddr, UnixDatagram, UnixListener, UnixStream};
 use std::path::Path;
 use std::{env, process};
 
+/// Makes a folder where it is missing, with those above it, so that a loss of power does not take it away with all that is in it.
+fn make(folder: &Path) -> io::Result<()> {
+    let missing: Vec<&Path> = folder.ancestors().take_while(|path| !path.exists()).collect();
+    fs::create_dir_all(folder)?;
+    for made in missing {
+        let above = made.parent().filter(|above| !above.as_os_str().is_empty()).unwrap_or(Path::new("."));
+        // who may make a folder there and not list it can't synchronise it
+        File::open(above).map_or(Ok(()), |above| above.sync_all())?;
+    }
+    Ok(())
+}
+
 /// Takes the folder for this service alone, as long as the file is open.
 pub fn lock(folder: &Path) -> Result<File, String> {
     let shown = folder.display();
-    fs::create_dir_all(folder).map_err(|error| format!("{shown}: {error}"))?;
+    make(folder).map_err(|error| format!("{shown}: {error}"))?;
     let path = folder.join("lock");
     let file = OpenOptions::new().create(true).truncate(false).write(true).open(&path);
     let file = file.map_err(|error| format!("{}: {error}", path.display()))?;
@@ -101,6 +113,6 @@ pub fn tell_ready() {
     };
     let sent = address.and_then(|address| UnixDatagram::unbound()?.send_to_addr(b"READY=1\n", &address));
     if let Err(error) = sent {
-        eprintln!("phayaklitd: {name}: {error}");
+        system::tell(&format!("{name}: {error}"));
     }
 }

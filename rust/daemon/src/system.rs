@@ -2,7 +2,7 @@
 
 use std::ffi::{c_int, c_long, c_void};
 use std::hint::spin_loop;
-use std::io;
+use std::io::{self, Write};
 use std::os::fd::{AsRawFd, FromRawFd, OwnedFd, RawFd};
 use std::os::unix::net::UnixStream;
 use std::sync::atomic::{AtomicI32, Ordering};
@@ -158,6 +158,11 @@ pub fn for_owner_and_group<T>(make: impl FnOnce() -> T) -> T {
     let made = make();
     unsafe { umask(before) };
     made
+}
+
+/// Tells something on standard error. Where that can't be written, as to a file on a full disk, there is nobody to tell, and the service goes on.
+pub fn tell(what: &str) {
+    let _ = io::stderr().write_all(format!("phayaklitd: {what}\n").as_bytes());
 }
 
 static ENDING: AtomicI32 = AtomicI32::new(-1);

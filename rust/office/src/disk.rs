@@ -33,7 +33,7 @@ fn full(program: &Program, place: &Place) -> Result<String, String> {
     Ok(format!("a disk is full after {before} changes, and takes {after} more when there is space again"))
 }
 
-/// A limit on the size of files, which must not kill it.
+/// A limit on the size of files, which must not kill it, nor that nobody can be told of it.
 fn limited(program: &Program) -> Result<String, String> {
     let place = &Place::new("limited");
     let service = program.start_limited(place, 600)?;

@@ -1,13 +1,16 @@
-//! The system calls of changes and questions: a commit is synchronised before its answer is written, and what is sent at once shares one
+//! The system calls of a start, of changes and of questions: folders are synchronised before it serves, a commit is synchronised before its answer is written, and what is sent at once shares one
 //! commit and few writes.
 
-use crate::service::{expect, Client, Place, Program};
+use crate::service::{expect, Client, Place, Program, Service};
 use crate::tracer::Tracer;
+use std::fs;
+use std::process::Command;
 
 /// So many requests are sent at once.
 const AT_ONCE: usize = 64;
 
 pub fn check(program: &Program) -> Result<String, String> {
+    folders(program)?;
     let place = Place::new("order");
     let service = program.start(&place)?;
     let mut client = service.connect()?;
@@ -34,6 +37,24 @@ pub fn check(program: &Program) -> Result<String, String> {
     let writes = count(&["\"refused\\t7"]) + count(&["\"ok\\nok"]);
     expect(&format!("two times {AT_ONCE} requests sent at once take {writes} writes"), writes <= 4)?;
     Ok("the commit is synchronised before its answer is written".to_string())
+}
+
+/// The folders that it makes are synchronised, each in the one above it, before it serves.
+fn folders(program: &Program) -> Result<(), String> {
+    let place = Place::new("folders");
+    let trace = place.folder().join("trace");
+    let mut command = Command::new("strace");
+    command.args(["-D", "-f", "-o"]).arg(&trace).args(["-y", "-e", "trace=fsync,listen"]).arg(&program.0);
+    command.arg("--data").arg(place.data()).arg("--socket").arg(place.socket());
+    let service = Service::of(command, &place)?;
+    let traced = fs::read_to_string(&trace).map_err(|error| error.to_string())?;
+    let before: Vec<&str> = traced.lines().take_while(|line| !line.contains("listen(")).collect();
+    for folder in [place.folder(), &place.folder().join("office")] {
+        let synced = format!("<{}>)", folder.display());
+        let is_synced = before.iter().any(|line| line.contains("fsync(") && line.contains(&synced));
+        expect(&format!("{} is not synchronised: {traced}", folder.display()), is_synced)?;
+    }
+    service.end().map(|_| ())
 }
 
 fn all_at_once(client: &mut Client, request: impl Fn(usize) -> String, answer: &[u8]) -> Result<(), String> {

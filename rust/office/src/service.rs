@@ -84,10 +84,10 @@ impl Program {
         Service::of(self.command(place), place)
     }
 
-    /// The same with a limit on the size of its files, in blocks of 512 bytes.
+    /// The same with a limit on the size of its files, in blocks of 512 bytes, and with messages that can't be written.
     pub fn start_limited(&self, place: &Place, blocks: usize) -> Result<Service, String> {
         let mut command = Command::new("sh");
-        command.arg("-c").arg(format!("ulimit -f {blocks}; exec \"$0\" --data \"$1\" --socket \"$2\""));
+        command.arg("-c").arg(format!("ulimit -f {blocks}; exec \"$0\" --data \"$1\" --socket \"$2\" 2> /dev/full"));
         command.arg(&self.0).arg(place.data()).arg(place.socket());
         Service::of(command, place)
     }
