@@ -8,6 +8,7 @@ use crate::system::tell;
 use crate::write_ahead::{self, Log};
 use std::fs::{self, File};
 use std::io::{self, BufReader, ErrorKind, Read};
+use std::os::unix::fs::MetadataExt;
 use std::path::{Path, PathBuf};
 
 /// What marks a database as a journal of this program.
@@ -73,6 +74,30 @@ impl Snapshot {
 
 pub struct Journal {
     database: Database,
+    /// The files that changes are written to.
+    files: Vec<Written>,
+}
+
+/// A file by its path, and by its device and its number there.
+struct Written {
+    path: PathBuf,
+    is: (u64, u64),
+}
+
+impl Written {
+    fn at(path: PathBuf) -> io::Result<Written> {
+        let found = fs::metadata(&path)?;
+        Ok(Written { path, is: (found.dev(), found.ino()) })
+    }
+
+    /// SQLite goes on writing to a file that was removed, or that another was put in the place of.
+    fn check(&self) -> Result<(), Failure> {
+        match fs::metadata(&self.path) {
+            Ok(found) if (found.dev(), found.ino()) != self.is => Err(Failure::moved(&self.path)),
+            Err(error) if error.kind() == ErrorKind::NotFound => Err(Failure::moved(&self.path)),
+            _ => Ok(()),
+        }
+    }
 }
 
 /// Why a journal can't be used, in a sentence.
@@ -156,7 +181,7 @@ impl Journal {
     }
 
     /// Makes a journal that was found whole ready for changes: each commit goes to the write-ahead log, and is synchronised before it ends.
-    pub fn make_ready(&self) -> Result<(), Refusal> {
+    pub fn make_ready(&mut self, folder: &Path) -> Result<(), Refusal> {
         // a copy may be of another mode, in which a loss of power can take a commit back that has ended
         let mode = self.mode("PRAGMA journal_mode = WAL").map_err(failed("journal.db"))?;
         if mode != "wal" {
@@ -167,6 +192,10 @@ impl Journal {
         if let Err(failure) = self.database.run("PRAGMA wal_checkpoint(TRUNCATE)") {
             tell(&format!("journal.db-wal is not carried over to journal.db, and goes on: {failure}"));
         }
+        let path = file_in(folder);
+        let log = log_of(&path);
+        let files = [path, log].map(Written::at).into_iter().collect::<io::Result<_>>();
+        self.files = files.map_err(|error| format!("journal.db: {error}"))?;
         Ok(())
     }
 
@@ -199,7 +228,7 @@ impl Journal {
         let shown = path.display().to_string();
         let database = Database::open(path, how).map_err(failed(&shown))?;
         database.wait_at_most(2000);
-        Ok(Journal { database })
+        Ok(Journal { database, files: Vec::new() })
     }
 
     /// Whether the database has nothing in it, as one that a program that ended at once has left.
@@ -309,6 +338,7 @@ impl Journal {
         self.database.kept("BEGIN IMMEDIATE")?.carry_out()?;
         let written = self.insert(head, changes, snapshot).and_then(|head| {
             self.database.kept("COMMIT")?.carry_out()?;
+            self.files.iter().try_for_each(Written::check)?;
             Ok(head)
         });
         if written.is_err() {

@@ -57,6 +57,7 @@ const FULL: c_int = 13;
 const UNOPENED: c_int = 14;
 const NOT_A_DATABASE: c_int = 26;
 const WRITE_FAILED: c_int = 778;
+const MOVED: c_int = 1032;
 const OPEN_READ: c_int = 0x0000_0001;
 const OPEN_WRITE: c_int = 0x0000_0002;
 const OPEN_CREATE: c_int = 0x0000_0004;
@@ -74,6 +75,11 @@ impl Failure {
     /// Whether SQLite says that nothing was written: the disk is full, the database is held by another, a write failed.
     pub fn nothing_written(&self) -> bool {
         self.code & 0xFF == BUSY || self.code == FULL || self.code == WRITE_FAILED
+    }
+
+    /// A database that is no longer where it was opened: what is written to it will not be found.
+    pub fn moved(file: &Path) -> Failure {
+        Failure { code: MOVED, said: format!("{} was removed or replaced", file.display()) }
     }
 
     pub fn is_unopened(&self) -> bool {

@@ -45,7 +45,7 @@ pub fn open(serving: &Serving) -> Result<(Journal, State, Head), String> {
     let read = register.map(|text| reading(&text)).transpose()?;
     let mut journal = Journal::open(&serving.data)?;
     let (state, head) = replay::restore(&journal)?;
-    journal.make_ready()?;
+    journal.make_ready(&serving.data)?;
     match read {
         None => Ok((journal, state, head)),
         Some(_) if head.sequence > 0 => {

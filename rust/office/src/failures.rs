@@ -1,4 +1,4 @@
-//! Commits that fail: where nothing was written the service says so and goes on; where a synchronisation failed it ends, and answers nobody.
+//! Commits that fail: where nothing was written the service says so and goes on; where a synchronisation failed or a file is gone it ends, and answers nobody.
 
 use crate::rows::with_database;
 use crate::service::{expect, Client, Place, Program, Service, UNAVAILABLE};
@@ -12,8 +12,9 @@ pub fn check(program: &Program) -> Result<String, String> {
     let held = spawn(move || held_by_another(&of_another));
     write_fails(program)?;
     synchronisation_fails(program)?;
+    files_go(program)?;
     held.join().map_err(|_| "a test failed".to_string())??;
-    Ok("a write, a synchronisation and another program's hold, each as it should be".to_string())
+    Ok("a write, a synchronisation, files that go and another program's hold, each as it should be".to_string())
 }
 
 fn enter(client: &mut Client, number: usize) -> Result<Vec<u8>, String> {
@@ -65,6 +66,26 @@ fn synchronisation_fails(program: &Program) -> Result<(), String> {
     expect(&format!("{standing} stand after {rows} changes"), standing == rows && (1..=2).contains(&rows))?;
     service.end()?;
     program.verified(&place, rows)
+}
+
+/// A file of the journal is removed, or another is put in its place: what is written to it would be lost, so that it is not answered.
+fn files_go(program: &Program) -> Result<(), String> {
+    for (name, is_replaced) in [("journal.db", false), ("journal.db", true), ("journal.db-wal", false)] {
+        let place = Place::new("files");
+        let (service, mut client) = begun(program, &place)?;
+        let (file, copy) = (place.data().join(name), place.folder().join("copy"));
+        let gone = match is_replaced {
+            true => fs::copy(&file, &copy).and_then(|_| fs::rename(&copy, &file)),
+            false => fs::remove_file(&file),
+        };
+        gone.map_err(|error| format!("{name}: {error}"))?;
+        client.send(b"enter\t2\t7\t1\t10\tG\t2\n")?;
+        expect(&format!("a change is answered without {name}"), client.answer()?.is_none())?;
+        let (status, told) = service.ended()?;
+        let is_told = told.contains(&format!("{name} was removed or replaced"));
+        expect(&format!("without {name} it ended with {status}: {told}"), status.code() == Some(1) && is_told)?;
+    }
+    Ok(())
 }
 
 /// Another program holds the database for longer than the service waits; questions are answered meanwhile.
