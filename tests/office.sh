@@ -8,7 +8,7 @@
 #     order                        by its system calls: folders synchronised before it serves, a commit before its answer, one commit and few writes
 #     damage                       a damaged, forged, foreign or other journal is refused, and nothing is changed
 #     log                          a damaged write-ahead log is refused, one whose last commit is cut off is not
-#     failures                     a write or a synchronisation that fails, a file of the journal that goes, another program that holds it
+#     failures                     a write or a synchronisation that fails, a file of the journal that goes, a connection that can't be taken, another program that holds the journal
 #     disk                         a full disk, and a limit on the size of files with messages that can't be written
 #     many [--length N --seed N]   16 connections that edit and ask at once, N requests each
 #     kills [--length N --seed N]  killed N times at random moments, with requests in flight, and compared with the plain account

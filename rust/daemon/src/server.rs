@@ -163,7 +163,11 @@ impl Server {
     fn accept(&mut self) {
         loop {
             match self.listener.accept() {
-                Ok((stream, _)) => self.admit(stream),
+                Ok((stream, _)) => {
+                    if let Err(error) = self.admit(stream) {
+                        system::tell(&format!("a connection can't be taken: {error}"));
+                    }
+                }
                 Err(error) if error.kind() == ErrorKind::WouldBlock => return,
                 Err(error) if error.kind() == ErrorKind::Interrupted => (),
                 Err(error) => return system::tell(&format!("a connection can't be taken: {error}")),
@@ -171,19 +175,19 @@ impl Server {
         }
     }
 
-    fn admit(&mut self, mut stream: UnixStream) {
-        let user = stream.set_nonblocking(true).and_then(|()| system::peer(&stream));
-        let Ok(user) = user else { return };
+    fn admit(&mut self, mut stream: UnixStream) -> io::Result<()> {
+        stream.set_nonblocking(true)?;
+        let user = system::peer(&stream)?;
         if self.connections.len() >= self.limit {
             // one more than may be: it is told so, where it listens
             let _ = stream.write(UNAVAILABLE);
-            return;
+            return Ok(());
         }
         let token = self.next;
         self.next += 1;
-        if self.poll.add(stream.as_raw_fd(), token).is_ok() {
-            self.connections.insert(token, Connection::new(stream, user));
-        }
+        self.poll.add(stream.as_raw_fd(), token)?;
+        self.connections.insert(token, Connection::new(stream, user));
+        Ok(())
     }
 
     /// Carries out the requests that a connection has sent, in their order: those of one read, so that each has its turn.
@@ -384,7 +388,7 @@ impl Server {
     /// Ends the commit in hand and the one to come, answers what they were for, and keeps the words for the next start.
     fn end(&mut self) -> Result<(), String> {
         while self.committing.is_some() {
-            let Some(came) = self.committer.await_end() else { break };
+            let came = self.committer.await_end().ok_or("the committing thread has failed")?;
             self.commit_ended(came)?;
             self.commit();
         }

@@ -13,6 +13,7 @@ pub fn check(program: &Program) -> Result<String, String> {
     write_fails(program)?;
     synchronisation_fails(program)?;
     files_go(program)?;
+    connection_fails(program)?;
     held.join().map_err(|_| "a test failed".to_string())??;
     Ok("a write, a synchronisation, files that go and another program's hold, each as it should be".to_string())
 }
@@ -84,8 +85,27 @@ fn files_go(program: &Program) -> Result<(), String> {
         let (status, told) = service.ended()?;
         let is_told = told.contains(&format!("{name} was removed or replaced"));
         expect(&format!("without {name} it ended with {status}: {told}"), status.code() == Some(1) && is_told)?;
+        match name {
+            // at its end all of the log is carried over
+            "journal.db-wal" => program.verified(&place, 2)?,
+            _ => expect("the log is not left", place.data().join("journal.db-wal").exists())?,
+        }
     }
     Ok(())
+}
+
+/// A connection that the system does not let it wait for is let go, and that is told; the next is served.
+fn connection_fails(program: &Program) -> Result<(), String> {
+    let place = Place::new("connection");
+    let (service, mut client) = begun(program, &place)?;
+    let tracer = Tracer::of(&service, place.folder(), &["-e", "inject=epoll_ctl:error=ENOSPC"])?;
+    expect("a connection is kept", service.connect()?.answer()?.is_none())?;
+    drop(tracer);
+    expect("others are not served", enter(&mut client, 2)? == b"ok\n")?;
+    expect("the next is not served", service.connect()?.ask(b"days\n")? == b"listed\t0\t-\n")?;
+    let (status, told) = service.end()?;
+    let is_told = told.contains("a connection can't be taken");
+    expect(&format!("it ended with {status}: {told}"), status.success() && is_told)
 }
 
 /// Another program holds the database for longer than the service waits; questions are answered meanwhile.
