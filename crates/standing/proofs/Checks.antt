@@ -1,5 +1,5 @@
--- The order of the checks: what enter, amend and strike compute is the refusal of the account. Assumes nothing.
-use Rattle.basis.proofs.Prelude.{_∙_, _≡_, ap, refl, sym, _<_, _≤_, ℕ, List, Bool, cond, false, true, eqb, eqb-true, leb, ltb, length, le-leb, le-ltb, lt-leb, lt-ltb, ltb-false, ltb-true, by-test}
+-- The order of the checks: what enter, amend and strike are planned by is the refusal of the account. Assumes nothing.
+use Rattle.basis.proofs.Prelude.{_∙_, _≡_, ap, refl, sym, _<_, _≤_, ℕ, List, Bool, cond, false, true, leb, ltb, length, le-leb, le-ltb, lt-leb, lt-ltb, ltb-false, ltb-true, by-test}
 use Rattle.standing.proofs.Names.{accepted, duplicateNumber, unknownNumber, full, Spell, refusalOf, stands, orElse, enterRefusal, amendRefusal, strikeRefusal, standsAt, enterCheck, amendCheck}
 use Rattle.standing.proofs.Edits.{stands-index}
 
@@ -39,15 +39,3 @@ module _ (l : List Spell) (s : Spell) {n p : ℕ} (long : length l ≡ n) (at-in
   pub amend-refusal : amendRefusal l s ≡ amendCheck s p n
   unfolding amendRefusal
   amend-refusal = rw (stands-is l (s .number) long at-index) (ap (λ (r : ℕ). orElse (refusalOf s) r) (beyond p n))
-
--- the same, as the code has it by its steps
-pub enter-checked : (s : Spell) (p n : ℕ) {own taken most later all : ℕ} → own ≡ refusalOf s → taken ≡ cond (ltb p n) duplicateNumber accepted → most ≡ cond (leb 1024 n) full accepted
-    → later ≡ orElse taken most → all ≡ orElse own later → all ≡ enterCheck s p n
-enter-checked s p n eo et em el ea = rw (ea, el, eo, et, em)
-
-pub amend-checked : (s : Spell) (p n : ℕ) {own unknown all : ℕ} → own ≡ refusalOf s → unknown ≡ cond (leb n p) unknownNumber accepted → all ≡ orElse own unknown → all ≡ amendCheck s p n
-amend-checked s p n eo eu ea = rw (ea, eo, eu)
-
--- where both checks accept, so does the first
-pub own-passes : (n m : ℕ) → orElse n m ≡ accepted → n ≡ accepted
-own-passes n m h = by-test (eqb n accepted) (λ e. eqb-true n accepted e) (λ e. rw e at h)

@@ -2,7 +2,6 @@ pub mod Places
 pub mod Edits
 pub mod Checks
 pub mod Past
-pub mod Held
 pub mod Calls
 pub mod Plans
 pub mod Claims

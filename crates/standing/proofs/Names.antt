@@ -18,17 +18,14 @@ unfoldable pub use Rattle.register.specs.Answers.{readingOf}
 pub use Rattle.register.specs.Text.{Register, bad, good}
 unfoldable pub use Rattle.register.specs.Text.{readText}
 pub use Rattle.spell.proofs.Order.{asym, ordered-first, ordered-tail, text-order}
-pub use Rattle.spell.proofs.Spell.{the-row as spell-row}
-pub use Rattle.spell.proofs.Urgency.{the-row as urgency-row}
 pub use Rattle.spell.specs.Blank.{blank}
 pub use Rattle.spell.specs.Entry.{refusalOf}
-pub use Rattle.spell.specs.Listing.{Good, HeldUrgency, Sound}
+pub use Rattle.spell.specs.Listing.{Good, Sound}
 unfoldable pub use Rattle.spell.specs.Listing.{Each, stands}
 pub use Rattle.spell.specs.Order.{ordered}
 unfoldable pub use Rattle.spell.specs.Order.{earlierOf, orderedBy}
 unfoldable pub use Rattle.spell.specs.Same.{sameOf}
 pub use Rattle.spell.specs.declared.Spell.{Spell}
-pub use Rattle.spell.specs.declared.Urgency.{Urgency}
 pub use Rattle.spell.specs.declared.Urgency.the-variants.{Grade, Reading}
 pub use Rattle.standing_journal.proofs.Journal.{pop}
 pub use Rattle.standing_journal.proofs.Words.{entry-back, entry-long, entry-reads}
@@ -42,9 +39,10 @@ pub use Rattle.standing_list.specs.Search.{foundIn, standsAt}
 pub use Rattle.standing_list.specs.declared.Located.{Located}
 unfoldable pub use Rattle.standing_list.specs.Search.{lead}
 pub use Rattle.standing_journal.specs.Journal.{noting}
-pub use Rattle.standing.specs.Contracts.{amendCheck, deeperBy, enterCheck, newestOf, noPlan, planAmend, planBack, planEnter, planStrike}
-unfoldable pub use Rattle.standing.specs.Contracts.{numberOf, planOf, Takes}
-pub use Rattle.standing.specs.declared.Plan.{Plan}
+pub use Rattle.planning.specs.Plans.{amendCheck, deeperBy, enterCheck, noPlan, planAmend, planBack, planEnter, planStrike}
+unfoldable pub use Rattle.planning.specs.Plans.{numberOf, planOf, Takes}
+pub use Rattle.planning.specs.declared.Plan.{Plan}
+pub use Rattle.standing.specs.Contracts.{newestOf}
 pub use Rattle.model.specs.declared.Call.{Call}
 pub use Rattle.model.specs.declared.Call.the-variants.{Enter, Amend, Strike, TakeBack, Publish, Write, Ask}
 pub use Rattle.standing.specs.Packed.{Packs}
@@ -55,7 +53,5 @@ pub use Rattle.standing.specs.Standing.{Keeps}
 unfoldable pub use Rattle.standing.specs.Standing.{Does, Goods, pastOf, undo}
 pub use Rattle.standing.specs.declared.Edited.{Edited}
 pub use Rattle.standing.specs.declared.Standing.{Standing}
-pub use denote.Laws.{Is}
 pub use lib.Ieee.{binary32}
 unfoldable pub use lib.Ieee.{ofBits, toBits}
-pub use mir.Val.{Val}

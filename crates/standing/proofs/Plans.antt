@@ -154,11 +154,6 @@ does w (Publish rule) takes = keeps w
 does w Write takes = keeps w
 does w (Ask q) takes = keeps w
 
--- the plan of a call that is known to be another
-pub as-planned : {c c′ : Call} (e : Undo) (p : ℕ) (old : Spell) (n d : ℕ) {x : Plan} → c ≡ c′ → (x ≡ planOf c′ e p old n d) × Takes c′ (x .refusal)
-    → (x ≡ planOf c e p old n d) × Takes c (x .refusal)
-as-planned e p old n d is h = rw is h
-
 -- what the code makes, step by step, is a plan carried out
 pub carried : {st : Standing} (w : Wf st) (c : Call) {e : Undo} {k : ℕ} {f : Located} {x : Plan} {a : List Spell} {m : ℕ} {j : List Undo} {d : ℕ}
     → e ≡ newestOf (st .depth) (st .journal)

@@ -1,7 +1,7 @@
--- `standing::plan_strike` meets its contract. Assumes nothing.
+-- `planning::plan_strike` meets its contract. Assumes nothing.
 use Rattle.basis.proofs.Prelude.{needs, le-leb, lt-leb}
-use Rattle.standing.proofs.plan_strike.Statement.{statement}
-use Rattle.standing.proofs.plan_strike.Tie as tie
+use Rattle.planning.proofs.plan_strike.Statement.{statement}
+use Rattle.planning.proofs.plan_strike.Tie as tie
 
 pub plan-strike-spec : {M : Type 1} → statement M
 plan-strike-spec =

@@ -1,7 +1,7 @@
--- `standing::plan_back` meets its contract. Assumes nothing.
+-- `planning::plan_back` meets its contract. Assumes nothing.
 use Rattle.basis.proofs.Prelude.{arith, needs, eq-eqb, ne-eqb}
-use Rattle.standing.proofs.plan_back.Statement.{statement}
-use Rattle.standing.proofs.plan_back.Tie as tie
+use Rattle.planning.proofs.plan_back.Statement.{statement}
+use Rattle.planning.proofs.plan_back.Tie as tie
 
 pub plan-back-spec : {M : Type 1} → statement M
 plan-back-spec =

@@ -1,10 +1,10 @@
--- `standing::plan_enter` meets its contract. Assumes nothing.
+-- `planning::plan_enter` meets its contract. Assumes nothing.
 use Rattle.basis.proofs.Prelude.{_∙_, _≡_, ap, sym, needs, eq-eqb, ne-eqb}
-use Rattle.standing.proofs.Names.{Plan, refusalOf, enterCheck}
-use Rattle.standing.proofs.Held.{sound}
-use Rattle.standing.proofs.Checks.{enter-checked, own-passes}
-use Rattle.standing.proofs.plan_enter.Statement.{statement}
-use Rattle.standing.proofs.plan_enter.Tie as tie
+use Rattle.planning.proofs.Names.{Plan, refusalOf, enterCheck}
+use Rattle.planning.proofs.Held.{sound}
+use Rattle.planning.proofs.Checks.{enter-checked, own-passes}
+use Rattle.planning.proofs.plan_enter.Statement.{statement}
+use Rattle.planning.proofs.plan_enter.Tie as tie
 
 -- what the checks give
 checked : (c : tie.After-first-of2) → let a = c .before .before .before .before .before .args in c .first-of2 .result ≡ enterCheck (a .s) (a .p) (a .n)

@@ -1,7 +1,7 @@
--- `standing::deeper` meets its contract. Assumes nothing.
+-- `planning::deeper` meets its contract. Assumes nothing.
 use Rattle.basis.proofs.Prelude.{arith, le-leb, lt-leb, not-false, not-true}
-use Rattle.standing.proofs.deeper.Statement.{statement}
-use Rattle.standing.proofs.deeper.Tie as tie
+use Rattle.planning.proofs.deeper.Statement.{statement}
+use Rattle.planning.proofs.deeper.Tie as tie
 
 pub deeper-spec : {M : Type 1} → statement M
 deeper-spec =

@@ -1,6 +1,7 @@
+-- `planning::first_of` meets its contract. Assumes nothing.
 use Rattle.model.proofs.Checks.{stops, passes}
-use Rattle.standing.proofs.first_of.Statement.{statement}
-use Rattle.standing.proofs.first_of.Tie as tie
+use Rattle.planning.proofs.first_of.Statement.{statement}
+use Rattle.planning.proofs.first_of.Tie as tie
 
 returns : tie.Need-returns
 returns c = stops (c .before .args .a) (c .before .args .b) (c .if1 .taken)

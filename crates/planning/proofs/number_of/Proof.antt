@@ -1,8 +1,8 @@
--- `standing::number_of` meets its contract. Assumes nothing.
+-- `planning::number_of` meets its contract. Assumes nothing.
 use Rattle.basis.proofs.Prelude.{needs}
-use Rattle.standing.proofs.Names.{numberOf}
-use Rattle.standing.proofs.number_of.Statement.{statement}
-use Rattle.standing.proofs.number_of.Tie as tie
+use Rattle.planning.proofs.Names.{numberOf}
+use Rattle.planning.proofs.number_of.Statement.{statement}
+use Rattle.planning.proofs.number_of.Tie as tie
 
 pub number-of-spec : {M : Type 1} → statement M
 unfolding numberOf

@@ -1,9 +1,9 @@
--- `standing::planned` meets its contract. Assumes nothing.
+-- `planning::planned` meets its contract. Assumes nothing.
 use Rattle.basis.proofs.Prelude.{needs}
-use Rattle.standing.proofs.Names.{planOf, Takes}
-use Rattle.standing.proofs.Plans.{as-planned}
-use Rattle.standing.proofs.planned.Statement.{statement}
-use Rattle.standing.proofs.planned.Tie as tie
+use Rattle.planning.proofs.Names.{planOf, Takes}
+use Rattle.planning.proofs.Calls.{as-planned}
+use Rattle.planning.proofs.planned.Statement.{statement}
+use Rattle.planning.proofs.planned.Tie as tie
 
 pub planned-spec : {M : Type 1} → statement M
 unfolding planOf Takes

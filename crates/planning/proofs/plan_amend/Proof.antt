@@ -1,10 +1,10 @@
--- `standing::plan_amend` meets its contract. Assumes nothing.
+-- `planning::plan_amend` meets its contract. Assumes nothing.
 use Rattle.basis.proofs.Prelude.{_∙_, _≡_, ap, sym, needs, eq-eqb, ne-eqb}
-use Rattle.standing.proofs.Names.{Plan, Sound, refusalOf, amendCheck}
-use Rattle.standing.proofs.Held.{sound}
-use Rattle.standing.proofs.Checks.{amend-checked, own-passes}
-use Rattle.standing.proofs.plan_amend.Statement.{statement}
-use Rattle.standing.proofs.plan_amend.Tie as tie
+use Rattle.planning.proofs.Names.{Plan, Sound, refusalOf, amendCheck}
+use Rattle.planning.proofs.Held.{sound}
+use Rattle.planning.proofs.Checks.{amend-checked, own-passes}
+use Rattle.planning.proofs.plan_amend.Statement.{statement}
+use Rattle.planning.proofs.plan_amend.Tie as tie
 
 -- what the checks give
 checked : (c : tie.After-first-of) → let a = c .before .before .before .args in c .first-of .result ≡ amendCheck (a .s) (a .p) (a .n)

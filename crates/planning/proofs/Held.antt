@@ -1,6 +1,6 @@
 -- What the checker knows of every spell that a program holds: its numbers are 16 bits wide, and its reading is a 32-bit float. Assumes nothing.
 use Rattle.basis.proofs.Prelude.{_≡_, List, arith}
-use Rattle.standing.proofs.Names.{Val, Is, accepted, Urgency, Grade, Reading, Spell, refusalOf, HeldUrgency, Sound, urgency-row, spell-row}
+use Rattle.planning.proofs.Names.{Val, Is, accepted, Urgency, Grade, Reading, Spell, refusalOf, HeldUrgency, Sound, urgency-row, spell-row}
 
 held : (u : Urgency) (vs : List Val) → Is urgency-row u vs → HeldUrgency u
 held (Grade g) vs p = tt

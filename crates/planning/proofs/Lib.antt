@@ -1,0 +1,4 @@
+pub mod Held
+pub mod Checks
+pub mod Calls
+mod Names
