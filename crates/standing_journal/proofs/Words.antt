@@ -1,12 +1,14 @@
 -- An entry's words read back as the entry. Assumes nothing.
 use Rattle.basis.proofs.Prelude.{_∙_, _≡_, ap, refl, sym, _+_, _<_, _≤_, suc, ℕ, List, _++_, Bool, cond, false, not, true, eqb, drop, getD, length, length-append, length-drop, length-set, set, drop-drop, getD-drop, add-zero, add-one, add-two, arith, le-leb, lt-leb}
-use mir.Val.{boolByte}
+use mir.Val.{Val, boolByte}
+use denote.Laws.{Is}
 use Rattle.packing.specs.Blocks.{put}
 use Rattle.packing.specs.Words.{spellWords, spellOf}
 use Rattle.packing.proofs.Blocks.{put-sets}
-use Rattle.packing.proofs.Words.{spell-long, spell-reads}
+use Rattle.packing.proofs.Words.{spell-back, spell-held, spell-long, spell-reads}
 use Rattle.standing_journal.specs.declared.Undo.{Undo}
 use Rattle.standing_journal.specs.Journal.{blankEntry}
+use Rattle.standing_journal.proofs.Undo.{the-row as entry-row}
 use Rattle.standing_journal.specs.Words.{entryWords, entryOf}
 
 pub entry-long : (e : Undo) → length (entryWords e) ≡ 9
@@ -27,6 +29,10 @@ flag-back false = refl
 pub entry-back : (e : Undo) → spellOf (spellWords (e .spell)) ≡ e .spell → entryOf (entryWords e) ≡ e
 unfolding entryOf
 entry-back e h = rw (le-leb 9 (length (entryWords e)) (omega (arith, entry-long e))) (unfold entryWords in rw (h, flag-back (e .stood)))
+
+-- what the checker knows of every entry that a program holds: its spell's urgency has its type's width, so that the entry reads back
+pub entry-held : (e : Undo) (vs : List Val) → Is entry-row e vs → entryOf (entryWords e) ≡ e
+entry-held e vs p = entry-back e (spell-back (e .spell) (spell-held (e .spell) _ (p .1 .1 .1 .1 .0)))
 
 -- as the code reads it
 pub entry-at : (l : List ℕ) (at : ℕ) → at + 9 ≤ length l

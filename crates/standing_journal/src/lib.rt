@@ -1,7 +1,6 @@
 // The journal of edits as an array, of which the first `depth` places hold entries, the oldest first; and its words of 16 bits.
 ghost use mathlib.Core.Path.{_≡_};
-ghost use Prim.Native.Nat.{_+_, _≤_};
-ghost use lib.ListN.{length, drop};
+ghost use lib.ListN.{drop};
 ghost use Rattle.packing.specs.Blocks.{parts, Put, PutAll};
 ghost use Rattle.standing_journal.specs.Journal.{blankEntry, noting};
 ghost use Rattle.standing_journal.specs.Words.{entryWords, entryOf};
@@ -46,11 +45,16 @@ pub fn pushed(journal: [Undo; 64], depth: usize, e: Undo) -> [Undo; 64]
 
 // ---- In words
 
-// The words of the entry e at the place `at`.
-fn put_entry(e: Undo, out: &mut [u16], at: usize)
-    requires { ⌜ at + 9 ≤ length (now out) ⌝ }
+// The words of the entry e at the place `at`; where there is no room for them, nothing is written.
+pub fn put_entry(e: Undo, out: &mut [u16], at: usize)
     ensures { λ _. ⌜ Put entryWords entryOf e at (now (out .entry)) (now (out .exit)) ⌝ }
 {
+    if out.len() < 9 {
+        return;
+    }
+    if out.len() - 9 < at {
+        return;
+    }
     let s = e.spell;
     out[at] = e.number;
     out[at + 1] = e.stood as u16;
@@ -58,7 +62,7 @@ fn put_entry(e: Undo, out: &mut [u16], at: usize)
 }
 
 // The entry of the nine words at the place `at`; where there are not nine, one of zeros.
-fn entry_at(words: &[u16], at: usize) -> Undo
+pub fn entry_at(words: &[u16], at: usize) -> Undo
     ensures { λ r. ⌜ r ≡ entryOf (drop at (now (words .entry))) ⌝ }
 {
     if words.len() < 9 {

@@ -45,9 +45,7 @@ put-journal-spec =
     (λ c. omega arith) (λ c. omega arith)
     -- put_entry(e, out, 9 * i)
     (λ c. omega arith)
-    (λ c κs.
-    let at = c .before .before .before in
-    omega (arith, all (at .before), laid-length 9 entryWords entryOf entry-long (journal (at .before)) (out (at .before)) (omega (arith, all (at .before))) (at .loop .out) (at .loop .i) (omega (arith, all (at .before))) (at .loop .inv .1)))
+    (λ c κs. search needs)
     (λ c. omega arith) (λ c. omega arith)
     (λ c.
     let put = c .before .before in
