@@ -7,7 +7,7 @@ use Rattle.packing.specs.Blocks.{put, written, parts, Every, Put, PutAll
 -- ---- Words put into a list
 
 -- where there is room, and where there is none
-put-room : (k : ℕ) (new l : List ℕ) → k + length new ≤ length l → put k new l ≡ take k l ++ new ++ drop (k + length new) l
+pub put-room : (k : ℕ) (new l : List ℕ) → k + length new ≤ length l → put k new l ≡ take k l ++ new ++ drop (k + length new) l
 unfolding put
 put-room k new l h = simp (le-leb _ _ h)
 
@@ -73,7 +73,7 @@ module _ {A : Type 0} where
         rw (so-far, add-one, take-suc a i d h, written-snoc (take i a) (getD a i d)) (put-over k (written f (take i a)) (f (getD a i d)) before e room)
 
   module _ (k : ℕ) (g : List ℕ → A) where
-    parts-length : (n : ℕ) (l : List ℕ) → length (parts k g n l) ≡ n
+    pub parts-length : (n : ℕ) (l : List ℕ) → length (parts k g n l) ≡ n
     unfolding parts
     parts-length zero l = refl
     parts-length (suc n) l = ap suc (parts-length n (drop k l))

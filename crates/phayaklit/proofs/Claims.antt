@@ -74,7 +74,7 @@ hosted-read register r b h = made-run (begun (readText register)) (b .represents
 -- a call on words that are laid out leaves them laid out
 called-laid : {words words′ : List ℕ} {bs bs′ : Blocks} {numbers text : List ℕ} {q : Request} {r : Reply} → Given (unpacked words) bs → Laid words
     → Called words bs q r words′ bs′ numbers text → Laid words′
-called-laid g l (edited c r met) = met (g .valid) .1
+called-laid g l (edited c r met) = met (g .valid) .1 l
 called-laid g l (published rule r met) = l
 called-laid g l (wrote r met) = l
 called-laid g l (asked w r met) = l
@@ -88,7 +88,7 @@ hosted-laid g l (then c more) = hosted-laid (called-met c g .given) (called-laid
 -- a refused call leaves words and blocks as they were
 called-keeps : {words words′ : List ℕ} {bs bs′ : Blocks} {numbers text : List ℕ} {q : Request} {r : Reply} → Given (unpacked words) bs → Laid words
     → Called words bs q r words′ bs′ numbers text → eqb (r .refusal) accepted ≡ false → (words′ ≡ words) × (bs′ ≡ bs)
-called-keeps g l (edited c r met) t = (met (g .valid) .1 ∙ ap packed (met (g .valid) .0 .kept t) ∙ sym l, refl)
+called-keeps g l (edited c r met) t = (met (g .valid) .1 l ∙ ap packed (met (g .valid) .0 .kept t) ∙ sym l, refl)
 called-keeps g l (published rule r met) t = (refl, publishes-refused (met (g .valid)) t)
 called-keeps g l (wrote r met) t = (refl, refl)
 called-keeps g l (asked w r met) t = (refl, refl)
@@ -106,7 +106,7 @@ called-idle : {words words′ : List ℕ} {bs bs′ : Blocks} {numbers text : Li
     → Laid words → Called words bs q r words′ bs′ numbers text → q .call ≡ Amend s → idle (m .standing) s ≡ true → words′ ≡ words
 called-idle {words} s h l (edited c r met) is same =
     let k = met (h .valid) in
-    k .1 ∙ ap packed (k .0 .whole ∙ ap (leaves (unpacked words)) is ∙ idle-left s h same) ∙ sym l
+    k .1 l ∙ ap packed (k .0 .whole ∙ ap (leaves (unpacked words)) is ∙ idle-left s h same) ∙ sym l
 called-idle s h l (published rule r met) is same = refl
 called-idle s h l (wrote r met) is same = refl
 called-idle s h l (asked w r met) is same = refl

@@ -10,7 +10,11 @@ use Rattle.service.specs.Packed.{packed, unpacked, Packs}
 use Rattle.rules.specs.Rules.{isRule}
 use Rattle.model.specs.Publishing.{publishedOf}
 use Rattle.published_index.specs.Index.{indexOf}
+use Rattle.standing_words.specs.Edits.{EditedIn}
+use Rattle.outcomes.specs.declared.Outcome.{Outcome}
+use Rattle.outcomes.specs.Outcomes.{toldOf}
 use Rattle.service.specs.Service.{Blocks, Valid, Represents, Changes, Publishes}
+use Rattle.service.proofs.Editing.{changes}
 use Rattle.phayaklit.specs.declared.Reply.{Reply}
 use Rattle.phayaklit.specs.Host.{Held, Laid, outcomeOf, steppedOf}
 
@@ -27,10 +31,10 @@ pub begun-fresh : (words : List ℕ) (bs : Blocks) (sv : Service) → Packs sv w
     → Represents (unpacked words) bs fresh × (Laid words × (words ≡ packed freshService))
 begun-fresh words bs sv p f = (rw (p .back) (f .0), (laid words sv p, p .words ∙ ap packed (f .1)))
 
--- an edit of the service of the words, packed again
-pub edited : (words words′ : List ℕ) (sv : Service) (c : Call) (r : Stepped) (x : Reply) → sv ≡ unpacked words → steppedOf words′ x ≡ r → Changes sv c r
-    → Changes (unpacked words) c (steppedOf words′ x)
-edited words words′ sv c r x e f h = rw (← e, f) h
+-- an edit made on the words, with what is told of it
+pub edited : (words words′ : List ℕ) (c : Call) {n : ℕ} {o : Outcome} {x : Reply} → EditedIn c words n words′ → o ≡ toldOf n → outcomeOf x ≡ o
+    → Changes (unpacked words) c (steppedOf words′ x) × (Laid words → Laid words′)
+edited words words′ c e is told = (rw (told, is) (changes (unpacked words) c _ (e .does)), e .laid)
 
 -- publish keeps the service, so the words need not be packed again
 pub published : (words : List ℕ) (rule : ℕ) (bs bs′ : Blocks) (sv : Service) (r : Stepped) (x : Reply) → sv ≡ unpacked words → outcomeOf x ≡ r .outcome → Publishes sv rule bs r bs′

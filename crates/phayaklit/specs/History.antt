@@ -22,7 +22,7 @@ Opens words bs m = Represents (unpacked words) bs m × Laid words
 -- no more is known than its contract: its `requires` implies its `ensures`. A list that it is not lent is as it was.
 pub data Called : List ℕ → Blocks → Request → Reply → List ℕ → Blocks → List ℕ → List ℕ → Type 0 where
   edited : {words words′ : List ℕ} {bs : Blocks} {days numbers text : List ℕ} (c : Call) (r : Reply)
-      → (Held words → Changed (unpacked words) c (steppedOf words′ r) × Laid words′)
+      → (Held words → Changed (unpacked words) c (steppedOf words′ r) × (Laid words → Laid words′))
       → Called words bs (asking c days numbers text) r words′ bs numbers text
   published : {words : List ℕ} {bs bs′ : Blocks} {days numbers text : List ℕ} (rule : ℕ) (r : Reply)
       → (Held words → Publishes (unpacked words) rule bs (steppedOf words r) bs′)

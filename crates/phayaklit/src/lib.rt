@@ -14,8 +14,8 @@ ghost use Rattle.phayaklit.specs.Host.{version, Held, Laid, spellIn, out
 use model::Call;
 use model::Question;
 use outcomes::Outcome;
+use outcomes::told;
 use service::SERVICE;
-use service::Stepped;
 use spell::Spell;
 use stabbing::INDEX;
 
@@ -74,18 +74,6 @@ fn answered(o: Outcome) -> Reply
     }
 }
 
-// What an edit gave, with its service in the host's words.
-fn put_back(r: Stepped, words: &mut [u16; SERVICE]) -> Reply
-    requires { ⌜ Valid (r .service) ⌝ }
-    ensures { λ x. ⌜ steppedOf (now (words .exit)) x ≡ r ⌝ }
-    ensures { λ _. ⌜ Laid (now (words .exit)) ⌝ }
-{
-    let service = r.service;
-    let outcome = r.outcome;
-    service::pack(service, words);
-    answered(outcome)
-}
-
 // ---- The version
 
 // The version of these functions and of the two blocks, as the header and the module for Rust name it.
@@ -140,14 +128,13 @@ pub extern "C" fn phayaklit_read(
 
 // ---- Edits: the index is not touched
 
-// Any call, as an edit of the service in the host's words: the one place that unpacks it, edits it and packs it again.
+// Any call, as an edit of the service in the host's words: it is carried out on the words themselves.
 fn edit(words: &mut [u16; SERVICE], call: Call) -> Reply
     requires { ⌜ Held (now words) ⌝ }
     ensures { λ r. ⌜ Changes (unpacked (now (words .entry))) call (steppedOf (now (words .exit)) r) ⌝ }
-    ensures { λ _. ⌜ Laid (now (words .exit)) ⌝ }
+    ensures { λ _. ⌜ (Laid (now (words .entry)) → Laid (now (words .exit))) ⌝ }
 {
-    let service = service::unpack(words);
-    put_back(service::edit(service, call), words)
+    answered(told(standing_words::edit(words, call)))
 }
 
 // Put a spell in.
@@ -155,7 +142,7 @@ fn edit(words: &mut [u16; SERVICE], call: Call) -> Reply
 pub extern "C" fn phayaklit_enter(words: &mut [u16; SERVICE], entry: Entry) -> Reply
     requires { ⌜ Held (now words) ⌝ }
     ensures { λ r. ⌜ Changed (unpacked (now (words .entry))) (Call.Enter (spellIn entry)) (steppedOf (now (words .exit)) r) ⌝ }
-    ensures { λ _. ⌜ Laid (now (words .exit)) ⌝ }
+    ensures { λ _. ⌜ (Laid (now (words .entry)) → Laid (now (words .exit))) ⌝ }
 {
     edit(words, Call::Enter(spell_in(entry)))
 }
@@ -165,7 +152,7 @@ pub extern "C" fn phayaklit_enter(words: &mut [u16; SERVICE], entry: Entry) -> R
 pub extern "C" fn phayaklit_amend(words: &mut [u16; SERVICE], entry: Entry) -> Reply
     requires { ⌜ Held (now words) ⌝ }
     ensures { λ r. ⌜ Changed (unpacked (now (words .entry))) (Call.Amend (spellIn entry)) (steppedOf (now (words .exit)) r) ⌝ }
-    ensures { λ _. ⌜ Laid (now (words .exit)) ⌝ }
+    ensures { λ _. ⌜ (Laid (now (words .entry)) → Laid (now (words .exit))) ⌝ }
 {
     edit(words, Call::Amend(spell_in(entry)))
 }
@@ -175,7 +162,7 @@ pub extern "C" fn phayaklit_amend(words: &mut [u16; SERVICE], entry: Entry) -> R
 pub extern "C" fn phayaklit_strike(words: &mut [u16; SERVICE], number: u16) -> Reply
     requires { ⌜ Held (now words) ⌝ }
     ensures { λ r. ⌜ Changed (unpacked (now (words .entry))) (Call.Strike number) (steppedOf (now (words .exit)) r) ⌝ }
-    ensures { λ _. ⌜ Laid (now (words .exit)) ⌝ }
+    ensures { λ _. ⌜ (Laid (now (words .entry)) → Laid (now (words .exit))) ⌝ }
 {
     edit(words, Call::Strike(number))
 }
@@ -185,7 +172,7 @@ pub extern "C" fn phayaklit_strike(words: &mut [u16; SERVICE], number: u16) -> R
 pub extern "C" fn phayaklit_take_back(words: &mut [u16; SERVICE]) -> Reply
     requires { ⌜ Held (now words) ⌝ }
     ensures { λ r. ⌜ Changed (unpacked (now (words .entry))) Call.TakeBack (steppedOf (now (words .exit)) r) ⌝ }
-    ensures { λ _. ⌜ Laid (now (words .exit)) ⌝ }
+    ensures { λ _. ⌜ (Laid (now (words .entry)) → Laid (now (words .exit))) ⌝ }
 {
     edit(words, Call::TakeBack)
 }

@@ -15,7 +15,7 @@ use Rattle.outcomes.specs.Outcomes.{toldOf, asking, answerOf}
 use Rattle.service.specs.declared.Service.{Service}
 use Rattle.service.specs.declared.Stepped.{Stepped}
 use Rattle.service.specs.Places.{serviceOf, leavesOf}
-use Rattle.service.specs.Service.{Blocks, Valid, Represents, Changed, Changes}
+use Rattle.service.specs.Service.{Blocks, Represents, Changed, Changes}
 
 -- the call's result
 abbrev pub steppedOf : Edited → Stepped
@@ -113,14 +113,3 @@ changes sv TakeBack e d = back-changed sv e d
 changes sv (Publish rule) e d = ap steppedOf d
 changes sv Write e d = ap steppedOf d
 changes sv (Ask w) e d = ap steppedOf d
-
--- and leaves the service one that the calls gave
-pub changes-valid : {sv : Service} (c : Call) (r : Stepped) → Valid sv → Changes sv c r → Valid (r .service)
-unfolding Changes
-changes-valid (Enter s) r v d = d .valid
-changes-valid (Amend s) r v d = d .valid
-changes-valid (Strike k) r v d = d .valid
-changes-valid TakeBack r v d = d .valid
-changes-valid (Publish rule) r v d = rw d v
-changes-valid Write r v d = rw d v
-changes-valid (Ask w) r v d = rw d v

@@ -1,0 +1,6 @@
+pub mod Moves
+pub mod Values
+pub mod Reading
+pub mod Changing
+pub mod Assembling
+pub mod Edits

@@ -1,0 +1,173 @@
+// A standing list edited in its words, where they lie: nothing is unpacked, and no word is written that an edit does not change. The words are those
+// of `standing::words`: seven for each of 1,024 places, nine for each of the journal's 64, the count and the depth.
+ghost use mathlib.Core.Path.{_≡_};
+ghost use Prim.Native.Nat.{_+_, _≤_};
+ghost use lib.ListN.{length, take};
+ghost use Rattle.standing_list.specs.Search.{placeOf, foundIn};
+ghost use Rattle.standing.specs.Standing.{Wf};
+ghost use Rattle.standing.specs.Packed.{unpacked};
+ghost use Rattle.standing_words.specs.Edits.{EditedIn};
+ghost use Rattle.standing_words.specs.Moves.{lowered, raised};
+ghost use Rattle.standing_words.specs.Contracts.{spellsOf, TakesOut, PutsIn, Changes, Notes};
+use model::Call;
+use spell::Spell;
+use standing::words::STANDING;
+use standing_journal::Undo;
+use standing_list::Located;
+
+// ---- Words that move
+
+// The places `from` to `to` hold what stood `by` places further.
+fn lower(words: &mut [u16], from: usize, to: usize, by: usize)
+    requires { ⌜ from ≤ to ⌝ }
+    requires { ⌜ to + by ≤ length (now words) ⌝ }
+    ensures { λ _. ⌜ now (words .exit) ≡ lowered by from to (now (words .entry)) ⌝ }
+{
+    let mut i = from;
+    while i < to {
+        words[i] = words[i + by];
+        i += 1;
+    }
+}
+
+// What stands from `from` to `to` stands `by` places further.
+fn raise(words: &mut [u16], from: usize, to: usize, by: usize)
+    requires { ⌜ from ≤ to ⌝ }
+    requires { ⌜ to + by ≤ length (now words) ⌝ }
+    ensures { λ _. ⌜ now (words .exit) ≡ raised by from to (now (words .entry)) ⌝ }
+{
+    let mut i = to;
+    while i > from {
+        i -= 1;
+        words[i + by] = words[i];
+    }
+}
+
+// ---- The spells
+
+// The spell of the number k among the first n.
+fn find(words: &[u16], n: usize, k: u16) -> Located
+    requires { ⌜ n ≤ 1024 ⌝ }
+    requires { ⌜ 7168 ≤ length (now words) ⌝ }
+    ensures { λ r. ⌜ r ≡ foundIn k (take n (spellsOf (now (words .entry)))) ⌝ }
+{
+    let mut i = 0;
+    while i < n {
+        if words[7 * i] == k {
+            let spell = packing::spell_at(words, 7 * i);
+            return Located { place: i, spell };
+        }
+        i += 1;
+    }
+    Located {
+        place: i,
+        spell: spell_checks::blank(),
+    }
+}
+
+// Where s goes among the first m.
+fn place(words: &[u16], m: usize, s: Spell) -> usize
+    requires { ⌜ m ≤ 1024 ⌝ }
+    requires { ⌜ 7168 ≤ length (now words) ⌝ }
+    ensures { λ r. ⌜ r ≡ placeOf s (take m (spellsOf (now (words .entry)))) ⌝ }
+{
+    let mut i = 0;
+    while i < m {
+        let x = packing::spell_at(words, 7 * i);
+        if !spell_checks::earlier(x, s) {
+            return i;
+        }
+        i += 1;
+    }
+    i
+}
+
+// The spell at p of the first n taken out, where one stands there.
+fn take_out(words: &mut [u16], n: usize, p: usize)
+    requires { ⌜ n ≤ 1024 ⌝ }
+    requires { ⌜ length (now words) ≡ 7168 ⌝ }
+    ensures { λ _. ⌜ TakesOut n p (now (words .entry)) (now (words .exit)) ⌝ }
+{
+    if p >= n {
+        return;
+    }
+    lower(words, 7 * p, 7 * (n - 1), 7);
+}
+
+// s put in at its place among the first m, where that is asked for and there is room.
+fn put_in(words: &mut [u16], m: usize, puts: bool, s: Spell)
+    requires { ⌜ m ≤ 1024 ⌝ }
+    requires { ⌜ length (now words) ≡ 7168 ⌝ }
+    ensures { λ _. ⌜ PutsIn m puts s (now (words .entry)) (now (words .exit)) ⌝ }
+{
+    if !puts {
+        return;
+    }
+    if m >= 1024 {
+        return;
+    }
+    let q = place(words, m, s);
+    raise(words, 7 * q, 7 * m, 7);
+    packing::put_spell(s, words, 7 * q);
+}
+
+// Both: the spell at p goes, and s is put in.
+fn change(words: &mut [u16], n: usize, p: usize, puts: bool, s: Spell)
+    requires { ⌜ n ≤ 1024 ⌝ }
+    requires { ⌜ length (now words) ≡ 7168 ⌝ }
+    ensures { λ _. ⌜ Changes n p puts s (now (words .entry)) (now (words .exit)) ⌝ }
+{
+    take_out(words, n, p);
+    let m = standing_list::counted(n, p, false);
+    put_in(words, m, puts, s);
+}
+
+// ---- The journal
+
+// The entry e put at the end of a journal of that depth, where it is noted. Where the journal is full, its oldest entry goes.
+fn note(journal: &mut [u16], d: usize, notes: bool, e: Undo)
+    requires { ⌜ length (now journal) ≡ 576 ⌝ }
+    ensures { λ _. ⌜ Notes d notes e (now (journal .entry)) (now (journal .exit)) ⌝ }
+{
+    if !notes {
+        return;
+    }
+    if d < 64 {
+        standing_journal::put_entry(e, journal, 9 * d);
+        return;
+    }
+    lower(journal, 0, 567, 9);
+    standing_journal::put_entry(e, journal, 567);
+}
+
+// ---- The edit
+
+// What any call makes of the standing list: its plan is made on small values, and carried out on the words.
+fn edit_in(words: &mut [u16], call: Call) -> u16
+    requires { ⌜ length (now words) ≡ 7746 ⌝ }
+    requires { ⌜ Wf (unpacked (now words)) ⌝ }
+    ensures { λ r. ⌜ EditedIn call (now (words .entry)) r (now (words .exit)) ⌝ }
+{
+    let n = words[7744] as usize;
+    let d = words[7745] as usize;
+    let e = standing_journal::entry_at(words, 7168 + 9 * planning::last_place(d));
+    let k = planning::number_of(call, e.number);
+    let found = find(words, n, k);
+    let old = found.spell;
+    let plan = planning::planned(call, e, found.place, old, n, d);
+    let s = plan.spell;
+    let entry = plan.entry;
+    change(&mut words[..7168], n, plan.out, plan.puts, s);
+    note(&mut words[7168..7744], plan.depth, plan.notes, entry);
+    words[7744] = standing_list::counted(n, plan.out, plan.puts) as u16;
+    words[7745] = planning::deeper(plan.depth, plan.notes) as u16;
+    plan.refusal
+}
+
+// The same on the words of a standing list; returns the refusal's number, or 0.
+pub fn edit(words: &mut [u16; STANDING], call: Call) -> u16
+    requires { ⌜ Wf (unpacked (now words)) ⌝ }
+    ensures { λ r. ⌜ EditedIn call (now (words .entry)) r (now (words .exit)) ⌝ }
+{
+    edit_in(words, call)
+}
