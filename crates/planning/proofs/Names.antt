@@ -9,9 +9,9 @@ pub use Rattle.spell.specs.Listing.{HeldUrgency, Sound}
 pub use Rattle.spell.specs.declared.Spell.{Spell}
 pub use Rattle.spell.specs.declared.Urgency.{Urgency}
 pub use Rattle.spell.specs.declared.Urgency.the-variants.{Grade, Reading}
-pub use Rattle.standing_journal.specs.declared.Undo.{Undo}
-pub use Rattle.planning.specs.Plans.{amendCheck, enterCheck}
-unfoldable pub use Rattle.planning.specs.Plans.{numberOf, planOf, Takes}
-pub use Rattle.planning.specs.declared.Plan.{Plan}
+pub use Rattle.journal.specs.declared.Undo.{Undo}
+pub use Rattle.plans.specs.Plans.{amendCheck, enterCheck}
+unfoldable pub use Rattle.plans.specs.Plans.{numberOf, planOf, Takes}
+pub use Rattle.plans.specs.declared.Plan.{Plan}
 pub use denote.Laws.{Is}
 pub use mir.Val.{Val}

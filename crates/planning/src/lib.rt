@@ -1,19 +1,20 @@
 // An edit planned on small values, before anything is moved: its checks, which spell goes and which is put in, and what the journal notes.
 ghost use mathlib.Core.Path.{_≡_};
 ghost use mathlib.Core.Bool.{cond};
-ghost use Prim.Native.Nat.{_-_};
 ghost use Rattle.model.specs.Edits.{orElse};
 ghost use Rattle.refusal.specs.Table.{accepted};
 ghost use Rattle.spell.specs.Listing.{Sound};
-ghost use Rattle.planning.specs.Plans.{noPlan, planEnter, planAmend, planStrike, planBack, planOf, Takes, numberOf, deeperBy};
+ghost use Rattle.journal.specs.Journal.{lastPlace};
+ghost use Rattle.plans.specs.Plans.{noPlan, planEnter, planAmend, planStrike, planBack, planOf, Takes, numberOf, deeperBy};
+use journal::Undo;
 use model::Call;
+use plans::Plan;
 use refusal::ACCEPTED;
 use refusal::DUPLICATE_NUMBER;
 use refusal::FULL;
 use refusal::NO_HISTORY;
 use refusal::UNKNOWN_NUMBER;
 use spell::Spell;
-use standing_journal::Undo;
 
 // ---- The checks
 
@@ -38,18 +39,6 @@ fn first_of(a: u16, b: u16) -> u16
 }
 
 // ---- What an edit does, as small values
-
-// The refusal's number, or 0; the place of the spell that goes, where one stands there; whether a spell is put in, and which; whether an entry
-// is noted, and which, in a journal of that depth.
-pub struct Plan {
-    pub refusal: u16,
-    pub out: usize,
-    pub puts: bool,
-    pub spell: Spell,
-    pub notes: bool,
-    pub entry: Undo,
-    pub depth: usize,
-}
 
 // Nothing changes.
 fn unplanned(d: usize, refusal: u16) -> Plan
@@ -204,7 +193,7 @@ pub fn number_of(call: Call, newest: u16) -> u16
 
 // The place of the newest of so many entries; of none, the first place.
 pub fn last_place(depth: usize) -> usize
-    ensures { λ r. ⌜ r ≡ depth - 1 ⌝ }
+    ensures { λ r. ⌜ r ≡ lastPlace depth ⌝ }
 {
     if depth == 0 {
         return 0;

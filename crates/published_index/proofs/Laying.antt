@@ -9,7 +9,7 @@ use Rattle.rules.specs.Rules.{cut}
 use Rattle.rules.proofs.Rules.{cut-sound}
 use Rattle.model.specs.Publishing.{publishedOf}
 use Rattle.model.proofs.Publishing.{each-cut, distinct-cut, published-length, published-orderly}
-use Rattle.standing_list.specs.List.{columnOf, LaidOut}
+use Rattle.spell_places.specs.List.{columnOf, LaidOut}
 use Rattle.standing.specs.declared.Standing.{Standing}
 use Rattle.standing.specs.Standing.{Wf, listOf}
 use Rattle.published_index.specs.Index.{indexOf}

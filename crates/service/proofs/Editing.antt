@@ -3,7 +3,7 @@ use Rattle.basis.proofs.Prelude.{_∙_, _≡_, ap, refl, subst, sym, ℕ, List,
 use Rattle.refusal.specs.Table.{accepted}
 use Rattle.spell.specs.declared.Spell.{Spell}
 use Rattle.standing.specs.declared.Edited.{Edited}
-use Rattle.standing_journal.specs.declared.Undo.{Undo}
+use Rattle.journal.specs.declared.Undo.{Undo}
 use Rattle.standing.specs.Places.{entering, replacing}
 use Rattle.standing.specs.Standing.{Wf, listOf, pasts, makes, afterEdit, Edits, TakesBack, Does}
 use Rattle.model.specs.declared.Call.{Call}

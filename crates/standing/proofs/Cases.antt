@@ -1,28 +1,8 @@
--- Worked examples: an entry's words, and the places of small arrays after an edit and after a take back. Assumes nothing.
+-- Worked examples: the places of small arrays after an edit and after a take back. Assumes nothing.
 use Rattle.basis.proofs.Prelude.{_≡_, refl, ℕ, List, [], _∷_, false, true}
-use Rattle.standing.proofs.Names.{binary32, ofBits, toBits, Grade, Reading, Spell, earlierOf, stands, sameOf, insert, insertBy, remove, replace, idle, enterRefusal, amendRefusal, strikeRefusal, frontOr, spellWords, spellOf, urgencyOf, Undo, Standing, lead, blankEntry, entryWords, entryOf, entering, replacing, listOf, undo, pastOf, afterEdit, afterTakeBack}
+use Rattle.standing.proofs.Names.{Grade, Spell, earlierOf, stands, sameOf, insert, insertBy, remove, replace, idle, enterRefusal, amendRefusal, strikeRefusal, frontOr, Undo, Standing, lead, blankEntry, entering, replacing, listOf, undo, pastOf, afterEdit, afterTakeBack}
 
--- ---- An entry's words
-
-abbrev entry : Undo
-entry = record { number = 0x0102; stood = true; spell = record { number = 65535; candidate = 0x0304; first = 0x0506; last = 0x0708; urgency = Reading (ofBits binary32 0x3F80_0001) } }
-
-abbrev words : List ℕ
-words = 0x0102 ∷ 1 ∷ 65535 ∷ 0x0304 ∷ 0x0506 ∷ 0x0708 ∷ 1 ∷ 0x0001 ∷ 0x3F80 ∷ []
-
-entry-written : entryWords entry ≡ words
-unfolding entryWords spellWords toBits ofBits
-entry-written = refl
-
-entry-read : entryOf words ≡ entry
-unfolding entryOf spellOf urgencyOf
-entry-read = refl
-
-none-written : entryWords blankEntry ≡ 0 ∷ 0 ∷ 0 ∷ 0 ∷ 0 ∷ 0 ∷ 0 ∷ 0 ∷ 0 ∷ []
-unfolding entryWords spellWords
-none-written = refl
-
--- ---- Places, used or not: two of four spells stand, and one of three entries counts
+-- Two of four spells stand, and one of three entries counts
 
 abbrev spell : ℕ → ℕ → Spell
 spell n d = record { number = n; candidate = n; first = d; last = d; urgency = Grade 1 }

@@ -1,6 +1,4 @@
 pub mod Places
-pub mod Edits
-pub mod Checks
 pub mod Past
 pub mod Calls
 pub mod Plans

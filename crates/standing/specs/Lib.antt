@@ -1,4 +1,3 @@
 pub mod Standing
 pub mod Places
 pub mod Packed
-pub mod Contracts

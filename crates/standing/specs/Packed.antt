@@ -5,7 +5,7 @@ use mathlib.Core.List.{List, [], _∷_, _++_}
 use lib.ListN.{getD, drop}
 use Rattle.packing.specs.Blocks.{written, parts}
 use Rattle.packing.specs.Words.{spellWords, spellOf}
-use Rattle.standing_journal.specs.Words.{entryWords, entryOf}
+use Rattle.journal.specs.Words.{entryWords, entryOf}
 use Rattle.standing.specs.declared.Standing.{Standing}
 
 -- all places of the array, all places of the journal, the count and the depth

@@ -1,17 +1,15 @@
 -- All places of a standing list's arrays, used or not: what stands in each after a call. Assumes nothing.
-use Prim.Native.Nat.{ℕ}
-use mathlib.Core.Bool.{true, false}
 use mathlib.Core.List.{List, reverse}
-use lib.ListN.{length, getD, replicate}
+use lib.ListN.{length, replicate}
 use Rattle.buffer.specs.Buffer.{over}
 use Rattle.spell.specs.declared.Spell.{Spell}
 use Rattle.spell.specs.Blank.{blank}
 use Rattle.register.specs.declared.Reading.{Reading}
-use Rattle.standing_list.specs.Search.{standsAt}
-use Rattle.standing_journal.specs.declared.Undo.{Undo}
-use Rattle.standing_journal.specs.Journal.{blankEntry}
+use Rattle.journal.specs.declared.Undo.{Undo}
+use Rattle.journal.specs.Journal.{blankEntry}
 use Rattle.standing.specs.declared.Standing.{Standing}
-pub use Rattle.standing_journal.specs.Journal.{noted}
+pub use Rattle.journal.specs.Journal.{noted}
+pub use Rattle.journal.specs.Past.{entering, replacing}
 
 -- ---- Values in the first places
 
@@ -36,13 +34,3 @@ freshStanding = record { spells = replicate 1024 blank; count = 0; journal = rep
 -- the spells of a reading, over a fresh start
 abbrev pub loadedOf : Reading → Standing
 loadedOf g = record { spells = g .spells; count = g .count; journal = freshStanding .journal; depth = 0 }
-
--- ---- The entry of an edit
-
--- s is entered: no spell stood under its number; the entry holds s
-abbrev pub entering : Spell → Undo
-entering s = record { number = s .number; stood = false; spell = s }
-
--- the spell of the number k goes from the list l, by an amend or a strike: the entry holds it
-abbrev pub replacing : ℕ → List Spell → Undo
-replacing k l = record { number = k; stood = true; spell = getD l (standsAt k l) blank }

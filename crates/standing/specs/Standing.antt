@@ -2,7 +2,7 @@
 use Prim.Native.Nat.{ℕ, _≤_}
 use mathlib.Core.Path.{_≡_}
 use mathlib.Core.Bool.{Bool, false, not, _&&_, cond}
-use mathlib.Core.List.{List, [], _∷_}
+use mathlib.Core.List.{List, []}
 use lib.Dec.{eqb}
 use lib.ListN.{length, take, drop}
 use Rattle.refusal.specs.Table.{accepted}
@@ -11,8 +11,9 @@ use Rattle.spell.specs.Listing.{Good}
 use Rattle.model.specs.declared.Call.{Call}
 use Rattle.model.specs.declared.Call.the-variants.{Enter, Amend, Strike, TakeBack, Publish, Write, Ask}
 use Rattle.model.specs.Edits.{insert, remove, replace, idle, enterRefusal, amendRefusal, strikeRefusal, takeBackRefusal, remember, frontOr, restOf}
-use Rattle.standing_journal.specs.declared.Undo.{Undo}
-use Rattle.standing_journal.specs.Journal.{newestFirst}
+use Rattle.journal.specs.declared.Undo.{Undo}
+use Rattle.journal.specs.Journal.{newestFirst}
+unfoldable pub use Rattle.journal.specs.Past.{undo, pastOf, Goods}
 use Rattle.standing.specs.declared.Standing.{Standing}
 use Rattle.standing.specs.declared.Edited.{Edited}
 use Rattle.standing.specs.Places.{holding, freshStanding, noted, entering, replacing}
@@ -29,23 +30,9 @@ listOf st = take (st .count) (st .spells)
 abbrev pub entries : Standing → List Undo
 entries st = newestFirst (st .depth) (st .journal)
 
--- one edit taken back: the number's spell goes, and the one that stood before the edit, if one did, is put in
-unfoldable pub undo : Undo → List Spell → List Spell
-undo e l = cond (e .stood) (insert (e .spell) (remove (e .number) l)) (remove (e .number) l)
-
--- the earlier standing lists that entry after entry gives, newest first
-unfoldable pub pastOf : List Spell → List Undo → List (List Spell)
-pastOf l [] = []
-pastOf l (e ∷ es) = undo e l ∷ pastOf (undo e l) es
-
 -- the past
 abbrev pub pasts : Standing → List (List Spell)
 pasts st = pastOf (listOf st) (entries st)
-
--- each list of the past can stand
-unfoldable pub Goods : List (List Spell) → Type 0
-Goods [] = Unit {0}
-Goods (l ∷ past) = Good l × Goods past
 
 -- a standing list that the calls gave: it can stand, and so can each list of its past
 pub record Wf (st : Standing) : Type 0 where

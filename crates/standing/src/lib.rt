@@ -3,19 +3,19 @@ ghost use mathlib.Core.List.{map};
 ghost use mathlib.Core.Path.{_≡_};
 ghost use mathlib.Core.Bool.{cond};
 ghost use Prim.Native.Nat.{_≤_};
-ghost use Rattle.standing_list.specs.List.{LaidOut};
-ghost use Rattle.standing_journal.specs.Journal.{noting};
+ghost use Rattle.spell_places.specs.List.{LaidOut};
+ghost use Rattle.journal.specs.Journal.{noting};
 ghost use Rattle.standing.specs.Places.{loadedOf};
-ghost use Rattle.standing.specs.Contracts.{newestOf};
+ghost use Rattle.journal.specs.Journal.{newestOf};
 ghost use Rattle.rules.specs.Rules.{cut};
 ghost use Rattle.register.specs.Text.{writeAll};
 ghost use Rattle.register.specs.Answers.{Writes};
 ghost use Rattle.standing.specs.Standing.{listOf, Wf, Fresh, Does};
+use journal::Undo;
 use model::Call;
 use register::Reading;
 use register::Written;
 use spell::Spell;
-use standing_journal::Undo;
 
 // words.rt: the standing list in words of 16 bits, and back.
 pub mod words;

@@ -2,16 +2,9 @@
 ghost use mathlib.Core.Path.{_≡_};
 ghost use lib.ListN.{drop};
 ghost use Rattle.packing.specs.Blocks.{parts, Put, PutAll};
-ghost use Rattle.standing_journal.specs.Journal.{blankEntry, noting};
-ghost use Rattle.standing_journal.specs.Words.{entryWords, entryOf};
-use spell::Spell;
-
-// How to go back one edit: the spell number, and the spell that stood under it before, if one did.
-pub struct Undo {
-    pub number: u16,
-    pub stood: bool,
-    pub spell: Spell,
-}
+ghost use Rattle.journal.specs.Journal.{blankEntry, noting};
+ghost use Rattle.journal.specs.Words.{entryWords, entryOf};
+use journal::Undo;
 
 // What stands in a place that holds no entry.
 pub fn none() -> Undo

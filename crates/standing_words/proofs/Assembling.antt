@@ -1,7 +1,7 @@
 -- A standing list's words in their parts: the array, the journal, the count and the depth. Assumes nothing.
 use Rattle.basis.proofs.Prelude.{_∙_, _≡_, ap, sym, _+_, _-_, ℕ, List, [], _++_, _∷_, append-assoc, append-nil, drop, drop-of-length-le, getD, length, length-append, length-drop, set, take, take-append-drop, drop-at, drop-cons, drop-drop, getD-at, getD-append-add, length-take-le, sets-eq, take-at, arith}
 use Rattle.packing.{specs.{Blocks.written, Words.{spellWords, spellOf}}, proofs.{Blocks.{parts-length, written-length}, Words.spell-long}}
-use Rattle.standing_journal.{specs.Words.{entryWords, entryOf}, proofs.Words.entry-long}
+use Rattle.journal.{specs.Words.{entryWords, entryOf}, proofs.Words.entry-long}
 use Rattle.standing.specs.{declared.Standing.Standing, Packed.{packed, unpacked}}
 use Rattle.standing_words.specs.{Edits.Laid, Contracts.{spellsOf, entriesOf}}
 use Rattle.standing_words.proofs.{Values.parts-near, Reading.{spell-near, entry-near}}

@@ -4,8 +4,8 @@ use Rattle.buffer.{specs.Buffer.over, proofs.Over.{over-twice, own-over}}
 use Rattle.spell.specs.{declared.Spell.Spell, Order.earlierOf}
 use Rattle.model.{specs.Edits.insert, proofs.Edits.length-insert}
 use Rattle.packing.{specs.{Blocks.{Put, parts, written}, Words.{spellWords, spellOf}}, proofs.{Words.spell-long, Blocks.parts-length}}
-use Rattle.standing_list.{specs.{List.{without, putting, countedOf, leftOf}, Search.placeOf}, proofs.{Lists.{closed, close-all, remove-none, opened}, Search.insert-at, Changing.{left-le, left-length}}}
-use Rattle.standing_journal.{specs.{declared.Undo.Undo, Words.{entryWords, entryOf}}, proofs.{Journal.{push-room, push-full}, Words.entry-long}}
+use Rattle.spell_places.{specs.{List.{without, putting, countedOf, leftOf}, Search.placeOf}, proofs.{Lists.{closed, close-all, remove-none, opened}, Search.insert-at, Changing.{left-le, left-length}}}
+use Rattle.journal.{specs.{declared.Undo.Undo, Words.{entryWords, entryOf}}, proofs.{Journal.{push-room, push-full}, Words.entry-long}}
 use Rattle.standing_words.specs.{Moves.{lowered, raised}, Contracts.{Holds, spellsOf, TakesOut, PutsIn, Changes, entriesOf, Notes}}
 use Rattle.standing_words.proofs.{Moves.raised-put, Values.{lowers, inserts, puts-over}, Reading.{spell-near, entry-near, places, place-in}}
 

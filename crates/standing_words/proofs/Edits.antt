@@ -2,9 +2,9 @@
 use Rattle.basis.proofs.Prelude.{_∙_, _≡_, ap, refl, sym, _*_, _+_, _-_, _≤_, ℕ, List, _++_, cond, drop, getD, length, set, take, take-append-drop, drop-at, drop-drop, arith}
 use Rattle.model.specs.declared.Call.{Call, the-variants.{Enter, Amend, Strike, TakeBack, Publish, Write, Ask}}
 use Rattle.packing.specs.{Blocks.parts, Words.spellOf}
-use Rattle.standing_list.specs.{List.{changing, countedOf}, Search.foundIn, declared.Located.Located}
-use Rattle.standing_journal.specs.{declared.Undo.Undo, Journal.{blankEntry, noting}, Words.entryOf}
-use Rattle.planning.specs.{declared.Plan.Plan, Plans.{planOf, Takes, numberOf, deeperBy}}
+use Rattle.spell_places.specs.{List.{changing, countedOf}, Search.foundIn, declared.Located.Located}
+use Rattle.journal.specs.{declared.Undo.Undo, Journal.{blankEntry, noting}, Words.entryOf}
+use Rattle.plans.specs.{declared.Plan.Plan, Plans.{planOf, Takes, numberOf, deeperBy}}
 use Rattle.standing.{specs.{declared.{Standing.Standing, Edited.Edited}, Standing.{Wf, Does}, Packed.unpacked}, proofs.Plans.carried}
 use Rattle.standing_words.specs.{Edits.{EditedIn, Laid}, Contracts.{spellsOf, entriesOf, Changes, Notes}}
 use Rattle.standing_words.proofs.{Values.{parts-at, parts-near}, Reading.{spell-near, entry-near}, Assembling.{joined, unpacked-joined, laid-joined, laid-array, laid-journal, arrayIn, journalIn, array-long, journal-in-long, is-joined, partsBack, put-back}}

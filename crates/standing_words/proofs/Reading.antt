@@ -2,8 +2,8 @@
 use Rattle.basis.proofs.Prelude.{_≡_, _*_, _+_, _<_, _≤_, ℕ, List, _++_, drop, getD, length, length-append, length-drop, take, length-take-le, List·getD-append, drop-append-le, arith, le-leb}
 use Rattle.spell.specs.{declared.Spell.Spell, Blank.blank, Order.earlierOf}
 use Rattle.packing.{specs.Words.spellOf, proofs.{Blocks.parts-length, Words.spell-at}}
-use Rattle.standing_list.{specs.Search.placeOf, proofs.Search.lead-le}
-use Rattle.standing_journal.specs.Words.{entryOf}
+use Rattle.spell_places.{specs.Search.placeOf, proofs.Search.lead-le}
+use Rattle.journal.specs.Words.{entryOf}
 use Rattle.standing_words.specs.Contracts.{spellsOf}
 use Rattle.standing_words.proofs.Values.{parts-at}
 

@@ -3,7 +3,7 @@ use Rattle.basis.proofs.Prelude.{_∙_, _≡_, ap, refl, sym, _*_, _+_, _-_, _<
 use native.Mathlib.Nat.{add-mul}
 use Rattle.buffer.specs.Buffer.{over}
 use Rattle.packing.{specs.Blocks.{parts, put, written}, proofs.Blocks.{parts-length, put-room, written-length}}
-use Rattle.standing_list.proofs.Lists.{opened, closed, front}
+use Rattle.spell_places.proofs.Lists.{opened, closed, front}
 use Rattle.standing_words.specs.{Moves.{lowered, inserted}, Contracts.Holds}
 
 module _ {A : Type 0} (f : A → List ℕ) where

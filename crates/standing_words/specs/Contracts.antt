@@ -8,10 +8,10 @@ use Rattle.buffer.specs.Buffer.{over}
 use Rattle.spell.specs.declared.Spell.{Spell}
 use Rattle.packing.specs.Blocks.{written, parts}
 use Rattle.packing.specs.Words.{spellWords, spellOf}
-use Rattle.standing_list.specs.List.{without, putting, changing}
-use Rattle.standing_journal.specs.declared.Undo.{Undo}
-use Rattle.standing_journal.specs.Journal.{noting}
-use Rattle.standing_journal.specs.Words.{entryWords, entryOf}
+use Rattle.spell_places.specs.List.{without, putting, changing}
+use Rattle.journal.specs.declared.Undo.{Undo}
+use Rattle.journal.specs.Journal.{noting}
+use Rattle.journal.specs.Words.{entryWords, entryOf}
 
 -- the words x hold the n values a, as g reads k words each; and, where L holds, they are as f writes them
 pub record Holds {A : Type 0} (k : ℕ) (f : A → List ℕ) (g : List ℕ → A) (L : Type 0) (n : ℕ) (x : List ℕ) (a : List A) : Type 0 where

@@ -3,7 +3,7 @@
 ghost use mathlib.Core.Path.{_≡_};
 ghost use Prim.Native.Nat.{_+_, _≤_};
 ghost use lib.ListN.{length, take};
-ghost use Rattle.standing_list.specs.Search.{placeOf, foundIn};
+ghost use Rattle.spell_places.specs.Search.{placeOf, foundIn};
 ghost use Rattle.standing.specs.Standing.{Wf};
 ghost use Rattle.standing.specs.Packed.{unpacked};
 ghost use Rattle.standing_words.specs.Edits.{EditedIn};
@@ -12,8 +12,8 @@ ghost use Rattle.standing_words.specs.Contracts.{spellsOf, TakesOut, Put
 use model::Call;
 use spell::Spell;
 use standing::words::STANDING;
-use standing_journal::Undo;
-use standing_list::Located;
+use journal::Undo;
+use spell_places::Located;
 
 // ---- Words that move
 

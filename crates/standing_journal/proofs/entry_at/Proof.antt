@@ -1,7 +1,7 @@
 -- `standing_journal::entry_at` meets its contract. Assumes nothing.
 use Rattle.basis.proofs.Prelude.{_∙_, sym, arith, needs}
 use denote.Ref.{now}
-use Rattle.standing_journal.proofs.Words.{entry-at, entry-none}
+use Rattle.journal.proofs.Words.{entry-at, entry-none}
 use Rattle.standing_journal.proofs.entry_at.Statement.{statement}
 use Rattle.standing_journal.proofs.entry_at.Tie as tie
 

@@ -2,8 +2,8 @@
 use Rattle.basis.proofs.Prelude.{_≡_, refl, _*_, _-_, _≤_, _++_, drop, arith, needs}
 use Rattle.packing.specs.Blocks.{parts}
 use Rattle.packing.proofs.Blocks.{parts-more, parts-done}
-use Rattle.standing_journal.specs.Words.{entryOf}
-use Rattle.standing_journal.specs.Journal.{blankEntry}
+use Rattle.journal.specs.Words.{entryOf}
+use Rattle.journal.specs.Journal.{blankEntry}
 use Rattle.standing_journal.proofs.journal_at.Statement.{statement}
 use Rattle.standing_journal.proofs.journal_at.Tie as tie
 

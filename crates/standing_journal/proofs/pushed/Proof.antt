@@ -1,8 +1,8 @@
 -- `standing_journal::pushed` meets its contract: where there is no room, the entries up to i have moved down by one. Assumes nothing.
 use Rattle.basis.proofs.Prelude.{_≡_, _-_, _≤_, length, arith, needs}
-use Rattle.standing_list.proofs.Lists.{closed, close-none, close-step}
-use Rattle.standing_journal.specs.Journal.{blankEntry}
-use Rattle.standing_journal.proofs.Journal.{push-room, push-full}
+use Rattle.spell_places.proofs.Lists.{closed, close-none, close-step}
+use Rattle.journal.specs.Journal.{blankEntry}
+use Rattle.journal.proofs.Journal.{push-room, push-full}
 use Rattle.standing_journal.proofs.pushed.Statement.{statement}
 use Rattle.standing_journal.proofs.pushed.Tie as tie
 

@@ -3,8 +3,8 @@ use Rattle.basis.proofs.Prelude.{_∙_, ap, sym, _+_, _<_, length, length-set, 
 use denote.Ref.{now}
 use Rattle.packing.specs.Blocks.{Put}
 use Rattle.packing.proofs.Blocks.{put-length, put-none}
-use Rattle.standing_journal.specs.Words.{entryWords, entryOf}
-use Rattle.standing_journal.proofs.Words.{put-entry, entry-back, entry-held, entry-long}
+use Rattle.journal.specs.Words.{entryWords, entryOf}
+use Rattle.journal.proofs.Words.{put-entry, entry-back, entry-held, entry-long}
 use Rattle.standing_journal.proofs.put_entry.Statement.{statement}
 use Rattle.standing_journal.proofs.put_entry.Tie as tie
 

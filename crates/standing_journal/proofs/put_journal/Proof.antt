@@ -3,10 +3,10 @@ use Rattle.basis.proofs.Prelude.{_≡_, sym, _*_, _-_, _≤_, ℕ, List, length
 use denote.Ref.{now}
 use Rattle.packing.specs.Blocks.{written}
 use Rattle.packing.proofs.Blocks.{put-none, written-length, Putting, laid-none, laid-more, laid-length, laid-all}
-use Rattle.standing_journal.specs.declared.Undo.{Undo}
-use Rattle.standing_journal.specs.Words.{entryWords, entryOf}
-use Rattle.standing_journal.specs.Journal.{blankEntry}
-use Rattle.standing_journal.proofs.Words.{entry-long}
+use Rattle.journal.specs.declared.Undo.{Undo}
+use Rattle.journal.specs.Words.{entryWords, entryOf}
+use Rattle.journal.specs.Journal.{blankEntry}
+use Rattle.journal.proofs.Words.{entry-long}
 use Rattle.standing_journal.proofs.put_journal.Statement.{statement}
 use Rattle.standing_journal.proofs.put_journal.Tie as tie
 

@@ -1,7 +1,7 @@
 -- `standing_words::edit_in` meets its contract: the plan of the call is carried out. Assumes nothing.
 use Rattle.basis.proofs.Prelude.{_∙_, _≡_, sym, _≤_, getD, length, length-set, length-take-le, arith, needs}
-use Rattle.planning.specs.Plans.{deeperBy}
-use Rattle.standing_list.specs.List.{countedOf}
+use Rattle.plans.specs.Plans.{deeperBy}
+use Rattle.spell_places.specs.List.{countedOf}
 use Rattle.standing_words.proofs.{Assembling.{partsBack, array-back, parts-back}, Edits.{count-in, depth-in, plan-fits, edited}, edit_in.Statement.statement}
 use Rattle.standing_words.proofs.edit_in.Tie as tie
 

@@ -1,7 +1,7 @@
 -- `standing_words::find` meets its contract: i spells are passed, and what is found is i and what the rest finds. Assumes nothing.
 use Rattle.basis.proofs.Prelude.{_∙_, _≡_, sym, _+_, _-_, _≤_, ℕ, List, Bool, not, eqb, drop, getD, take, List·getD-eq-default, getD-take, length-take-le, zero-add, arith, needs, eq-eqb, ne-eqb}
 use Rattle.spell.specs.{declared.Spell.Spell, Blank.blank}
-use Rattle.standing_list.{specs.{declared.Located.Located, Search.{lead, standsAt, foundIn}}, proofs.Search.{walk-on, walk-stops, walk-ends}}
+use Rattle.spell_places.{specs.{declared.Located.Located, Search.{lead, standsAt, foundIn}}, proofs.Search.{walk-on, walk-stops, walk-ends}}
 use Rattle.standing_words.specs.Contracts.{spellsOf}
 use Rattle.standing_words.proofs.{Reading.{places, spell-is, number-is}, find.Statement.statement}
 use Rattle.standing_words.proofs.find.Tie as tie

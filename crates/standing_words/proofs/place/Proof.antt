@@ -1,7 +1,7 @@
 -- `standing_words::place` meets its contract: i spells are passed, and s goes i and what the rest says further. Assumes nothing.
 use Rattle.basis.proofs.Prelude.{_∙_, _≡_, sym, _+_, _-_, _≤_, drop, take, zero-add, arith, needs, not-false, not-true}
 use Rattle.spell.specs.Order.{earlierOf}
-use Rattle.standing_list.{specs.Search.{lead, placeOf}, proofs.Search.{walk-on, walk-stops, walk-ends}}
+use Rattle.spell_places.{specs.Search.{lead, placeOf}, proofs.Search.{walk-on, walk-stops, walk-ends}}
 use Rattle.standing_words.specs.Contracts.{spellsOf}
 use Rattle.standing_words.proofs.{Reading.{places, spell-is}, place.Statement.statement}
 use Rattle.standing_words.proofs.place.Tie as tie

@@ -1,0 +1,4 @@
+pub mod Journal
+pub mod Words
+pub mod Past
+pub mod Cases

@@ -1,0 +1,62 @@
+-- An entry's words read back as the entry. Assumes nothing.
+use Rattle.basis.proofs.Prelude.{_∙_, _≡_, ap, refl, sym, _+_, _<_, _≤_, suc, ℕ, List, _++_, Bool, cond, false, not, true, eqb, drop, getD, length, length-append, length-drop, length-set, set, drop-drop, getD-drop, add-zero, add-one, add-two, arith, le-leb, lt-leb}
+use mir.Val.{Val, boolByte}
+use denote.Laws.{Is}
+use Rattle.spell.specs.declared.Spell.{Spell}
+use Rattle.packing.specs.Blocks.{put}
+use Rattle.packing.specs.Words.{spellWords, spellOf}
+use Rattle.packing.proofs.Blocks.{put-sets}
+use Rattle.packing.proofs.Words.{spell-back, spell-held, spell-long, spell-reads}
+use Rattle.journal.specs.declared.Undo.{Undo}
+use Rattle.journal.specs.Journal.{blankEntry}
+use Rattle.journal.proofs.Undo.{the-row as entry-row}
+use Rattle.journal.specs.Words.{entryWords, entryOf}
+
+pub entry-long : (e : Undo) → length (entryWords e) ≡ 9
+unfolding entryWords
+entry-long e = ap (λ (n : ℕ). suc (suc n)) (spell-long (e .spell))
+
+-- the entry of a number, a word for a spell that stood or none, and a spell
+abbrev read : ℕ → ℕ → Spell → Undo
+read k stood s = record { number = k; stood = not (eqb stood 0); spell = s }
+
+-- the words after an entry's own are not read
+pub entry-reads : (e : Undo) (r : List ℕ) → entryOf (entryWords e ++ r) ≡ entryOf (entryWords e)
+unfolding entryOf
+entry-reads e r =
+    rw (le-leb 9 (length (entryWords e ++ r)) (omega (arith, length-append (entryWords e) r, entry-long e)), le-leb 9 (length (entryWords e)) (omega (arith, entry-long e)))
+    (unfold entryWords in ap (read (e .number) (cond (e .stood) 1 0)) (spell-reads (e .spell) r))
+
+flag-back : (b : Bool) → not (eqb (cond b 1 0) 0) ≡ b
+flag-back true = refl
+flag-back false = refl
+
+pub entry-back : (e : Undo) → spellOf (spellWords (e .spell)) ≡ e .spell → entryOf (entryWords e) ≡ e
+unfolding entryOf
+entry-back e h = rw (le-leb 9 (length (entryWords e)) (omega (arith, entry-long e))) (unfold entryWords in rw (h, flag-back (e .stood)))
+
+-- what the checker knows of every entry that a program holds: its spell's urgency has its type's width, so that the entry reads back
+pub entry-held : (e : Undo) (vs : List Val) → Is entry-row e vs → entryOf (entryWords e) ≡ e
+entry-held e vs p = entry-back e (spell-back (e .spell) (spell-held (e .spell) _ (p .1 .1 .1 .1 .0)))
+
+-- as the code reads it
+pub entry-at : (l : List ℕ) (at : ℕ) → at + 9 ≤ length l
+    → entryOf (drop at l) ≡ record { number = getD l at 0; stood = not (eqb (getD l (at + 1) 0) 0); spell = spellOf (drop (at + 2) l) }
+unfolding entryOf
+entry-at l at h = simp (le-leb 9 (length (drop at l)) (omega (arith, length-drop at l)), getD-drop, drop-drop, add-zero)
+
+pub entry-none : (l : List ℕ) (at : ℕ) → length l < at + 9 → entryOf (drop at l) ≡ blankEntry
+unfolding entryOf
+entry-none l at h = rw (lt-leb 9 (length (drop at l)) (omega (arith, length-drop at l)))
+
+-- as the code writes it: two stores, and the spell's words after them
+as-number : (b : Bool) → boolByte b ≡ cond b 1 0
+as-number true = refl
+as-number false = refl
+
+pub put-entry : (e : Undo) (l : List ℕ) (at : ℕ) → at + 9 ≤ length l
+    → put (at + 2) (spellWords (e .spell)) (set (set l at (e .number)) (at + 1) (boolByte (e .stood))) ≡ put at (entryWords e) l
+put-entry e l at h =
+    rw as-number
+    (sym (put-sets (at + 2) (spellWords (e .spell)) (set (set l at (e .number)) (at + 1) (cond (e .stood) 1 0)) (simp length-set (omega (arith, spell-long (e .spell)))))
+    ∙ rw (add-one, add-two) (unfold entryWords in put-sets at (entryWords e) l (omega (arith, entry-long e))))

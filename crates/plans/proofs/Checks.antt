@@ -1,0 +1,40 @@
+-- The order of the checks: what an entry and an amend are planned by is the refusal of the account. Assumes nothing.
+use Rattle.basis.proofs.Prelude.{_∙_, _≡_, ap, refl, sym, _<_, _≤_, ℕ, List, Bool, cond, false, true, leb, ltb, length, le-leb, lt-leb, ltb-false, ltb-true, by-test}
+use Rattle.refusal.specs.Table.{accepted, duplicateNumber, unknownNumber, full}
+use Rattle.spell.specs.declared.Spell.{Spell}
+use Rattle.spell.specs.Entry.{refusalOf}
+use Rattle.spell.specs.Listing.{stands}
+use Rattle.model.specs.Edits.{orElse, enterRefusal, amendRefusal}
+use Rattle.spell_places.specs.Search.{standsAt}
+use Rattle.spell_places.proofs.Found.{stands-index}
+use Rattle.plans.specs.Plans.{enterCheck, amendCheck}
+
+-- ---- A number is looked for in the list l of n spells: p is where it stands, or n
+
+module _ (l : List Spell) (k : ℕ) {n p : ℕ} (long : length l ≡ n) (at-index : p ≡ standsAt k l) where
+  stands-is : stands l k ≡ ltb p n
+  stands-is = rw (at-index, ← long) (stands-index k l)
+
+  pub place-in : stands l k ≡ true → p < n
+  place-in h = ltb-true p n (sym stands-is ∙ h)
+
+  pub place-out : stands l k ≡ false → n ≤ p
+  place-out h = ltb-false p n (sym stands-is ∙ h)
+
+-- ---- Enter and amend of the spell s, as the code checks it
+
+two : (t f : Bool) → cond t duplicateNumber (cond f full accepted) ≡ orElse (cond t duplicateNumber accepted) (cond f full accepted)
+two true f = refl
+two false f = refl
+
+beyond : (p n : ℕ) → cond (ltb p n) accepted unknownNumber ≡ cond (leb n p) unknownNumber accepted
+beyond p n = by-test (ltb p n) (λ e. rw (e, lt-leb n p (ltb-true p n e))) (λ e. rw (e, le-leb n p (ltb-false p n e)))
+
+module _ (l : List Spell) (s : Spell) {n p : ℕ} (long : length l ≡ n) (at-index : p ≡ standsAt (s .number) l) where
+  pub enter-refusal : enterRefusal l s ≡ enterCheck s p n
+  unfolding enterRefusal
+  enter-refusal = rw (stands-is l (s .number) long at-index, long) (ap (λ (r : ℕ). orElse (refusalOf s) r) (two (ltb p n) (leb 1024 n)))
+
+  pub amend-refusal : amendRefusal l s ≡ amendCheck s p n
+  unfolding amendRefusal
+  amend-refusal = rw (stands-is l (s .number) long at-index) (ap (λ (r : ℕ). orElse (refusalOf s) r) (beyond p n))

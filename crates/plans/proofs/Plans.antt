@@ -1,0 +1,121 @@
+-- A plan is what the account says of its call, on the list l of n spells where its number stands at p. Assumes nothing.
+use Rattle.basis.proofs.Prelude.{_∙_, _≡_, ap, refl, sym, _+_, _-_, _<_, _≤_, suc, ℕ, List, _∷_, Bool, cond, false, true, leb, drop, getD, length, length-append, length-drop, length-take, take, arith, eq-eqb, le-leb, leb-false, leb-true, lt-leb, ne-eqb, by-cases}
+use Rattle.refusal.specs.Table.{accepted, unknownNumber, noHistory}
+use Rattle.spell.specs.declared.Spell.{Spell}
+use Rattle.spell.specs.Blank.{blank}
+use Rattle.spell.specs.Listing.{stands}
+use Rattle.spell.specs.Same.{sameOf}
+use Rattle.model.specs.Edits.{insert, remove, replace, idle, enterRefusal, amendRefusal}
+use Rattle.model.proofs.Checks.{enters, amends}
+use Rattle.spell_places.specs.Search.{standsAt}
+use Rattle.spell_places.specs.List.{putting, without}
+use Rattle.spell_places.proofs.Found.{idle-index}
+use Rattle.spell_places.proofs.Changing.{put-in, removed-is, without-none}
+use Rattle.journal.specs.declared.Undo.{Undo}
+use Rattle.journal.specs.Journal.{noted}
+use Rattle.journal.specs.Past.{undo, entering, replacing}
+use Rattle.plans.specs.declared.Plan.{Plan}
+use Rattle.plans.specs.Plans.{noPlan, enterCheck, planEnter, amendCheck, planAmend, planStrike, planBack, deeperBy}
+use Rattle.plans.proofs.Checks.{place-in, place-out, enter-refusal, amend-refusal}
+
+-- a plan by which no check refuses, the list l becomes l′, and the entry e is noted in a journal of the depth d
+pub record Makes (x : Plan) (l l′ : List Spell) (e : Undo) (d : ℕ) : Type 0 where
+  pub done : x .refusal ≡ accepted
+  pub list : putting (x .puts) (x .spell) (without (x .out) l) ≡ l′
+  pub notes : x .notes ≡ true
+  pub entry : x .entry ≡ e
+  pub depth : x .depth ≡ d
+
+-- a plan by which the newest of d entries goes, and the list l becomes l′
+pub record Undoes (x : Plan) (l l′ : List Spell) (d : ℕ) : Type 0 where
+  pub done : x .refusal ≡ accepted
+  pub list : putting (x .puts) (x .spell) (without (x .out) l) ≡ l′
+  pub notes : x .notes ≡ false
+  pub depth : x .depth ≡ d - 1
+
+-- nothing changes
+pub none-keeps : (l : List Spell) (d z : ℕ) → length l ≤ 1024 → let x = noPlan d z in putting (x .puts) (x .spell) (without (x .out) l) ≡ l
+none-keeps l d z few = without-none 1024 l few
+
+-- ---- Enter and amend of the spell s
+
+module _ (l : List Spell) (s : Spell) {n p : ℕ} (long : length l ≡ n) (few : n ≤ 1024) (at : p ≡ standsAt (s .number) l) (d : ℕ) where
+  pub enter-leaves : (enterRefusal l s ≡ accepted → ⊥) → planEnter s p n d ≡ noPlan d (enterRefusal l s)
+  enter-leaves h =
+      let is = enter-refusal l s long at in
+      rw (ne-eqb (enterCheck s p n) accepted (λ z. h (is ∙ z))) (ap (noPlan d) (sym is))
+
+  pub enter-makes : enterRefusal l s ≡ accepted → Makes (planEnter s p n d) l (insert s l) (entering s) d
+  enter-makes h =
+      let none = without-none 1024 l (omega arith) in
+      let room : length (without 1024 l) < 1024 = rw none (enters l s h .room) in
+      rw (eq-eqb (enterCheck s p n) accepted (sym (enter-refusal l s long at) ∙ h))
+      (record { done = refl; list = put-in s (without 1024 l) room ∙ ap (insert s) none; notes = refl; entry = refl; depth = refl })
+
+  abbrev old : Spell
+  old = getD l p blank
+
+  pub amend-leaves : (amendRefusal l s ≡ accepted → ⊥) → planAmend s p old n d ≡ noPlan d (amendRefusal l s)
+  amend-leaves h =
+      let is = amend-refusal l s long at in
+      rw (ne-eqb (amendCheck s p n) accepted (λ z. h (is ∙ z))) (ap (noPlan d) (sym is))
+
+  module _ (h : amendRefusal l s ≡ accepted) where
+    passed : amendCheck s p n ≡ accepted
+    passed = sym (amend-refusal l s long at) ∙ h
+
+    -- what is found is the spell of an idle amend
+    idle-is : idle l s ≡ sameOf old s
+    idle-is = rw at (idle-index s l (amends l s h .there))
+
+    abbrev amended : Plan
+    amended = record { refusal = accepted; out = p; puts = true; spell = s; notes = true; entry = record { number = s .number; stood = true; spell = old }; depth = d }
+
+    amend-is : (b : Bool) → idle l s ≡ b → planAmend s p old n d ≡ cond b (noPlan d accepted) amended
+    amend-is b i = rw (eq-eqb (amendCheck s p n) accepted passed) (ap (λ (t : Bool). cond t (noPlan d accepted) amended) (sym idle-is ∙ i))
+
+    pub amend-idles : idle l s ≡ true → planAmend s p old n d ≡ noPlan d accepted
+    amend-idles = amend-is true
+
+    pub amend-makes : idle l s ≡ false → Makes (planAmend s p old n d) l (replace s l) (replacing (s .number) l) d
+    amend-makes i =
+        let there = place-in l (s .number) long at (amends l s h .there) in
+        let room : length (without p l) < 1024 = omega (arith, length-append (take p l) (drop (suc p) l), length-take p l, length-drop (suc p) l) in
+        rw (amend-is false i)
+        (record { done = refl; list = put-in s (without p l) room ∙ ap (insert s) (removed-is (s .number) l at); notes = refl; entry = rw at; depth = refl })
+
+-- ---- Strike of the number k
+
+module _ (l : List Spell) (k : ℕ) {n p : ℕ} (long : length l ≡ n) (at : p ≡ standsAt k l) (d : ℕ) where
+  pub strike-leaves : stands l k ≡ false → planStrike k p (getD l p blank) n d ≡ noPlan d unknownNumber
+  strike-leaves h = rw (le-leb n p (place-out l k long at h))
+
+  pub strike-makes : stands l k ≡ true → Makes (planStrike k p (getD l p blank) n d) l (remove k l) (replacing k l) d
+  strike-makes h =
+      rw (lt-leb n p (place-in l k long at h))
+      (record { done = refl; list = removed-is k l at; notes = refl; entry = rw at; depth = refl })
+
+-- ---- Take back of the entry e
+
+pub back-leaves : (e : Undo) (p : ℕ) {d : ℕ} → d ≡ 0 → planBack e p d ≡ noPlan d noHistory
+back-leaves e p none = rw none
+
+pub back-undoes : (l : List Spell) (e : Undo) {p : ℕ} (d : ℕ) → p ≡ standsAt (e .number) l → (d ≡ 0 → ⊥) → (e .stood ≡ true → length (remove (e .number) l) < 1024)
+    → Undoes (planBack e p d) l (undo e l) d
+unfolding undo
+back-undoes l e {p} d at some room =
+    rw (ne-eqb d 0 some)
+    (record { done = refl; list = rw (removed-is (e .number) l at) (put-back (e .stood) room); notes = refl; depth = refl })
+  where
+    put-back : (stood : Bool) → (stood ≡ true → length (remove (e .number) l) < 1024)
+        → putting stood (e .spell) (remove (e .number) l) ≡ cond stood (insert (e .spell) (remove (e .number) l)) (remove (e .number) l)
+    put-back true room = put-in (e .spell) (remove (e .number) l) (room refl)
+    put-back false room = refl
+
+-- ---- The depth
+
+-- one more entry, of which a 65th falls off
+pub deeper-noted : (e : Undo) (es : List Undo) → length es ≤ 64 → deeperBy (length es) true ≡ length (noted e es)
+deeper-noted e es few =
+    let many = length-take 64 (e ∷ es) in
+    by-cases (λ (r : ℕ). r ≡ length (noted e es)) (leb 64 (length es)) {x = length es} {y = length es + 1} (λ h. omega (arith, leb-true 64 (length es) h)) (λ h. omega (arith, leb-false 64 (length es) h))

@@ -1,0 +1,5 @@
+pub mod Lists
+pub mod Search
+pub mod Rows
+pub mod Changing
+pub mod Found

@@ -1,4 +1,0 @@
-pub mod Lists
-pub mod Search
-pub mod Rows
-pub mod Changing
