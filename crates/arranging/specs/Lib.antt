@@ -1,2 +1,1 @@
-pub mod Arranged
 pub mod Contracts

@@ -23,7 +23,7 @@ fn read_digits(text: &[u8], start: usize, limit: u64) -> Length
     let mut i = start;
     while i < text.len() {
         let b = text[i];
-        if !fields::is_digit(b) {
+        if !field_bytes::is_digit(b) {
             return Length::Value(v, i);
         }
         if v > tenth {
@@ -50,7 +50,7 @@ fn read_decimal(text: &[u8], at: usize, limit: u64) -> Length
     if b == ZERO {
         return Length::Value(0, at + 1);
     }
-    if !fields::is_digit(b) {
+    if !field_bytes::is_digit(b) {
         return Length::Malformed;
     }
     read_digits(text, at, limit)
@@ -61,7 +61,7 @@ pub fn read_length(text: &[u8], at: usize, end: u8, limit: u64) -> Length
     ensures { λ r. ⌜ Reads lengthAt lengthOf (now (text .entry)) r (readLength limit end (drop at (now (text .entry)))) ⌝ }
 {
     let value = read_decimal(text, at, limit);
-    fields::read_end(text, value, end)
+    field_bytes::read_end(text, value, end)
 }
 
 // A number at `at` and the byte that ends it.

@@ -1,6 +1,18 @@
 -- Worked examples of each field, read and written. Assumes nothing.
-use Rattle.basis.proofs.Prelude.{_≡_, refl, [], _∷_}
-use Rattle.fields.specs.Fields.{digitsOf, decimalOf, numberText, wideText, numbersText, hexDigit, hexOf, bitsText, found, unreadable, passed, readDigits, readDecimal, readLength, readNumber, hexValue, readHex, readBits, readMask}
+use Rattle.basis.proofs.Prelude.{_≡_, refl, [], _∷_, true, false}
+use Rattle.fields.specs.Fields.{byteText, isAt, digitsOf, decimalOf, numberText, wideText, numbersText, hexDigit, hexOf, bitsText, found, unreadable, passed, readDigits, readDecimal, readLength, readNumber, hexValue, readHex, readBits, readMask}
+use Rattle.fields.specs.Answers.{putAt, putOf}
+
+-- single bytes: at a place, at another, past the end; put where there is a place before, and where there is none
+single :
+    (isAt (7 ∷ 9 ∷ []) 1 9 ≡ true)
+    × (isAt (7 ∷ 9 ∷ []) 0 9 ≡ false)
+    × (isAt (7 ∷ 9 ∷ []) 2 0 ≡ false)
+    × (putAt 1 (byteText 7) (1 ∷ 2 ∷ []) 1 ≡ 0)
+    × (putOf 1 (byteText 7) (1 ∷ 2 ∷ []) 1 ≡ 7 ∷ 2 ∷ [])
+    × (putAt 1 (byteText 7) (1 ∷ 2 ∷ []) 0 ≡ 0)
+    × (putOf 1 (byteText 7) (1 ∷ 2 ∷ []) 0 ≡ 1 ∷ 2 ∷ [])
+single = (refl, refl, refl, refl, refl, refl, refl)
 
 written :
     (numberText 0 9 [] ≡ 48 ∷ 9 ∷ [])

@@ -1,13 +1,5 @@
-// The fields of a text, decimals and hex digits, each ended by a byte: what their readers and writers share, the answers of
-// the readers and single bytes.
-ghost use mathlib.Core.Path.{_≡_};
-ghost use Rattle.fields.specs.Fields.{onward, passed, isAt, isDigit, byteText};
-ghost use Rattle.fields.specs.Answers.{lengthAt, lengthOf, Reads, Puts};
-
-// The digits 0 and 9.
-const ZERO: u8 = 48;
-
-const NINE: u8 = 57;
+// The fields of a text, decimals and hex digits, each ended by a byte: what is written and read of them stands in specs/, the laws that their
+// readers and writers share in proofs/, and here the answers of the readers. `field_bytes` has the functions of single bytes.
 
 // A value and the place after its field, or a field that can't be read: a number of 16 bits, or one of any length.
 pub enum Field {
@@ -18,54 +10,4 @@ pub enum Field {
 pub enum Length {
     Value(u64, usize),
     Malformed,
-}
-
-// ---- Single bytes
-
-// Whether b is a digit 0-9.
-pub fn is_digit(b: u8) -> bool
-    ensures { λ r. ⌜ r ≡ isDigit b ⌝ }
-{
-    if b < ZERO {
-        return false;
-    }
-    b <= NINE
-}
-
-// Whether the byte b stands at `at`.
-pub fn is_at(text: &[u8], at: usize, b: u8) -> bool
-    ensures { λ r. ⌜ r ≡ isAt (now (text .entry)) at b ⌝ }
-{
-    if at < text.len() {
-        return text[at] == b;
-    }
-    false
-}
-
-// What was read, and the byte that ends it.
-pub fn read_end(text: &[u8], value: Length, end: u8) -> Length
-    ensures { λ r. ⌜ Reads lengthAt lengthOf (now (text .entry)) r (onward (lengthOf (now (text .entry)) value) (passed end)) ⌝ }
-{
-    let Length::Value(v, i) = value else {
-        return Length::Malformed;
-    };
-    if !is_at(text, i, end) {
-        return Length::Malformed;
-    }
-    Length::Value(v, i + 1)
-}
-
-// One byte before the place `at`: the place where it stands. Nothing is written where there is no such place.
-pub fn put_byte(buf: &mut [u8], at: usize, b: u8) -> usize
-    ensures { λ r. ⌜ Puts 1 (byteText b) (now (buf .entry)) at r (now (buf .exit)) ⌝ }
-{
-    if at < 1 {
-        return at;
-    }
-    if buf.len() < at {
-        return at;
-    }
-    let i = at - 1;
-    buf[i] = b;
-    i
 }

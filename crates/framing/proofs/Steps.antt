@@ -1,13 +1,15 @@
 -- The laws that the code follows: a byte put into its place, a byte of a line, a byte of a text. Assumes nothing.
-use Rattle.basis.proofs.Prelude.{_∙_, _≡_, ap, refl, sym, _+_, _-_, _<_, _≤_, suc, zero, ℕ, List, [], _++_, _∷_, Bool, cond, false, true, leb, drop, drop-of-length-le, getD, length, length-append, length-set, set, take, drop-cons, drop-drop, drop-length, drop-set-lt, length-take-le, take-all, take-append-seam, take-length, take-suc-set, add-one, arith, eq-eqb, leb-false, leb-true, ne-eqb}
-use Rattle.framing.specs.declared.Frame.{Frame}
-use Rattle.framing.specs.declared.Framed.{Framed}
-use Rattle.framing.specs.declared.Framed.the-variants.{Whole, Part}
+use Rattle.basis.proofs.Prelude.{_∙_, _≡_, ap, refl, sym, _+_, _-_, _<_, _≤_, min, suc, zero, ℕ, List, [], _++_, _∷_, drop, drop-of-length-le, getD, length, length-append, length-set, set, take, drop-cons, drop-drop, drop-length, drop-set-lt, length-take-le, take-all, take-append-seam, take-length, take-suc-set, add-one, arith, decLe, eq-eqb, ne-eqb}
+use native.Mathlib.Nat.{min-eq-left, min-eq-right}
+use Rattle.buffer.proofs.Over.{least-in, least-names}
+use Rattle.streams.specs.declared.Frame.{Frame}
+use Rattle.streams.specs.declared.Framed.{Framed}
+use Rattle.streams.specs.declared.Framed.the-variants.{Whole, Part}
 use Rattle.framing.specs.declared.Taken.{Taken}
 use Rattle.framing.specs.declared.Taken.the-variants.{Whole as LineWhole, Part as LinePart}
-use Rattle.framing.specs.Stream.{Partial, inLine, inText, kept, wants, settled, lineFed, feed}
-use Rattle.framing.specs.Advancing.{Progress, going, through, next, after, partOf, Fits, Kept, lineIn, textIn, Advances}
-use Rattle.framing.specs.Contracts.{Puts, TakesLine, TakesText, least}
+use Rattle.streams.specs.Stream.{Partial, inLine, inText, kept, wants, settled, lineFed, feed}
+use Rattle.streams.specs.Advancing.{Progress, going, through, next, after, partOf, Fits, Kept, lineIn, textIn, Advances}
+use Rattle.framing.specs.Contracts.{Puts, TakesLine, TakesText}
 
 -- ---- Places that keep what they held
 
@@ -17,27 +19,12 @@ kept-on n m a b e h =
     let k : m ≡ n + (m - n) = omega arith in
     rw (k, ← drop-drop (m - n) n b, ← drop-drop (m - n) n a, e)
 
--- of a number and a list's length the less takes and drops as many of its bytes as the number
-take-by : (l : List ℕ) (n : ℕ) (t : Bool) → leb n (length l) ≡ t → take (cond t n (length l)) l ≡ take n l
-take-by l n true e = refl
-take-by l n false e = let h : length l < n = leb-false n (length l) e in take-length l ∙ sym (take-all n l (omega arith))
-
-drop-by : (l : List ℕ) (n : ℕ) (t : Bool) → leb n (length l) ≡ t → drop (cond t n (length l)) l ≡ drop n l
-drop-by l n true e = refl
-drop-by l n false e = let h : length l < n = leb-false n (length l) e in drop-length l ∙ sym (drop-of-length-le l {i = n} (omega arith))
-
-pub take-least : (l : List ℕ) (n : ℕ) → take (least n (length l)) l ≡ take n l
-take-least l n = take-by l n (leb n (length l)) refl
-
-pub drop-least : (l : List ℕ) (n : ℕ) → drop (least n (length l)) l ≡ drop n l
-drop-least l n = drop-by l n (leb n (length l)) refl
-
-least-by : (n k : ℕ) (t : Bool) → leb n k ≡ t → cond t n k ≤ k
-least-by n k true e = leb-true n k e
-least-by n k false e = omega arith
-
-pub least-le : (n k : ℕ) → least n k ≤ k
-least-le n k = least-by n k (leb n k) refl
+-- of a number and a list's length the less drops as many of its bytes as the number
+drop-least : (l : List ℕ) (n : ℕ) → drop (min n (length l)) l ≡ drop n l
+drop-least l n = elim (decLe n (length l)) [
+  | yes h ↦ ap (λ (k : ℕ). drop k l) (min-eq-left h)
+  | no h ↦ let long : length l ≤ n = omega arith in ap (λ (k : ℕ). drop k l) (min-eq-right long) ∙ drop-length l ∙ sym (drop-of-length-le l {i = n} long)
+]
 
 -- ---- A byte put into its place
 
@@ -185,25 +172,22 @@ part-line l p (suc w) h = absurd (omega arith)
 pub record Begun (f : Frame) (a : List ℕ) (from : ℕ) (line payload : List ℕ) (n₀ m₀ start : ℕ) : Type 0 where
   pub lines : length line ≡ 65537
   pub texts : length payload ≡ 65536
-  pub line-least : n₀ ≡ least (f .line) (length line)
-  pub text-least : m₀ ≡ least (f .payload) (length payload)
-  pub place-least : start ≡ least from (length a)
+  pub line-least : n₀ ≡ min (f .line) (length line)
+  pub text-least : m₀ ≡ min (f .payload) (length payload)
+  pub place-least : start ≡ min from (length a)
 
 module _ {f : Frame} {a : List ℕ} {from : ℕ} {line payload : List ℕ} {n₀ m₀ start : ℕ} (b : Begun f a from line payload n₀ m₀ start) where
   pub begun-fits : Fits n₀ m₀
-  begun-fits = record {
-    line = rw (b .line-least, ← b .lines) (least-le (f .line) (length line));
-    payload = rw (b .text-least, ← b .texts) (least-le (f .payload) (length payload));
-  }
+  begun-fits = record { line = omega (arith, least-in (b .line-least) .1, b .lines); payload = omega (arith, least-in (b .text-least) .1, b .texts) }
 
   pub begun-place : start ≤ length a
-  begun-place = rw (b .place-least) (least-le from (length a))
+  begun-place = least-in (b .place-least) .1
 
   line-is : take n₀ line ≡ take (f .line) line
-  line-is = rw (b .line-least) (take-least line (f .line))
+  line-is = least-names (f .line) line refl (b .line-least)
 
   text-is : take m₀ payload ≡ take (f .payload) payload
-  text-is = rw (b .text-least) (take-least payload (f .payload))
+  text-is = least-names (f .payload) payload refl (b .text-least)
 
   place-is : drop start a ≡ drop from a
   place-is = rw (b .place-least) (drop-least a from)

@@ -3,12 +3,11 @@ use Prim.Native.Nat.{ℕ, _≤_}
 use mathlib.Core.Path.{_≡_}
 use mathlib.Core.List.{List, []}
 use lib.ListN.{length, take, drop}
-pub use Rattle.wire.specs.Contracts.{least}
-use Rattle.framing.specs.declared.Framed.{Framed}
+use Rattle.streams.specs.declared.Framed.{Framed}
 use Rattle.framing.specs.declared.Taken.{Taken}
 use Rattle.framing.specs.declared.Taken.the-variants.{Whole as LineWhole, Part as LinePart}
-use Rattle.framing.specs.Stream.{inLine, kept, wants, settled}
-use Rattle.framing.specs.Advancing.{Progress, going, next, after, progressOf, Within, Kept, lineIn, textIn}
+use Rattle.streams.specs.Stream.{inLine, kept, wants, settled}
+use Rattle.streams.specs.Advancing.{Progress, going, next, after, progressOf, Within, Kept, lineIn, textIn}
 
 -- a byte is put after the first n of a list
 pub record Puts (into : List ℕ) (n b r : ℕ) (into′ : List ℕ) : Type 0 where

@@ -1,4 +1,1 @@
-pub mod Stream
-pub mod Advancing
 pub mod Contracts
-pub mod History

@@ -1,34 +1,18 @@
 // The bytes that are sent to `serve`, cut into requests as they arrive.
 ghost use mathlib.Core.Path.{_≡_};
-ghost use Prim.Native.Nat.{_≤_};
+ghost use Prim.Native.Nat.{_≤_, min};
 ghost use lib.ListN.{length, take};
-ghost use Rattle.framing.specs.Stream.{wants};
-ghost use Rattle.framing.specs.Advancing.{Fits, Advances, ready, refusedFrame, HostAdvances};
-ghost use Rattle.framing.specs.Contracts.{Puts, TakesLine, TakesText, least};
-ghost use Rattle.framing.specs.History.{opened};
+ghost use Rattle.streams.specs.Stream.{wants};
+ghost use Rattle.streams.specs.Advancing.{Fits, Advances, ready, refusedFrame, HostAdvances};
+ghost use Rattle.streams.specs.History.{opened};
+ghost use Rattle.framing.specs.Contracts.{Puts, TakesLine, TakesText};
+use streams::Advanced;
+use streams::Frame;
+use streams::Framed;
+use streams::LINE;
+use streams::TEXT;
 
 const LF: u8 = 10;
-
-// One byte more than a request's line may have: what a longer line has beyond it is passed over.
-pub const LINE: usize = 65537;
-
-// The most bytes of a text: those beyond are passed over.
-pub const TEXT: usize = 65536;
-
-// A request that has come in part: so many bytes are kept of its line and of the text after it, and so many of the text are still
-// wanted; none while the line is not whole.
-#[repr(C)]
-pub struct Frame {
-    pub line: usize,
-    pub payload: usize,
-    pub wanted: u64,
-}
-
-// A whole request: so many bytes of its line and of its text, and the place after it. Or a part of one, where all bytes are taken.
-pub enum Framed {
-    Whole(usize, usize, usize),
-    Part(Frame),
-}
 
 // So many bytes of a line up to its LF, and the place after it; or of one that is not whole.
 enum Taken {
@@ -117,13 +101,9 @@ fn text_length(line: &[u8], n: usize) -> u64
 
 // The place n of a list, or its end where it has fewer places.
 fn within(n: usize, list: &[u8]) -> usize
-    ensures { λ r. ⌜ r ≡ least n (length (now (list .entry))) ⌝ }
+    ensures { λ r. ⌜ r ≡ min n (length (now (list .entry))) ⌝ }
 {
-    let size = list.len();
-    if n <= size {
-        return n;
-    }
-    size
+    buffer::least(n, list.len())
 }
 
 // Goes on with a request that has come in part, by the bytes that have arrived from the place `from` on. `line` and `payload` hold
@@ -157,18 +137,6 @@ pub fn advance(
 }
 
 // ---- For other software
-
-// What a host is given. Outcome 1 is a whole request: so many bytes of its line and of its text, with the place after it. Outcome 0 is a
-// part of one: the frame to go on with. Outcome 2 refuses a frame that no call gave and a place that is not there: all else is 0, and
-// both lists are as they were.
-#[repr(C)]
-pub struct Advanced {
-    pub outcome: u32,
-    pub line: usize,
-    pub payload: usize,
-    pub wanted: u64,
-    pub next: usize,
-}
 
 // Whether the calls give such a frame, and the place lies in what has arrived. (What the lists hold is not tested: whatever it is, it
 // counts as what has come.)

@@ -18,7 +18,7 @@ const LETTER_F: u8 = 70;
 fn hex_value(b: u8) -> u64
     ensures { λ r. ⌜ r ≡ hexValue b ⌝ }
 {
-    if fields::is_digit(b) {
+    if field_bytes::is_digit(b) {
         return (b - ZERO) as u64;
     }
     if b < LETTER_A {
@@ -59,7 +59,7 @@ pub fn read_bits(text: &[u8], at: usize, end: u8) -> Length
     ensures { λ r. ⌜ Reads lengthAt lengthOf (now (text .entry)) r (readBits end (drop at (now (text .entry)))) ⌝ }
 {
     let value = read_hex(text, at, 8);
-    fields::read_end(text, value, end)
+    field_bytes::read_end(text, value, end)
 }
 
 // The sixteen hex digits of a mask of 64 bits at `at` and the byte that ends them.
@@ -67,7 +67,7 @@ pub fn read_mask(text: &[u8], at: usize, end: u8) -> Length
     ensures { λ r. ⌜ Reads lengthAt lengthOf (now (text .entry)) r (readMask end (drop at (now (text .entry)))) ⌝ }
 {
     let value = read_hex(text, at, 16);
-    fields::read_end(text, value, end)
+    field_bytes::read_end(text, value, end)
 }
 
 fn hex_digit(d: u32) -> u8

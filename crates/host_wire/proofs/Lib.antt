@@ -1,4 +1,1 @@
-pub mod Words
-pub mod Carrying
-pub mod Claims
 pub mod Tied

@@ -4,8 +4,8 @@ use contract.Lifetimes.{Lfts}
 use denote.Ref.{RefT, now}
 use Rattle.service.specs.Packed.{unpacked}
 use Rattle.service.specs.Service.{blocks, Given}
-use Rattle.host_wire.specs.declared.Carried.{Carried}
-use Rattle.host_wire.specs.Carrying.{Requested}
+use Rattle.sharing.specs.declared.Carried.{Carried}
+use Rattle.sharing.specs.Carrying.{Requested}
 use Rattle.host_wire.proofs.phayaklit_request.Reads as request-reads
 
 module _ (κs : Lfts 8) (room allowed : ℕ) (r : Carried) (words words′ index index′ line payload days days′ numbers numbers′ text text′ out out′ : RefT (List ℕ)) where

@@ -6,31 +6,22 @@ ghost use mathlib.Core.List.{List};
 ghost use Rattle.fields.specs.Fields.{isAt};
 ghost use Rattle.service.specs.Packed.{unpacked};
 ghost use Rattle.service.specs.Service.{blocks, Given};
-ghost use Rattle.wire.specs.Answering.{roomOf, Answers, askedIn};
+ghost use Rattle.conversations.specs.Answering.{roomOf, Answers, askedIn};
 ghost use Rattle.phayaklit.specs.Host.{Laid};
-ghost use Rattle.host_wire.specs.Words.{questionWord, callWord, wordIn, wordOf, powerOf, changedAt};
-ghost use Rattle.host_wire.specs.Carrying.{answeredOf, heldAt, Requested};
-ghost use Rattle.host_wire.specs.Contracts.{RequestedOf};
+ghost use Rattle.sharing.specs.Words.{questionWord, callWord, wordIn, wordOf, powerOf, changedAt};
+ghost use Rattle.sharing.specs.Carrying.{answeredOf, heldAt, Requested};
+ghost use Rattle.sharing.specs.Contracts.{RequestedOf};
+use conversations::DAYS;
+use conversations::Looked;
+use conversations::ROOM;
+use conversations::Wanted;
 use model::Call;
 use model::Question;
 use replies::OUT;
 use requests::Request;
 use service::SERVICE;
+use sharing::Carried;
 use stabbing::INDEX;
-use wire::DAYS;
-use wire::Looked;
-use wire::ROOM;
-use wire::Wanted;
-
-// What a host is told: the word's number, 1 where the state was changed, the room of the conversation's later calls, and the place of
-// the lent list where the answer begins.
-#[repr(C)]
-pub struct Carried {
-    pub word: u32,
-    pub changed: u32,
-    pub room: usize,
-    pub place: usize,
-}
 
 // ---- The words by number: 0 is a line of no form, 1 `room`, 2 `read`; those from 16 to 31 change the state, from 32 on they only read
 
@@ -98,7 +89,7 @@ fn changed_at(power: u32, out: &[u8], place: usize) -> u32
     if power == 2 {
         return 1;
     }
-    if fields::is_at(out, place, b'o') {
+    if field_bytes::is_at(out, place, b'o') {
         return 1;
     }
     0
@@ -280,7 +271,7 @@ pub extern "C" fn phayaklit_request(
     requires { ⌜ Given (unpacked (now words)) (blocks (now index)) ⌝ }
     ensures { λ r. ⌜ Requested (now (words .entry)) (blocks (now (index .entry))) room allowed (now (line .entry)) (now (payload .entry)) (now (days .entry)) (now (numbers .entry)) (now (text .entry)) (now (out .entry)) r (now (words .exit)) (blocks (now (index .exit))) (now (days .exit)) (now (numbers .exit)) (now (text .exit)) (now (out .exit)) ⌝ }
 {
-    let looked = wire::look(index, room, line, days, numbers, text, out);
+    let looked = looking::look(index, room, line, days, numbers, text, out);
     match looked {
         Looked::Done(request, later, place) => {
             let word = word_of(request);

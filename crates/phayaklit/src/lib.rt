@@ -14,10 +14,10 @@ ghost use Rattle.phayaklit.specs.Host.{version, Held, Laid, spellIn, out
 use model::Call;
 use model::Question;
 use outcomes::Outcome;
-use outcomes::told;
 use service::SERVICE;
 use spell::Spell;
 use stabbing::INDEX;
+use telling::told;
 
 // A spell as a host gives it. Kind 0 is a grade, and `value` is the grade; kind 1 is a reading, and `value` is its bits. Any other
 // kind, and a grade above 65,535, is a bad urgency, which is refused in its turn among the checks.
@@ -93,7 +93,7 @@ pub extern "C" fn phayaklit_version() -> u32
 pub extern "C" fn phayaklit_fresh_index(index: &mut [u16; INDEX])
     ensures { λ _. ⌜ now (index .exit) ≡ indexOf [] ⌝ }
 {
-    published_index::fresh(index);
+    list_publishing::fresh(index);
 }
 
 // A fresh service: nothing stands, nothing is published, and there is no past.

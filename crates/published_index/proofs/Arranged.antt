@@ -1,13 +1,14 @@
 -- Rows that hold the fields of spells, put in the order, are the rows of the sorted list. Assumes nothing.
-use Rattle.basis.proofs.Prelude.{_∙_, _≡_, ap, sym, _<_, zero, suc, ℕ, List, [], _∷_, map, Bool, cond, false, true, eqb, ltb, getD, getD-take, zero-add, length, take, take-all, decLe, arith, eq-eqb, eqb-false, eqb-true, le-ltb, lt-ltb, ne-eqb, by-test}
+use Rattle.basis.proofs.Prelude.{_∙_, _≡_, ap, sym, _<_, zero, suc, ℕ, List, [], _∷_, map, cond, false, true, eqb, ltb, getD, getD-take, zero-add, length, take, take-all, decLe, arith, eqb-true, le-ltb, by-test}
 use Rattle.columns.specs.Columns.{positions}
 use Rattle.columns.proofs.Filling.{positions-at, positions-length, positions-below, reads}
 use Rattle.orders.specs.Orders.{lexical, sortedBy}
 use Rattle.orders.proofs.Each.{Each, map-same, map-map, map-at}
 use Rattle.orders.proofs.Sorting.{each-sorted, sorted-map, sorted-same}
-use Rattle.arranging.specs.Arranged.{byMinor, byBoth, arranged}
-use Rattle.arranging.proofs.Orders.{by-major, by-place}
-use Rattle.publishing.specs.Rows.{paired, rowKey, keyAt, rowKeys, rowOrder, arrangedColumn}
+use Rattle.row_order.specs.Arranged.{byMinor, byBoth, arranged}
+use Rattle.row_order.proofs.Orders.{by-major, by-place}
+use Rattle.row_order.proofs.Keys.{key-decides}
+use Rattle.row_order.specs.Rows.{rowKey, keyAt, rowKeys, rowOrder, arrangedColumn}
 use Rattle.spell.specs.declared.Spell.{Spell}
 use Rattle.spell.specs.Blank.{blank}
 use Rattle.spell.specs.Order.{listedBefore}
@@ -15,29 +16,6 @@ use Rattle.spell.specs.Listing.{distinct, Sound}
 use Rattle.spell.specs.Listing.{Each as Every}
 use Rattle.spell.proofs.Entered.{entered}
 use Rattle.published_index.proofs.Numbers.{differ}
-
--- two numbers in one decide as the two do
-pair-decides : (f l g m : ℕ) (r : Bool) → l < 65536 → m < 65536
-    → cond (eqb (paired f l) (paired g m)) r (ltb (paired f l) (paired g m)) ≡ cond (eqb f g) (cond (eqb l m) r (ltb l m)) (ltb f g)
-pair-decides f l g m r hl hm = by-test (eqb f g)
-    (λ e.
-    let z : f ≡ g = eqb-true f g e in
-    by-test (eqb l m)
-    (λ d. let y : l ≡ m = eqb-true l m d in rw (e, d, eq-eqb (paired f l) (paired g m) (omega arith)))
-    (λ d. let y : l ≡ m → ⊥ = eqb-false l m d in rw (e, d, ne-eqb (paired f l) (paired g m) (λ w. y (omega arith))) (below z)))
-    (λ e. let z : f ≡ g → ⊥ = eqb-false f g e in rw (e, ne-eqb (paired f l) (paired g m) (λ w. z (omega arith))) (apart z))
-  where
-    below : f ≡ g → ltb (paired f l) (paired g m) ≡ ltb l m
-    below z = elim (decLe m l) [
-      | yes d ↦ le-ltb (paired f l) (paired g m) (omega arith) ∙ sym (le-ltb l m d)
-      | no d ↦ lt-ltb (paired f l) (paired g m) (omega arith) ∙ sym (lt-ltb l m (omega arith))
-    ]
-
-    apart : (f ≡ g → ⊥) → ltb (paired f l) (paired g m) ≡ ltb f g
-    apart z = elim (decLe g f) [
-      | yes d ↦ le-ltb (paired f l) (paired g m) (omega arith) ∙ sym (le-ltb f g d)
-      | no d ↦ lt-ltb (paired f l) (paired g m) (omega arith) ∙ sym (lt-ltb f g (omega arith))
-    ]
 
 -- a spell of the list, by position
 abbrev row : List Spell → ℕ → Spell
@@ -90,8 +68,7 @@ module _ (l : List Spell) (unique : distinct l ≡ true) (short : (p : ℕ) → 
   agree p q h k =
       by-major (rowKeys cs fs ls n) ns p q
       ∙ rw (key-at p h, key-at q k, by-number p q h k) (
-      pair-decides (paired (row l p .first) (row l p .last)) (row l p .candidate) (paired (row l q .first) (row l q .last)) (row l q .candidate) _ (short p h .1) (short q k .1)
-      ∙ pair-decides (row l p .first) (row l p .last) (row l q .first) (row l q .last) _ (short p h .0) (short q k .0)
+      key-decides (row l p .first) (row l p .last) (row l p .candidate) (row l q .first) (row l q .last) (row l q .candidate) _ (short p h) (short q k)
       )
 
   rows-are : map (row l) (rowOrder ns cs fs ls n) ≡ sortedBy listedBefore l

@@ -6,11 +6,11 @@ ghost use Rattle.questions.specs.Asked.{Asked};
 use masks::Ticks;
 use model::Question;
 use outcomes::Outcome;
-use outcomes::found;
-use outcomes::ticking;
-use outcomes::told;
 use refusal::OFF_CALENDAR;
 use stabbing::INDEX;
+use telling::found;
+use telling::ticking;
+use telling::told;
 
 // Day d: the spells with first ≤ d ≤ last.
 pub fn day(index: &[u16; INDEX], d: u16, numbers: &mut [u16]) -> Outcome
@@ -51,7 +51,7 @@ pub fn mask(index: &[u16; INDEX], base: u16, mask: u64, numbers: &mut [u16]) -> 
     ensures { λ r. ⌜ ((days : List ℕ) → Asked (now (index .entry)) (Question.Mask base mask) days (now (numbers .entry)) r (now (numbers .exit))) ⌝ }
 {
     let mut ticked = [0u16; 64];
-    let Ticks::All(n) = masks::ticked(base, mask, &mut ticked) else {
+    let Ticks::All(n) = mask_days::ticked(base, mask, &mut ticked) else {
         return told(OFF_CALENDAR);
     };
     ticking(days(index, &ticked[..n], numbers), n)

@@ -49,7 +49,7 @@ fn read_letter(text: &[u8], at: usize) -> Field
         return Field::Malformed;
     }
     let i = at + 1;
-    if !fields::is_at(text, i, TAB) {
+    if !field_bytes::is_at(text, i, TAB) {
         return Field::Malformed;
     }
     Field::Value(b as u16, i + 1)

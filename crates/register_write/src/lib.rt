@@ -29,14 +29,14 @@ fn put_urgency(buf: &mut [u8; 35840], at: usize, u: Urgency) -> usize
     match u {
         Urgency::Grade(g) => {
             let i = decimals::put_number(buf, at, g, LF);
-            let j = fields::put_byte(buf, i, TAB);
-            fields::put_byte(buf, j, LETTER_G)
+            let j = field_bytes::put_byte(buf, i, TAB);
+            field_bytes::put_byte(buf, j, LETTER_G)
         }
         Urgency::Reading(x) => {
             let n = readings::bits_of(x);
             let i = hex::put_bits(buf, at, n, LF);
-            let j = fields::put_byte(buf, i, TAB);
-            fields::put_byte(buf, j, LETTER_C)
+            let j = field_bytes::put_byte(buf, i, TAB);
+            field_bytes::put_byte(buf, j, LETTER_C)
         }
     }
 }

@@ -7,7 +7,7 @@ use input::Input;
 use libc::STDERR_FILENO;
 use libc::STDOUT_FILENO;
 use refusal::ACCEPTED;
-use repair_text::LINE;
+use repair_lines::LINE;
 use repair_text::Said;
 
 // One byte more than a register may have: a longer text is refused whatever follows.
@@ -22,7 +22,7 @@ const REMARKS: usize = 131072;
 
 fn say(said: Said) -> bool {
     let mut line = [0u8; LINE];
-    let n = repair_text::put(&mut line, said);
+    let n = repair_lines::put(&mut line, said);
     output::write(STDERR_FILENO, &line[..n], b"repair: standard error")
 }
 

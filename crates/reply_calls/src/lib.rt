@@ -43,8 +43,8 @@ fn put_dashed(out: &mut [u8; OUT], count: u16, numbers: &[u16]) -> usize
 {
     let end = decimals::end_before(numbers.len());
     let i = decimals::put_numbers(out, OUT, numbers);
-    let j = fields::put_byte(out, i, end);
-    let k = fields::put_byte(out, j, DASH);
+    let j = field_bytes::put_byte(out, i, end);
+    let k = field_bytes::put_byte(out, j, DASH);
     decimals::put_number(out, k, count, TAB)
 }
 

@@ -16,7 +16,7 @@ pub fn begins(line: &[u8], word: &[u8]) -> bool
 {
     let mut i = 0;
     while i < word.len() {
-        if !fields::is_at(line, i, word[i]) {
+        if !field_bytes::is_at(line, i, word[i]) {
             return false;
         }
         i += 1;

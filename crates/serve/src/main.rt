@@ -1,180 +1,34 @@
 // The service that stays up: reads requests on standard input and writes one answer for each on standard output, until the input
 // ends. With a file's name it begins by reading that register. What fails is told on standard error.
 ghost use Prim.Native.Nat.{_≤_};
-ghost use lib.ListN.{length, take, drop};
-ghost use Rattle.framing.specs.Advancing.{Advances};
+ghost use lib.ListN.{length, take};
 ghost use Rattle.published_index.specs.Index.{Published};
 ghost use Rattle.service.specs.Service.{blocks, Given};
-ghost use Rattle.wire.specs.Answering.{Looks};
-ghost use Rattle.serve.specs.Serving.{Gathers, Takes, Sees, Finishes};
-use framing::Frame;
-use framing::Framed;
-use framing::LINE;
-use framing::TEXT;
+ghost use Rattle.conversations.specs.Answering.{Looks};
+ghost use Rattle.serving.specs.Serving.{Sees, Finishes};
+use conversations::Answered;
+use conversations::DAYS;
+use conversations::Looked;
+use conversations::ROOM;
+use conversations::Wanted;
 use input::Input;
 use libc::STDERR_FILENO;
-use libc::STDIN_FILENO;
 use libc::STDOUT_FILENO;
 use replies::OUT;
 use requests::Request;
 use service::Service;
+use serving::ARRIVED;
+use serving::Seen;
 use stabbing::INDEX;
-use wire::Answered;
-use wire::DAYS;
-use wire::Looked;
-use wire::ROOM;
-use wire::Wanted;
+use streams::LINE;
+use streams::TEXT;
 
 const DASH: u8 = 45;
-
-// The bytes that one read may bring.
-const ARRIVED: usize = 65536;
 
 // One byte more than a register's text may have.
 const FILE: usize = 65537;
 
-// ---- Output: answers are gathered, and written together before a read that may wait
-
-// Writes the first n bytes of what is gathered; false where that can't be done, which is told.
-fn write_first(gathered: &[u8], n: usize) -> bool {
-    if gathered.len() < n {
-        return false;
-    }
-    output::write(STDOUT_FILENO, &gathered[..n], b"serve: standard output")
-}
-
-// So many bytes are gathered, and whether there is more to serve.
-struct Gathered {
-    held: usize,
-    open: bool,
-}
-
-// Puts the answer that ends `out` after those that are gathered, which are written first where there is no room for it.
-fn gather(gathered: &mut [u8], held: usize, out: &[u8], place: usize) -> Gathered
-    ensures { λ r. ⌜ Gathers (drop place (now (out .entry))) (now (gathered .entry)) held r (now (gathered .exit)) ⌝ }
-{
-    let n = gathering::append(gathered, held, out, place);
-    if held < n {
-        return Gathered {
-            held: n,
-            open: true,
-        };
-    }
-    if !write_first(gathered, held) {
-        return Gathered {
-            held: 0,
-            open: false,
-        };
-    }
-    let m = gathering::append(gathered, 0, out, place);
-    Gathered {
-        held: m,
-        open: 0 < m,
-    }
-}
-
-// ---- Input
-
-// Waits for input, once the first `held` bytes of what is gathered are written: how many bytes have arrived, none where it has ended, can't
-// be read or nothing can be written, which is told.
-fn wait(arrived: &mut [u8], gathered: &[u8], held: usize) -> usize
-    ensures { λ r. ⌜ r ≤ length (now (arrived .entry)) ⌝ }
-{
-    if !write_first(gathered, held) {
-        return 0;
-    }
-    let got = input::await_some(STDIN_FILENO, arrived);
-    match got {
-        Input::Read(n) => n,
-        Input::Failed => {
-            os::fail(b"serve: standard input");
-            0
-        }
-    }
-}
-
-// Goes on with a request by the bytes from `start` to `end`.
-fn advance(
-    frame: Frame,
-    arrived: &[u8],
-    start: usize,
-    end: usize,
-    line: &mut [u8; LINE],
-    payload: &mut [u8; TEXT],
-) -> Framed
-    requires { ⌜ end ≤ length (now arrived) ⌝ }
-    ensures { λ r. ⌜ Advances frame (take end (now (arrived .entry))) start (now (line .entry)) (now (payload .entry)) r (now (line .exit)) (now (payload .exit)) ⌝ }
-{
-    framing::advance(frame, &arrived[..end], start, line, payload)
-}
-
 // ---- Requests
-
-// A request that is taken from the input: so many bytes of its line and of the text that follows it, or that the input ended before.
-// The bytes from `start` to `end` have arrived and are not taken yet, and so many bytes of answers are still gathered.
-struct Incoming {
-    line: usize,
-    payload: usize,
-    whole: bool,
-    start: usize,
-    end: usize,
-    held: usize,
-}
-
-// Takes the next request, as soon as all of it has arrived. What is gathered is written before a read. A proved loop has to end, so its turns are counted down, from a number
-// that no request uses up.
-fn next(
-    arrived: &mut [u8; ARRIVED],
-    start: usize,
-    end: usize,
-    line: &mut [u8; LINE],
-    payload: &mut [u8; TEXT],
-    gathered: &[u8],
-    held: usize,
-) -> Incoming
-    requires { ⌜ end ≤ 65536 ⌝ }
-    ensures { λ r. ⌜ Takes (now (arrived .entry)) start end r (now (arrived .exit)) (now (line .exit)) (now (payload .exit)) ⌝ }
-{
-    let mut frame = framing::opened();
-    let mut at = start;
-    let mut to = end;
-    let mut unsent = held;
-    let mut turns = u64::MAX;
-    while turns > 0 {
-        let r = advance(frame, arrived, at, to, line, payload);
-        match r {
-            Framed::Whole(n, m, place) => {
-                return Incoming {
-                    line: n,
-                    payload: m,
-                    whole: true,
-                    start: place,
-                    end: to,
-                    held: unsent,
-                };
-            }
-            Framed::Part(f) => {
-                frame = f;
-            }
-        }
-        at = 0;
-        to = wait(arrived, gathered, unsent);
-        unsent = 0;
-        if to == 0 {
-            turns = 0;
-        } else {
-            turns -= 1;
-        }
-    }
-    Incoming {
-        line: 0,
-        payload: 0,
-        whole: false,
-        start: 0,
-        end: 0,
-        held: 0,
-    }
-}
 
 // Writes what stands from `at` on; false where that can't be done, which is told.
 fn write_from(fd: i32, out: &[u8], at: usize, name: &[u8]) -> bool {
@@ -203,18 +57,7 @@ fn look(
     requires { ⌜ (Published (now index)) × (n ≤ length (now line)) ⌝ }
     ensures { λ r. ⌜ Looks (blocks (now (index .entry))) room (take n (now (line .entry))) (now (days .entry)) (now (numbers .entry)) (now (text .entry)) (now (out .entry)) r (now (days .exit)) (now (numbers .exit)) (now (out .exit)) ⌝ }
 {
-    wire::look(index, room, &line[..n], days, numbers, text, out)
-}
-
-// The request that was taken, and what a look at it gave; where the input ended before it, nothing.
-struct Seen {
-    line: usize,
-    payload: usize,
-    whole: bool,
-    start: usize,
-    end: usize,
-    held: usize,
-    looked: Looked,
+    looking::look(index, room, &line[..n], days, numbers, text, out)
 }
 
 // Takes the next request and looks at it: what wants no service is answered. One that the input's end cuts short is not looked at.
@@ -236,7 +79,7 @@ fn see(
     requires { ⌜ (Published (now index)) × (end ≤ 65536) ⌝ }
     ensures { λ r. ⌜ Sees (blocks (now (index .entry))) room (now (arrived .entry)) start end (now (days .entry)) (now (numbers .entry)) (now (text .entry)) (now (out .entry)) r (now (arrived .exit)) (now (line .exit)) (now (payload .exit)) (now (days .exit)) (now (numbers .exit)) (now (out .exit)) ⌝ }
 {
-    let q = next(arrived, start, end, line, payload, gathered, held);
+    let q = incoming::next(arrived, start, end, line, payload, gathered, held);
     if !q.whole {
         let looked = Looked::Done(Request::Malformed, room, OUT);
         return Seen {
@@ -358,7 +201,7 @@ fn converse(
                 place = a.place;
             }
         }
-        let g = gather(gathered, q.held, out, place);
+        let g = incoming::gather(gathered, q.held, out, place);
         if !g.open {
             return;
         }

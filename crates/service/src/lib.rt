@@ -9,11 +9,11 @@ ghost use Rattle.service.specs.Packed.{unpacked, Packs};
 ghost use Rattle.service.specs.Contracts.{Beside};
 use model::Call;
 use outcomes::Outcome;
-use outcomes::told;
-use outcomes::wrote;
 use stabbing::INDEX;
 use standing::Standing;
 use standing::words::STANDING;
+use telling::told;
+use telling::wrote;
 
 // What a service keeps: the standing list with its journal. The field is private: other code has a service only from the calls.
 pub struct Service {
@@ -39,7 +39,7 @@ pub fn fresh(index: &mut [u16; INDEX]) -> Service
     ensures { λ r. ⌜ Represents r (blocks (now (index .exit))) fresh ⌝ }
     ensures { λ r. ⌜ r ≡ freshService ⌝ }
 {
-    published_index::fresh(index);
+    list_publishing::fresh(index);
     Service {
         standing: standing::fresh(),
     }
@@ -49,7 +49,7 @@ pub fn fresh(index: &mut [u16; INDEX]) -> Service
 pub fn read(text: &[u8], index: &mut [u16; INDEX]) -> Started
     ensures { λ r. ⌜ Begins (readText (now (text .entry))) r (blocks (now (index .exit))) ⌝ }
 {
-    published_index::fresh(index);
+    list_publishing::fresh(index);
     let got = register_read::read(text);
     let service = Service {
         standing: standing::loaded(got),
@@ -86,7 +86,7 @@ fn published(service: Service, rule: u16, index: &mut [u16; INDEX]) -> Outcome
     requires { ⌜ Valid service ⌝ }
     ensures { λ r. ⌜ Publishes service rule (blocks (now (index .entry))) (keeping service r) (blocks (now (index .exit))) ⌝ }
 {
-    told(published_index::publish(service.standing, rule, index))
+    told(list_publishing::publish(service.standing, rule, index))
 }
 
 // The published list becomes the standing list with the rule's days. The index may hold anything beforehand. Check: 14.

@@ -283,7 +283,7 @@ fn own_numbers(index: &[u16; INDEX]) -> bool
     requires { ⌜ Block (now index) ⌝ }
     ensures { λ r. ⌜ (r ≡ true → Built (now (index .entry))) ⌝ }
 {
-    let n = stabbing::to_usize(index[ROWS]);
+    let n = stabbing_words::to_usize(index[ROWS]);
     let mut p: usize = 0;
     while p < n {
         if stabbing_lookup::find(index, index[p]) != p + 1 {

@@ -15,9 +15,9 @@ use refusal::UNSORTED_DAYS;
 use stabbing::BEGUN;
 use stabbing::INDEX;
 use stabbing::Listed;
-use stabbing::refuse;
-use stabbing::to_usize;
 use stabbing_lookup::find;
+use stabbing_words::refuse;
+use stabbing_words::to_usize;
 
 // ---- The checks
 

@@ -14,7 +14,7 @@ use stabbing::NUMBER;
 use stabbing::PARENT;
 use stabbing::ROWS;
 use stabbing::START;
-use stabbing::to_usize;
+use stabbing_words::to_usize;
 ghost use mathlib.Core.Path.{_≡_};
 ghost use mathlib.Core.Bool.{_&&_};
 ghost use mathlib.Core.List.{_++_};

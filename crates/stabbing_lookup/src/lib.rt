@@ -6,7 +6,7 @@ use stabbing::BUCKET;
 use stabbing::BUCKETS;
 use stabbing::INDEX;
 use stabbing::LOWER;
-use stabbing::to_usize;
+use stabbing_words::to_usize;
 
 // The mark of the row with that number; 0 where none has it. Where two rows have it, as in no published list, the latest.
 pub fn find(index: &[u16; INDEX], number: u16) -> usize

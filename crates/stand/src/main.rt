@@ -1,44 +1,15 @@
 // Reads a register on standard input and publishes it. For each day on which somebody stands it prints a line: the day, how many
 // stand, the comparisons made and their spell numbers. A refused register prints the refusal's number and the line. What fails, a
 // refusal too, is told on standard error.
-ghost use Prim.Native.Nat.{_≤_};
-ghost use lib.ListN.{length};
-ghost use Rattle.published_index.specs.Index.{Published};
-ghost use Rattle.stand_text.specs.Report.{PrintedOn, PrintedOf};
+ghost use Rattle.stand_text.specs.Report.{PrintedOf};
 use input::Input;
 use libc::STDERR_FILENO;
-use libc::STDOUT_FILENO;
+use printing::Days;
 use replies::OUT;
 use stabbing::INDEX;
-use stand_text::LAST_DAY;
-use stand_text::PART;
 
 // One byte more than a register may have: a longer text is refused whatever follows.
 const TEXT: usize = 65537;
-
-// ---- Output
-
-// Prints what stands from `start` to `end`; false where that can't be written.
-fn print(bytes: &[u8], start: usize, end: usize) -> bool
-    requires { ⌜ (start ≤ end) × (end ≤ length (now bytes)) ⌝ }
-{
-    output::write(STDOUT_FILENO, &bytes[start..end], b"stand: standard output")
-}
-
-// Prints the line that ends a list.
-fn print_line(out: &[u8; OUT], at: usize) -> bool {
-    if OUT < at {
-        return false;
-    }
-    print(out, at, OUT)
-}
-
-// Prints the lines in the first places of a list.
-fn print_part(out: &[u8; PART], bytes: usize) -> bool
-    requires { ⌜ bytes ≤ 65536 ⌝ }
-{
-    print(out, 0, bytes)
-}
 
 // Says on standard error that the register is refused.
 fn tell_refusal(number: u16, line: u16) {
@@ -52,37 +23,8 @@ fn tell_refusal(number: u16, line: u16) {
 fn print_refusal(number: u16, line: u16) {
     let mut out = [0u8; OUT];
     let at = reply_lines::put_refused_line(&mut out, number, line);
-    print_line(&out, at);
+    printing::print_line(&out, at);
     tell_refusal(number, line);
-}
-
-// The day to go on with after the parts that were printed, and whether all were.
-struct Days {
-    next: u16,
-    whole: bool,
-}
-
-// Prints the text of all days, part after part, as long as each can be written.
-fn print_days(index: &[u16; INDEX]) -> Days
-    requires { ⌜ Published (now index) ⌝ }
-    ensures { λ r. ⌜ PrintedOn (now (index .entry)) (r .next) (r .whole) ⌝ }
-{
-    let mut out = [0u8; PART];
-    let mut d = 1;
-    while d <= LAST_DAY {
-        let part = stand_text::days_part(index, d, &mut out);
-        if !print_part(&out, part.bytes) {
-            return Days {
-                next: d,
-                whole: false,
-            };
-        }
-        d = part.next;
-    }
-    Days {
-        next: d,
-        whole: true,
-    }
 }
 
 // ---- The program
@@ -102,7 +44,7 @@ fn stand(text: &[u8]) -> Days
     }
     let service = started.service;
     service::publish(service, 1, &mut index);
-    print_days(&index)
+    printing::print_days(&index)
 }
 
 fn main() {

@@ -9,11 +9,11 @@ ghost use Rattle.standing.specs.Packed.{unpacked};
 ghost use Rattle.standing_words.specs.Edits.{EditedIn};
 ghost use Rattle.standing_words.specs.Moves.{lowered, raised};
 ghost use Rattle.standing_words.specs.Contracts.{spellsOf, TakesOut, PutsIn, Changes, Notes};
+use journal::Undo;
 use model::Call;
 use spell::Spell;
-use standing::words::STANDING;
-use journal::Undo;
 use spell_places::Located;
+use standing::words::STANDING;
 
 // ---- Words that move
 

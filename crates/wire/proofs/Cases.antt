@@ -20,7 +20,7 @@ use Rattle.requests.specs.Words.{table, begins, headOf}
 use Rattle.requests.specs.Requests.{readDays, askedBy, askedOf}
 use Rattle.requests.proofs.Cases.{spelled}
 use Rattle.replies.specs.Replies.{refusedText, refusedLine, listedText, dashedText, severalText, tickedText, writtenText, shapeText, callText, readingText}
-use Rattle.wire.specs.Conversation.{Sent, opening, registerOf, turnOf, converse}
+use Rattle.conversations.specs.Conversation.{Sent, opening, registerOf, turnOf, converse}
 
 -- a request and its answer: the line, the bytes after the line of a `read`, and the answer's bytes
 abbrev Said : Type 0

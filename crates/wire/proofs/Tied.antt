@@ -1,26 +1,15 @@
--- What the claims say of `look`, `carry` and `restart` is their contracts themselves, as the prover reads them: by computation, and not by
--- copying. Of the first two `looked-served` and `carried-served` (Serving) make the step of `Spoken`. Assumes nothing.
+-- What the claims say of `carry` and `restart` is their contracts themselves, as the prover reads them: by computation, and not by
+-- copying. Of the first `carried-served` (Serving of `conversations`) makes the step of `Spoken`. Assumes nothing.
 use Rattle.basis.proofs.Prelude.{_≡_, refl, ℕ, List}
 use contract.Lifetimes.{Lfts}
 use denote.Ref.{RefT, now}
 use Rattle.service.specs.declared.Service.{Service}
-use Rattle.published_index.specs.Index.{Published}
 use Rattle.service.specs.Service.{blocks, Given}
-use Rattle.wire.specs.declared.Answered.{Answered}
-use Rattle.wire.specs.declared.Looked.{Looked}
-use Rattle.wire.specs.declared.Wanted.{Wanted}
-use Rattle.wire.specs.Answering.{Restarted, Answers, askedIn, Looks, roomOf}
-use Rattle.wire.proofs.look.Reads as look-reads
+use Rattle.conversations.specs.declared.Answered.{Answered}
+use Rattle.conversations.specs.declared.Wanted.{Wanted}
+use Rattle.conversations.specs.Answering.{Restarted, Answers, askedIn, roomOf}
 use Rattle.wire.proofs.carry.Reads as carry-reads
 use Rattle.wire.proofs.restart.Reads as restart-reads
-
-module _ (κs : Lfts 6) (room : ℕ) (r : Looked) (index line days days′ numbers numbers′ text out out′ : RefT (List ℕ)) where
-  pub look-asks : look-reads.Pre κs (index, (room, (line, (days, (numbers, (text, (out, tt))))))) ≡ Published (now index)
-  look-asks = refl
-
-  pub look-is : look-reads.Post κs (index, (room, (line, (days, (numbers, (text, (out, tt))))))) r (index, (room, (line, (days′, (numbers′, (text, (out′, tt)))))))
-      ≡ Looks (blocks (now index)) room (now line) (now days) (now numbers) (now text) (now out) r (now days′) (now numbers′) (now out′)
-  look-is = refl
 
 module _ (κs : Lfts 6) (sv : Service) (room : ℕ) (w : Wanted) (r : Answered) (index index′ payload days numbers numbers′ text text′ out out′ : RefT (List ℕ)) where
   pub carry-asks : carry-reads.Pre κs (sv, (index, (room, (w, (payload, (days, (numbers, (text, (out, tt))))))))) ≡ Given sv (blocks (now index))

@@ -1,8 +1,8 @@
 -- `framing::take_line` meets its contract. The invariant: what the bytes from the place on make is what they made at first.
 -- Assumes nothing.
 use Rattle.basis.proofs.Prelude.{refl, _-_, drop, length, take, arith, needs}
-use Rattle.framing.specs.Stream.{inLine}
-use Rattle.framing.specs.Advancing.{next}
+use Rattle.streams.specs.Stream.{inLine}
+use Rattle.streams.specs.Advancing.{next}
 use Rattle.framing.proofs.Steps.{LineSoFar, line-on, line-whole, line-part}
 use Rattle.framing.proofs.take_line.Statement.{statement}
 use Rattle.framing.proofs.take_line.Tie as tie

@@ -1,8 +1,8 @@
 -- `framing::take_text` meets its contract. The invariant: what the bytes from the place on make is what they made at first.
 -- Assumes nothing.
 use Rattle.basis.proofs.Prelude.{refl, drop, take, arith, needs}
-use Rattle.framing.specs.Stream.{settled}
-use Rattle.framing.specs.Advancing.{after}
+use Rattle.streams.specs.Stream.{settled}
+use Rattle.streams.specs.Advancing.{after}
 use Rattle.framing.proofs.Steps.{TextSoFar, text-on, text-part, text-whole}
 use Rattle.framing.proofs.take_text.Statement.{statement}
 use Rattle.framing.proofs.take_text.Tie as tie

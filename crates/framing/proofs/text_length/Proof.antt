@@ -1,6 +1,6 @@
 -- `framing::text_length` meets its contract. Assumes nothing.
 use Rattle.basis.proofs.Prelude.{sym, length-take-le, arith, needs}
-use Rattle.framing.specs.Stream.{wants}
+use Rattle.streams.specs.Stream.{wants}
 use Rattle.framing.proofs.text_length.Statement.{statement}
 use Rattle.framing.proofs.text_length.Tie as tie
 

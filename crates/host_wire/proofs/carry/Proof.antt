@@ -1,9 +1,9 @@
 -- `host_wire::carry` meets its contract. Assumes nothing.
 use Rattle.basis.proofs.Prelude.{_∙_, _≡_, ap, refl, sym, arith, needs}
-use Rattle.wire.specs.Answering.{askedIn}
-use Rattle.host_wire.specs.Words.{wordOf, powerOf}
-use Rattle.host_wire.specs.Carrying.{heldAt}
-use Rattle.host_wire.proofs.Carrying.{carries-read, carries-change, within-allowed, beyond-allowed}
+use Rattle.conversations.specs.Answering.{askedIn}
+use Rattle.sharing.specs.Words.{wordOf, powerOf}
+use Rattle.sharing.specs.Carrying.{heldAt}
+use Rattle.sharing.proofs.Carrying.{carries-read, carries-change, within-allowed, beyond-allowed}
 use Rattle.host_wire.proofs.carry.Statement.{statement}
 use Rattle.host_wire.proofs.carry.Tie as tie
 

@@ -1,8 +1,8 @@
 -- `host_wire::change` meets its contract. Assumes nothing.
 use Rattle.basis.proofs.Prelude.{_∙_, sym, refl, needs}
 use Rattle.phayaklit.proofs.Host.{laid}
-use Rattle.wire.specs.Answering.{askedIn}
-use Rattle.host_wire.proofs.Carrying.{unchanged, stays-refused}
+use Rattle.conversations.specs.Answering.{askedIn}
+use Rattle.sharing.proofs.Carrying.{unchanged, stays-refused}
 use Rattle.host_wire.proofs.change.Statement.{statement}
 use Rattle.host_wire.proofs.change.Tie as tie
 

@@ -1,6 +1,6 @@
 -- `host_wire::changed_at` meets its contract. Assumes nothing.
 use Rattle.basis.proofs.Prelude.{_∙_, sym, eq-eqb, ne-eqb, needs}
-use Rattle.host_wire.specs.Words.{changedAt}
+use Rattle.sharing.specs.Words.{changedAt}
 use Rattle.host_wire.proofs.changed_at.Statement.{statement}
 use Rattle.host_wire.proofs.changed_at.Tie as tie
 

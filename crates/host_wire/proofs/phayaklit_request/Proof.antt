@@ -1,6 +1,6 @@
 -- `host_wire::phayaklit_request` meets its contract. Assumes nothing.
 use Rattle.basis.proofs.Prelude.{needs}
-use Rattle.host_wire.proofs.Carrying.{done-requested, wanted-requested}
+use Rattle.sharing.proofs.Carrying.{done-requested, wanted-requested}
 use Rattle.host_wire.proofs.phayaklit_request.Statement.{statement}
 use Rattle.host_wire.proofs.phayaklit_request.Tie as tie
 

@@ -1,6 +1,6 @@
 -- `host_wire::power_of` meets its contract. Assumes nothing.
 use Rattle.basis.proofs.Prelude.{eq-eqb, ne-eqb, lt-ltb, le-ltb}
-use Rattle.host_wire.specs.Words.{powerOf}
+use Rattle.sharing.specs.Words.{powerOf}
 use Rattle.host_wire.proofs.power_of.Statement.{statement}
 use Rattle.host_wire.proofs.power_of.Tie as tie
 

@@ -1,6 +1,6 @@
 -- `host_wire::question_word` meets its contract. Assumes nothing.
 use Rattle.basis.proofs.Prelude.{needs}
-use Rattle.host_wire.specs.Words.{questionWord}
+use Rattle.sharing.specs.Words.{questionWord}
 use Rattle.host_wire.proofs.question_word.Statement.{statement}
 use Rattle.host_wire.proofs.question_word.Tie as tie
 

@@ -1,7 +1,7 @@
 -- `host_wire::read` meets its contract. Assumes nothing.
 use Rattle.basis.proofs.Prelude.{refl, needs}
-use Rattle.wire.specs.Answering.{askedIn}
-use Rattle.host_wire.proofs.Carrying.{unchanged, stays-read}
+use Rattle.conversations.specs.Answering.{askedIn}
+use Rattle.sharing.proofs.Carrying.{unchanged, stays-read}
 use Rattle.host_wire.proofs.read.Statement.{statement}
 use Rattle.host_wire.proofs.read.Tie as tie
 

@@ -1,6 +1,6 @@
 -- `serve::carry` meets its contract. Assumes nothing.
 use Rattle.basis.proofs.Prelude.{sym, length-take-le, needs}
-use Rattle.wire.proofs.Serving.{carried-served}
+use Rattle.serving.proofs.Answers.{finishes}
 use Rattle.serve.proofs.carry.Statement.{statement}
 use Rattle.serve.proofs.carry.Tie as tie
 
@@ -10,7 +10,7 @@ slice-aggregate-carry c =
     sym (length-take-le (start .args .m) (start .args .payload .now) (start .pre .1))
 
 returns : tie.Need-returns
-returns c = (c .carry .ensures .turned .given, λ line before places put looks. carried-served _ looks (c .carry .ensures))
+returns c = (c .carry .ensures .turned .given, finishes _ (c .carry .ensures))
 
 pub carry-spec : {M : Type 1} → statement M
 carry-spec = tie.close (tie.spec slice-aggregate-carry (λ c κs. search needs) returns)

@@ -1,10 +1,11 @@
 -- `serve::see` meets its contract. Assumes nothing.
 use Rattle.basis.proofs.Prelude.{_∙_, sym, false≢true, arith, needs, not-true}
+use Rattle.serving.proofs.Answers.{sees}
 use Rattle.serve.proofs.see.Statement.{statement}
 use Rattle.serve.proofs.see.Tie as tie
 
 returns : tie.Need-returns
-returns c = record { takes = c .before .before .next .ensures; looks = λ e. absurd (false≢true (sym (not-true _ (c .if1 .taken)) ∙ e)) }
+returns c = sees (c .before .before .next .ensures) _ _ _ _ _ _ _ _ _ _ (λ e. absurd (false≢true (sym (not-true _ (c .if1 .taken)) ∙ e)))
 
 look-requires : tie.Need-look-requires
 look-requires c κs =
@@ -14,7 +15,7 @@ look-requires c κs =
 returns-2 : tie.Need-returns-2
 returns-2 c =
     let framed = c .before .before .before .before .before .before .before .before in
-    record { takes = framed .next .ensures; looks = λ _. c .look .ensures }
+    sees (framed .next .ensures) _ _ _ _ _ _ _ _ _ _ (λ _. c .look .ensures)
 
 pub see-spec : {M : Type 1} → statement M
 see-spec = tie.close (tie.spec (λ c κs. search needs) returns look-requires returns-2)

@@ -6,7 +6,7 @@ use borrow.Fn.PlainCycle.{Measures, is, falls, and}
 use Rattle.stabbing_index.proofs.advance.Reads as advance
 use Rattle.stabbing_index.proofs.advance.Kinds as advance-kinds
 use Rattle.stabbing_index.proofs.+advance.Lts-advance as advance-lts
-use Rattle.stabbing.proofs.to_usize.Reads as to-usize-reads
+use Rattle.stabbing_words.proofs.to_usize.Reads as to-usize-reads
 use Rattle.stabbing_index.proofs.+advance.{statement}
 use Rattle.stabbing_index.proofs.+advance.Tie.{close}
 

@@ -6,7 +6,7 @@ use borrow.Fn.PlainCycle.{Measures, is, falls, and}
 use Rattle.stabbing_index.proofs.climb.Reads as climb
 use Rattle.stabbing_index.proofs.climb.Kinds as climb-kinds
 use Rattle.stabbing_index.proofs.+climb.Lts-climb as climb-lts
-use Rattle.stabbing.proofs.to_usize.Reads as to-usize-reads
+use Rattle.stabbing_words.proofs.to_usize.Reads as to-usize-reads
 use Rattle.stabbing_index.proofs.+climb.{statement}
 use Rattle.stabbing_index.proofs.+climb.Tie.{close}
 

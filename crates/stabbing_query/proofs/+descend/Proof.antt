@@ -12,7 +12,7 @@ use borrow.Fn.PlainCycle.{Measures, is, falls, and}
 use Rattle.stabbing_query.proofs.descend.Reads as descend
 use Rattle.stabbing_query.proofs.descend.Kinds as descend-kinds
 use Rattle.stabbing_query.proofs.+descend.Lts-descend as descend-lts
-use Rattle.stabbing.proofs.to_usize.Reads as to-usize-reads
+use Rattle.stabbing_words.proofs.to_usize.Reads as to-usize-reads
 use Rattle.stabbing_query.proofs.chain.Reads as chain-reads
 use Rattle.stabbing_query.proofs.comparison.Reads as comparison-reads
 use Rattle.stabbing_query.proofs.+descend.{statement}

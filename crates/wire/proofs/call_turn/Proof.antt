@@ -2,7 +2,7 @@
 use Rattle.basis.proofs.Prelude.{arith, needs}
 use Rattle.outcomes.specs.Outcomes.{asking}
 use Rattle.replies.proofs.Fitting.{replied}
-use Rattle.wire.proofs.Replying.{fits, called}
+use Rattle.conversations.proofs.Replying.{fits, called}
 use Rattle.wire.proofs.call_turn.Statement.{statement}
 use Rattle.wire.proofs.call_turn.Tie as tie
 

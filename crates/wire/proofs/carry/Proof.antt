@@ -1,8 +1,9 @@
 -- `wire::carry` meets its contract. Assumes nothing.
 use Rattle.basis.proofs.Prelude.{arith, needs}
-use Rattle.wire.proofs.Serving.{room-fits}
-use Rattle.wire.proofs.Turns.{turn-read}
-use Rattle.wire.proofs.Looking.{least-fits, take-least}
+use Rattle.buffer.proofs.Over.{least-in}
+use Rattle.conversations.proofs.Serving.{room-least, room-fits}
+use Rattle.conversations.proofs.Turns.{turn-read}
+use Rattle.conversations.proofs.Looking.{days-counted}
 use Rattle.wire.proofs.carry.Statement.{statement}
 use Rattle.wire.proofs.carry.Tie as tie
 
@@ -12,8 +13,7 @@ carry-call-requires c κs =
     let clamped = counted .before in
     let known = clamped .before .before in
     let start = known .before .before .before in
-    let few = least-fits (known .wanted .given .0 .1 .0) 32768 in
-    (start .pre, ((rw (clamped .room-of .ensures) (room-fits (start .args .room)), omega (arith, counted .count-of .ensures, few, c .before .before .before .carry-call-arg2 .given)), (omega (arith, c .before .before .carry-call-arg3 .given), omega (arith, c .before .carry-call-arg4 .given))))
+    (start .pre, ((rw (room-least (start .args .room) (clamped .least .ensures)) (room-fits (start .args .room)), omega (arith, least-in (counted .least2 .ensures) .1, c .before .before .before .carry-call-arg2 .given)), (omega (arith, c .before .before .carry-call-arg3 .given), omega (arith, c .before .carry-call-arg4 .given))))
 
 -- a call
 returns : tie.Need-returns
@@ -22,8 +22,8 @@ returns c =
     let clamped = counted .before in
     let known = clamped .before .before in
     let a = known .before .before .before .args in
-    let all = take-least (known .wanted .given .0 .1 .0) 32768 (a .days .now) (omega (arith, c .before .before .before .before .carry-call-arg2 .given)) in
-    rw (known .wanted .given .1) (rw (clamped .room-of .ensures, counted .count-of .ensures, all) at (c .carry-call .ensures (a .payload .now)))
+    let all = days-counted (known .wanted .given .0 .0) (known .wanted .given .0 .1 .0) (a .days .now) (omega (arith, c .before .before .before .before .carry-call-arg2 .given)) (counted .least2 .ensures) in
+    rw (known .wanted .given .1) (rw (room-least (a .room) (clamped .least .ensures), all) at (c .carry-call .ensures (a .payload .now)))
 
 -- a reading
 returns-2 : tie.Need-returns-2

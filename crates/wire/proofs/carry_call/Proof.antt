@@ -1,6 +1,6 @@
 -- `wire::carry_call` meets its contract. Assumes nothing.
 use Rattle.basis.proofs.Prelude.{sym, take, length-take-le, arith, needs}
-use Rattle.wire.proofs.Turns.{turn-call}
+use Rattle.conversations.proofs.Turns.{turn-call}
 use Rattle.wire.proofs.carry_call.Statement.{statement}
 use Rattle.wire.proofs.carry_call.Tie as tie
 

@@ -1,7 +1,8 @@
 -- `wire::restart` meets its contract. Assumes nothing.
 use Rattle.basis.proofs.Prelude.{needs}
-use Rattle.wire.specs.Answering.{roomOf}
-use Rattle.wire.proofs.Turns.{restart-long, restart-refused, restart-ok}
+use Rattle.conversations.specs.Answering.{roomOf}
+use Rattle.conversations.proofs.Serving.{room-least}
+use Rattle.conversations.proofs.Turns.{restart-long, restart-refused, restart-ok}
 use Rattle.wire.proofs.restart.Statement.{statement}
 use Rattle.wire.proofs.restart.Tie as tie
 
@@ -11,7 +12,7 @@ returns c =
     let tested = begun .before .before in
     let clamped = tested .before in
     let a = clamped .before .before .args in
-    rw (clamped .room-of .ensures)
+    rw (room-least (a .room) (clamped .least .ensures))
     (restart-long (roomOf (a .room)) (a .length) (a .payload .now) _ (a .out .now) _ _ _ (tested .if1 .taken) (begun .fresh .ensures .0) (c .put-refused-line .ensures))
 
 returns-2 : tie.Need-returns-2
@@ -20,7 +21,7 @@ returns-2 c =
     let tested = read .before .before in
     let clamped = tested .before in
     let a = clamped .before .before .args in
-    rw (clamped .room-of .ensures)
+    rw (room-least (a .room) (clamped .least .ensures))
     (restart-refused (roomOf (a .room)) (a .length) (a .payload .now) _ (a .out .now) _ _ (tested .if1 .left) (read .read .result) (read .read .ensures) (c .before .before .if2 .taken) (c .put-refused-line2 .ensures))
 
 returns-3 : tie.Need-returns-3
@@ -29,7 +30,7 @@ returns-3 c =
     let tested = read .before .before in
     let clamped = tested .before in
     let a = clamped .before .before .args in
-    rw (clamped .room-of .ensures)
+    rw (room-least (a .room) (clamped .least .ensures))
     (restart-ok (roomOf (a .room)) (a .length) (a .payload .now) _ (a .out .now) _ _ (tested .if1 .left) (read .read .result) (read .read .ensures) (c .before .before .if2 .left) (c .put-ok .ensures))
 
 pub restart-spec : {M : Type 1} → statement M

@@ -1,0 +1,74 @@
+-- The orders of positions, and a sort of different numbers: the place of a number tells as much as the test. Assumes nothing.
+use Rattle.basis.proofs.Prelude.{ℕ, zero, suc, _+_, _*_, _≤_, _<_, arith, decLe, _≡_, refl, sym, ap, _∙_, Bool, true, false, cond, List, [], _∷_, eqb-true, eqb-false, lt-ltb, le-ltb, ltb-true, ltb-false, ltb, eqb, length, getD, by-test}
+use Rattle.orders.specs.Orders.{lexical, insertBy}
+use Rattle.orders.proofs.Each.{Each, each-at, each-weaken}
+use Rattle.orders.proofs.Sorting.{Total, hit, miss, each-inserted, irrefl, either-first, later}
+use Rattle.orders.proofs.Keys.{key-last, by-keys}
+use Rattle.row_order.specs.Arranged.{byMinor, byBoth}
+
+pub by-minor : (minor : List ℕ) → Total (byMinor minor)
+unfolding byMinor
+by-minor minor = by-keys (λ p. p) (λ p q e. e) ((λ p. getD minor p 0) ∷ [])
+
+pub by-both : (major minor : List ℕ) → Total (byBoth major minor)
+unfolding byBoth
+by-both major minor = by-keys (λ p. p) (λ p q e. e) ((λ p. getD major p 0) ∷ (λ p. getD minor p 0) ∷ [])
+
+-- the major decides, and else the minor
+pub by-major : (major minor : List ℕ) (p q : ℕ) → byBoth major minor p q ≡ cond (eqb (getD major p 0) (getD major q 0)) (byMinor minor p q) (ltb (getD major p 0) (getD major q 0))
+unfolding byBoth byMinor lexical
+by-major major minor p q = refl
+
+-- the minor decides, and else the place
+pub by-place : (minor : List ℕ) (p q : ℕ) → byMinor minor p q ≡ cond (eqb (getD minor p 0) (getD minor q 0)) (ltb p q) (ltb (getD minor p 0) (getD minor q 0))
+unfolding byMinor lexical
+by-place minor p q = ap (λ (b : Bool). cond (eqb (getD minor p 0) (getD minor q 0)) b (ltb (getD minor p 0) (getD minor q 0))) (sym (key-last p q))
+
+-- two keys in one number
+pub packed : (x y p q : ℕ) → p < 1024 → q < 1024 → ltb (x * 1024 + p) (y * 1024 + q) ≡ cond (eqb x y) (ltb p q) (ltb x y)
+packed x y p q h k = by-test (eqb x y)
+    (λ e. let z : x ≡ y = eqb-true x y e in rw e (same z))
+    (λ e.
+    let z : x ≡ y → ⊥ = eqb-false x y e in
+    by-test (ltb x y)
+    (λ d. rw (e, d) (lt-ltb (x * 1024 + p) (y * 1024 + q) (omega (arith, ltb-true x y d))))
+    (λ d. rw (e, d) (le-ltb (x * 1024 + p) (y * 1024 + q) (omega (arith, ltb-false x y d)))))
+  where
+    same : x ≡ y → ltb (x * 1024 + p) (y * 1024 + q) ≡ ltb p q
+    same z = elim (decLe q p) [
+      | yes d ↦ le-ltb (x * 1024 + p) (y * 1024 + q) (omega arith) ∙ sym (le-ltb p q d)
+      | no d ↦ lt-ltb (x * 1024 + p) (y * 1024 + q) (omega arith) ∙ sym (lt-ltb p q (omega arith))
+    ]
+
+-- ---- A list of different numbers, sorted
+
+-- each comes before all that follow
+abbrev pub Strict : (ℕ → ℕ → Bool) → List ℕ → Type 0
+Strict t [] = Unit {0}
+Strict t (x ∷ l) = Each (λ y. t x y ≡ true) l × Strict t l
+
+module _ {t : ℕ → ℕ → Bool} (o : Total t) where
+  pub inserted-strict : (x : ℕ) (l : List ℕ) → Each (λ y. x < y) l → Strict t l → Strict t (insertBy t x l)
+  unfolding insertBy
+  inserted-strict x [] d k = (tt, tt)
+  inserted-strict x (y ∷ l) d k = by-test (t y x)
+      (λ e. rw (miss t x y l e) (each-inserted t (λ z. t y z ≡ true) x l e (k .0), inserted-strict x l (d .1) (k .1)))
+      (λ e.
+      let f : t x y ≡ true = either-first o x y (λ z. omega (arith, d .0)) e in
+      rw (hit t x y l e) ((f, each-weaken (λ z. t y z ≡ true) (λ z. t x z ≡ true) (λ z. later o x y z f) l (k .0)), k))
+
+  strict-at : (l : List ℕ) (r s : ℕ) → Strict t l → r < s → s < length l → t (getD l r 0) (getD l s 0) ≡ true
+  strict-at [] r s k h i = absurd (omega arith)
+  strict-at (x ∷ l) r zero k h i = absurd (omega arith)
+  strict-at (x ∷ l) zero (suc s) k h i = each-at (λ y. t x y ≡ true) l s 0 (k .0) (omega arith)
+  strict-at (x ∷ l) (suc r) (suc s) k h i = strict-at l r s (k .1) (omega arith) (omega arith)
+
+  pub rank : (l : List ℕ) → Strict t l → (r s : ℕ) → r < length l → s < length l → ltb r s ≡ t (getD l r 0) (getD l s 0)
+  rank l k r s hr hs = elim (decLe s r) [
+    | yes d ↦ le-ltb r s d ∙ sym (down (decLe r s) d)
+    | no d ↦ lt-ltb r s (omega arith) ∙ sym (strict-at l r s k (omega arith) hs)
+  ]
+    where
+      down : Dec (r ≤ s) → s ≤ r → t (getD l r 0) (getD l s 0) ≡ false
+      down (yes e) d = let z : r ≡ s = omega arith in rw z (irrefl o (getD l s 0))
+      down (no e) d = o .asym (getD l s 0) (getD l r 0) (strict-at l s r k (omega arith) hr)

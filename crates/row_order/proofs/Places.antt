@@ -1,0 +1,55 @@
+-- Positions sorted by an order; columns below a limit; positions in order, two by two. Assumes nothing.
+use Rattle.basis.proofs.Prelude.{both, ℕ, zero, suc, _+_, _≤_, _<_, arith, add-one, zero-add, _≡_, sym, ap, _∙_, Bool, true, false, _&&_, List, [], _∷_, lt-ltb, le-ltb, ltb-true, ltb, length, getD, take, drop, drop-of-length-le, drop-cons, getD-take, length-take-le}
+use Rattle.orders.specs.Orders.{sortedBy, inOrderBy}
+use Rattle.orders.proofs.Sorting.{Total, each-sorted, pass-on, pass-off, pass-end}
+use Rattle.columns.specs.Columns.{positions}
+use Rattle.columns.proofs.Filling.{positions-length, positions-at, positions-from}
+use Rattle.row_order.specs.Arranged.{allBelow, limit}
+use Rattle.row_order.proofs.Orders.{Strict, inserted-strict}
+
+-- sorted by any order, no two are at one place
+pub positions-strict : {t : ℕ → ℕ → Bool} → Total t → (k n : ℕ) → Strict t (sortedBy t (positions k n))
+unfolding sortedBy positions
+positions-strict o k zero = tt
+positions-strict {t} o k (suc n) =
+    inserted-strict o k (sortedBy t (positions (suc k) n)) (each-sorted t (λ y. k < y) (positions (suc k) n) (positions-from (suc k) (suc k) n (omega arith)))
+    (positions-strict o (suc k) n)
+
+-- ---- All below the limit
+
+module _ (l : List ℕ) (n : ℕ) (long : n ≤ length l) where
+  below-cons : (i : ℕ) → i < n → drop i (take n l) ≡ getD l i 0 ∷ drop (i + 1) (take n l)
+  below-cons i h = rw (add-one i) (drop-cons (take n l) i 0 (omega (arith, length-take-le n l long)) ∙ ap (λ (x : ℕ). x ∷ drop (suc i) (take n l)) (getD-take n l i 0 h))
+
+  pub below-on : (i : ℕ) → i < n → getD l i 0 < limit → allBelow (drop i (take n l)) ≡ allBelow (drop (i + 1) (take n l))
+  unfolding allBelow
+  below-on i h k = ap allBelow (below-cons i h) ∙ ap (λ (b : Bool). b && allBelow (drop (i + 1) (take n l))) (lt-ltb (getD l i 0) limit k)
+
+  pub below-off : (i : ℕ) → i < n → limit ≤ getD l i 0 → allBelow (drop i (take n l)) ≡ false
+  unfolding allBelow
+  below-off i h k = ap allBelow (below-cons i h) ∙ ap (λ (b : Bool). b && allBelow (drop (i + 1) (take n l))) (le-ltb (getD l i 0) limit k)
+
+  pub below-end : (i : ℕ) → n ≤ i → allBelow (drop i (take n l)) ≡ true
+  unfolding allBelow
+  below-end i h = ap allBelow (drop-of-length-le (take n l) {i = i} (omega (arith, length-take-le n l long)))
+
+pub below-at : (l : List ℕ) (i : ℕ) → allBelow l ≡ true → i < length l → getD l i 0 < limit
+unfolding allBelow
+below-at [] i h k = absurd (omega arith)
+below-at (x ∷ l) zero h k = ltb-true x limit (both (ltb x limit) (allBelow l) h .0)
+below-at (x ∷ l) (suc i) h k = below-at l i (both (ltb x limit) (allBelow l) h .1) (omega arith)
+
+-- ---- The positions in order, two by two
+
+module _ (t : ℕ → ℕ → Bool) (n : ℕ) where
+  two : (p : ℕ) {r b : Bool} → p + 1 < n → r ≡ t (p + 1) p → r ≡ b → t (getD (positions 0 n) (p + 1) 0) (getD (positions 0 n) p 0) ≡ b
+  two p h e d = rw (positions-at 0 n p (omega arith), positions-at 0 n (p + 1) h, zero-add p, zero-add (p + 1)) (sym e ∙ d)
+
+  pub row-on : (p : ℕ) {r : Bool} → p + 1 < n → r ≡ t (p + 1) p → r ≡ false → inOrderBy t (drop p (positions 0 n)) ≡ inOrderBy t (drop (p + 1) (positions 0 n))
+  row-on p h e d = pass-on t 0 (positions 0 n) p (omega (arith, positions-length 0 n)) (two p h e d)
+
+  pub row-off : (p : ℕ) {r : Bool} → p + 1 < n → r ≡ t (p + 1) p → r ≡ true → inOrderBy t (drop p (positions 0 n)) ≡ false
+  row-off p h e d = pass-off t 0 (positions 0 n) p (omega (arith, positions-length 0 n)) (two p h e d)
+
+  pub row-end : (p : ℕ) → n ≤ p + 1 → inOrderBy t (drop p (positions 0 n)) ≡ true
+  row-end p h = pass-end t (positions 0 n) p (omega (arith, positions-length 0 n))

@@ -1,0 +1,38 @@
+-- An answer gathered, and a request seen and served. Assumes nothing.
+use Rattle.basis.proofs.Prelude.{_≡_, _<_, ℕ, List, inl, inr, true, ltb, false≢true, ltb-true, take}
+use Rattle.gathering.specs.Gathering.{Appended}
+use Rattle.gathering.proofs.Gathering.{grown}
+use Rattle.service.specs.declared.Service.{Service}
+use Rattle.service.specs.Service.{Blocks}
+use Rattle.conversations.specs.declared.Answered.{Answered}
+use Rattle.conversations.specs.declared.Looked.{Looked}
+use Rattle.conversations.specs.declared.Wanted.{Wanted}
+use Rattle.conversations.specs.Answering.{Answers, Looks, askedIn, roomOf}
+use Rattle.conversations.proofs.Serving.{carried-served}
+use Rattle.serving.specs.declared.Incoming.{Incoming}
+use Rattle.serving.specs.Serving.{Gathers, Takes, Sees, Finishes}
+
+-- ---- Answers gathered
+module _ (answer gathered : List ℕ) (held : ℕ) where
+  pub gathers-after : (n : ℕ) (gathered′ : List ℕ) → Appended answer gathered held n gathered′ → held < n
+      → Gathers answer gathered held (record { held = n; «open» = true }) gathered′
+  gathers-after n gathered′ a h = λ _. inl (grown answer gathered held n gathered′ a h)
+
+  -- after a write it stands alone
+  pub gathers-alone : (kept : List ℕ) (n : ℕ) (gathered′ : List ℕ) → Appended answer kept 0 n gathered′
+      → Gathers answer gathered held (record { held = n; «open» = ltb 0 n }) gathered′
+  gathers-alone kept n gathered′ a = λ e. inr (grown answer kept 0 n gathered′ a (ltb-true 0 n e))
+
+-- ---- A request seen
+module _ {arrived arrived′ line′ payload′ : List ℕ} {start end : ℕ} {q : Incoming} (t : Takes arrived start end q arrived′ line′ payload′)
+    (bs : Blocks) (room : ℕ) (days numbers text out days′ numbers′ out′ : List ℕ) (l : Looked) where
+  pub sees : (q .whole ≡ true → Looks bs room (take (q .line) line′) days numbers text out l days′ numbers′ out′)
+      → Sees bs room arrived start end days numbers text out
+      (record { line = q .line; payload = q .payload; whole = q .whole; start = q .start; end = q .end; held = q .held; looked = l }) arrived′ line′ payload′ days′ numbers′ out′
+  sees looks = record { takes = t; looks = looks }
+
+-- ---- and served
+pub finishes : {sv : Service} {bs : Blocks} {room : ℕ} {w : Wanted} (payload : List ℕ) {days numbers text out : List ℕ} {r : Answered} {bs′ : Blocks} {numbers′ text′ out′ : List ℕ}
+    → Answers sv bs (roomOf room) (askedIn w days) payload numbers text out r bs′ numbers′ text′ out′
+    → Finishes sv bs room w payload days numbers text out r bs′ numbers′ text′ out′
+finishes payload a = λ line before places put looks. carried-served payload looks a

@@ -1,0 +1,63 @@
+-- What the host's request is for: whoever sends them, in however many conversations, the answers are the account's, and a journal of
+-- those that changed the state suffices. Assumes nothing.
+use Rattle.basis.proofs.Prelude.{_∙_, _≡_, refl, sym, subst, ℕ, List, [], _++_, _∷_}
+use Rattle.model.specs.Model.{State, fresh}
+use Rattle.model.specs.Journal.{Event, next, left, journal}
+use Rattle.model.proofs.Journal.{journal-left}
+use Rattle.requests.specs.Requests.{askedOf}
+use Rattle.service.specs.Packed.{unpacked}
+use Rattle.service.specs.Service.{Blocks, Represents}
+use Rattle.service.proofs.Represented.{represented}
+use Rattle.conversations.specs.Answering.{roomOf}
+use Rattle.replies.proofs.Sending.{sends-bytes}
+use Rattle.phayaklit.specs.Host.{Laid}
+use Rattle.phayaklit.specs.History.{Opens}
+use Rattle.sharing.specs.declared.Carried.{Carried}
+use Rattle.sharing.specs.Carrying.{Carries}
+use Rattle.sharing.specs.History.{Posted, eventsIn, replyTo, allEvents, replies, Shared, none, carried, held}
+use Rattle.sharing.proofs.Words.{turn-left}
+
+left-append : (m : State) (es fs : List Event) → left m (es ++ fs) ≡ left (left m es) fs
+unfolding left
+left-append m [] fs = refl
+left-append m (e ∷ es) fs = left-append (next m e) es fs
+
+-- a request that is carried out leaves words and blocks that stand for the state after it
+carried-after : {words words′ : List ℕ} {bs bs′ : Blocks} {m : State} (p : Posted) {days numbers text out days′ numbers′ text′ out′ : List ℕ} {r : Carried}
+    → Represents (unpacked words) bs m → Carries words bs (p .room) (p .line) (p .payload) days numbers text out r words′ bs′ days′ numbers′ text′ out′
+    → Represents (unpacked words′) bs′ (left m (eventsIn p))
+carried-after {m = m} p s c = rw (← turn-left m (p .payload) (roomOf (p .room)) (askedOf 32768 (p .line))) (c .served .answers .turned .taken m s .after)
+
+-- THE ANSWERS are the account's, whichever conversation each request belongs to
+pub shared-replies : {words words′ : List ℕ} {bs bs′ : Blocks} {ps : List Posted} {rs : List (List ℕ)} (m : State) → Represents (unpacked words) bs m
+    → Shared words bs ps rs words′ bs′ → rs ≡ replies m ps
+unfolding replies
+shared-replies m s none = refl
+shared-replies m s (carried {p = p} allowed r days numbers text out words′ bs′ days′ numbers′ text′ out′ within met more) =
+    let c = rw within at (met (represented s)) in
+    rw (sends-bytes (c .served .answers .turned .taken m s .sends), shared-replies (left m (eventsIn p)) (carried-after p s c) more)
+shared-replies {bs = bs} m s (held p allowed r days numbers text out words′ bs′ days′ numbers′ text′ out′ beyond met more) =
+    let h = rw beyond at (met (represented s)) in
+    shared-replies m (rw (h .words-kept, h .blocks-kept) s) more
+
+-- THE WORDS AND BLOCKS AFTER THEM stand for the state after their events
+pub shared-after : {words words′ : List ℕ} {bs bs′ : Blocks} {ps : List Posted} {rs : List (List ℕ)} (m : State) → Represents (unpacked words) bs m
+    → Shared words bs ps rs words′ bs′ → Represents (unpacked words′) bs′ (left m (allEvents ps))
+unfolding allEvents left
+shared-after m s none = s
+shared-after m s (carried {p = p} {ps} allowed r days numbers text out words′ bs′ days′ numbers′ text′ out′ within met more) =
+    let c = rw within at (met (represented s)) in
+    rw (left-append m (eventsIn p) (allEvents ps)) (shared-after (left m (eventsIn p)) (carried-after p s c) more)
+shared-after m s (held p allowed r days numbers text out words′ bs′ days′ numbers′ text′ out′ beyond met more) =
+    let h = rw beyond at (met (represented s)) in
+    shared-after m (rw (h .words-kept, h .blocks-kept) s) more
+
+-- A JOURNAL of those that changed the state suffices: it leads to the state for which the words and blocks stand
+pub shared-journal : {words words′ : List ℕ} {bs bs′ : Blocks} {ps : List Posted} {rs : List (List ℕ)} (m : State) → Represents (unpacked words) bs m
+    → Shared words bs ps rs words′ bs′ → Represents (unpacked words′) bs′ (left m (journal m (allEvents ps)))
+shared-journal {ps = ps} m s c = rw (journal-left m (allEvents ps)) (shared-after m s c)
+
+-- BEGUN BY `phayaklit_fresh` OR `phayaklit_read`: what they ensure of the words and the blocks is enough
+pub shared-opened : {words words′ : List ℕ} {bs bs′ : Blocks} {ps : List Posted} {rs : List (List ℕ)} (m : State) → Opens words bs m
+    → Shared words bs ps rs words′ bs′ → rs ≡ replies m ps
+shared-opened m o c = shared-replies m (o .0) c

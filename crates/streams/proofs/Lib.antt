@@ -1,0 +1,5 @@
+pub mod Cutting
+pub mod Claims
+pub mod Shapes
+pub mod Hosting
+pub mod Cases

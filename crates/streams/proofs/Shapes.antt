@@ -1,0 +1,64 @@
+-- The requests of a stream by the shape of its bytes: a line with its LF and the text after it, or less. Assumes nothing.
+use Rattle.basis.proofs.Prelude.{_∙_, _≡_, ap, refl, _<_, _≤_, suc, zero, ℕ, List, [], _++_, _∷_, append-assoc, append-nil, length, length-append, take, length-take-le, arith, lt-leb}
+use Rattle.requests.specs.Requests.{malformed, askedOf, following}
+use Rattle.streams.specs.Stream.{inLine, kept, wants, settled, lineFed, feed, onward, cutFrom, cut, Plain}
+
+kept-take : (most : ℕ) (s : List ℕ) (b : ℕ) → kept most (take most s) b ≡ take most (s ++ b ∷ [])
+unfolding kept
+kept-take zero s b = refl
+kept-take (suc most) [] b = refl
+kept-take (suc most) (a ∷ s) b = ap (λ (l : List ℕ). a ∷ l) (kept-take most s b)
+
+-- bytes of a line, none of them LF
+line-on : (k s t : List ℕ) → Plain s → cutFrom (inLine (take 65537 k)) (s ++ t) ≡ cutFrom (inLine (take 65537 (k ++ s))) t
+unfolding cutFrom feed lineFed onward
+line-on k [] t h = rw append-nil
+line-on k (b ∷ s) t h =
+    rw (h .0) (ap (λ (l : List ℕ). cutFrom (inLine l) (s ++ t)) (kept-take 65537 k b) ∙ rw append-assoc at (line-on (k ++ b ∷ []) s t (h .1)))
+
+-- bytes of a text, all that are wanted
+text-on : (line q p t : List ℕ) (n : ℕ) → length p ≡ n
+    → onward (settled line (take 65536 q) n) (λ x. cutFrom x (p ++ t)) ≡ record { line = line; payload = take 65536 (q ++ p) } ∷ cut t
+unfolding cutFrom feed onward settled
+text-on line q [] t zero e = rw append-nil
+text-on line q [] t (suc n) e = absurd (omega arith)
+text-on line q (b ∷ p) t zero e = absurd (omega arith)
+text-on line q (b ∷ p) t (suc n) e = rw (kept-take 65536 q b, text-on line (q ++ b ∷ []) p t n (omega arith), append-assoc)
+
+-- fewer than are wanted
+text-short : (line q p : List ℕ) (n : ℕ) → length p < n → onward (settled line q n) (λ x. cutFrom x p) ≡ []
+unfolding cutFrom feed onward settled
+text-short line q p zero e = absurd (omega arith)
+text-short line q [] (suc n) e = refl
+text-short line q (b ∷ p) (suc n) e = text-short line (kept 65536 q b) p n (omega arith)
+
+-- A WHOLE REQUEST at the beginning of a stream: a line, its LF, and as many bytes as the line wants after it
+pub cut-request : (l p t : List ℕ) → Plain l → length p ≡ wants (take 65537 (l ++ 10 ∷ []))
+    → cut (l ++ 10 ∷ (p ++ t)) ≡ record { line = take 65537 (l ++ 10 ∷ []); payload = take 65536 p } ∷ cut t
+unfolding cutFrom feed lineFed onward
+cut-request l p t h e =
+    line-on [] l (10 ∷ (p ++ t)) h ∙ rw (kept-take 65537 l 10) (text-on (take 65537 (l ++ 10 ∷ [])) [] p t _ e)
+
+-- A LINE THAT IS NOT WHOLE is no request
+pub cut-line : (l : List ℕ) → Plain l → cut l ≡ []
+unfolding cutFrom
+cut-line l h = rw append-nil at (line-on [] l [] h)
+
+-- A TEXT THAT IS NOT WHOLE: neither
+pub cut-text : (l p : List ℕ) → Plain l → length p < wants (take 65537 (l ++ 10 ∷ [])) → cut (l ++ 10 ∷ p) ≡ []
+unfolding cutFrom feed lineFed onward
+cut-text l p h e = line-on [] l (10 ∷ p) h ∙ rw (kept-take 65537 l 10) (text-short (take 65537 (l ++ 10 ∷ [])) [] p _ e)
+
+-- ---- A line of more than 65,536 bytes
+
+-- it is malformed, also as it is kept
+pub long-malformed : (l : List ℕ) → 65536 < length l → askedOf 32768 (take 65537 l) ≡ malformed
+unfolding askedOf
+long-malformed l h = rw (lt-leb (length (take 65537 l)) 65536 (omega (arith, length-take-le 65537 l (omega arith))))
+
+-- A LINE OF MORE THAN 65,536 BYTES, its LF among them: it is passed over up to its LF, and no text follows it
+pub cut-long : (l t : List ℕ) → Plain l → 65536 ≤ length l
+    → cut (l ++ 10 ∷ t) ≡ record { line = take 65537 (l ++ 10 ∷ []); payload = [] } ∷ cut t
+unfolding wants following
+cut-long l t h k =
+    cut-request l [] t h (rw (long-malformed (l ++ 10 ∷ []) (omega (arith, length-append l (10 ∷ [])))))
