@@ -1,8 +1,6 @@
 -- The words of the columns of links, by position: the definition's mark, or none. Assumes nothing.
 use Rattle.basis.proofs.Prelude.{_≡_, _<_, _≤_, suc, zero-le, ℕ, List, false, ltb, length, arith, le-ltb, lt-ltb, ltb-true, by-test}
-use Rattle.stabbing.specs.Tree.{head, parent, leftSibling, lastChild, next}
-use Rattle.stabbing.specs.Index.{rowLink, headLink}
-use Rattle.stabbing.specs.Contracts.{Head}
+use Rattle.stabbing.specs.{Tree.{head, parent, leftSibling, lastChild, next}, Index.{rowLink, headLink}, Contracts.Head}
 use Rattle.stabbing.proofs.Links.{parent-is, child-is, left-is, next-le}
 
 module _ (fs ls : List ℕ) where
@@ -40,8 +38,7 @@ module _ (fs ls : List ℕ) where
   left-small = head-small (leftSibling fs ls) (λ v h. rw (left-is fs ls v) (omega (arith, child-is fs ls (parent fs ls v) v .within)))
 
   pub child-small : (p : ℕ) → headLink fs ls (lastChild fs ls) p ≤ length fs
-  unfolding lastChild
-  child-small = head-small (lastChild fs ls) (λ v h. child-is fs ls (suc v) (length fs) .within)
+  child-small = unfold lastChild in head-small (lastChild fs ls) (λ v h. child-is fs ls (suc v) (length fs) .within)
 
   pub next-small : (p : ℕ) → rowLink fs ls (next fs ls) p ≤ length fs
   next-small = row-small (next fs ls) (λ v h. omega (arith, next-le fs ls v))

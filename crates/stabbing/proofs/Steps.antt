@@ -1,11 +1,7 @@
 -- The walk's recursions with no fuel to follow: what code that goes by the links is proved against. Assumes nothing.
 use Rattle.basis.proofs.Prelude.{_∙_, _≡_, ap, refl, sym, _+_, _-_, _<_, _≤_, suc, zero, ℕ, List, [], _∷_, Bool, false, true, length, length-append, le-refl, arith, le-leb, lt-leb, by-eq, by-mark, by-test}
-use Rattle.stabbing.specs.Tree.{keep, dayAt, head, parent, child, leftSibling, lastChild}
-use Rattle.stabbing.specs.Walk.{Progress, tick, compare, chain, descend, climb}
-use Rattle.stabbing.specs.Contracts.{Stretch, above, over}
-use Rattle.stabbing.proofs.Marks.{keep-hit, keep-miss}
-use Rattle.stabbing.proofs.Links.{parent-is, child-stretch, left-stretch, c-head, c-under, c-over, c-longest, c-child, c-left}
-use Rattle.stabbing.proofs.Walk.{reach, compare-none, compare-yes, compare-no}
+use Rattle.stabbing.specs.{Tree.{keep, dayAt, head, parent, child, leftSibling, lastChild}, Walk.{Progress, tick, compare, chain, descend, climb}, Contracts.{Stretch, above, over}}
+use Rattle.stabbing.proofs.{Marks.{keep-hit, keep-miss}, Links.{parent-is, child-stretch, left-stretch, c-head, c-under, c-over, c-longest, c-child, c-left}, Walk.{reach, compare-none, compare-yes, compare-no}}
 
 module _ (fs ls : List ℕ) (l : ℕ) where
   pub compare-same : (m : ℕ) (go go′ : ℕ → Progress → Progress) (s : Progress) → ((p : ℕ) → m ≡ suc p → (t : Progress) → go p t ≡ go′ p t) → compare fs ls l m go s ≡ compare fs ls l m go′ s
@@ -18,8 +14,7 @@ module _ (fs ls : List ℕ) (l : ℕ) where
   descend-more : (f m v c : ℕ) (s : Progress) → Stretch fs ls m v → v ≤ m + f → child fs ls m v ≡ suc c → descend fs ls l (suc f) c s ≡ descend fs ls l f c s
   unfolding descend
   descend-more zero m v c s r h e = absurd (omega (arith, c-over fs ls m v r c e, c-under fs ls m v r c e))
-  descend-more (suc f) m v c s r h e =
-      let over = c-over fs ls m v r c e in
+  descend-more (suc f) m v c s r h e = let over = c-over fs ls m v r c e in
       let under = c-under fs ls m v r c e in
       let R : ℕ → Progress → Progress = descend fs ls l (suc f) in
       let R′ : ℕ → Progress → Progress = descend fs ls l f in
@@ -34,8 +29,7 @@ module _ (fs ls : List ℕ) (l : ℕ) where
   pub descend-step : (m v c : ℕ) (s : Progress) → Stretch fs ls m v → child fs ls m v ≡ suc c
       → descend fs ls l (length fs) c s
       ≡ compare fs ls l (leftSibling fs ls c) (descend fs ls l (length fs)) (chain fs ls l c (compare fs ls l (lastChild fs ls c) (descend fs ls l (length fs)) s))
-  unfolding descend
-  descend-step m v c s r e = sym (descend-more (length fs) m v c s r (omega (arith, r .inside)) e)
+  descend-step m v c s r e = unfold descend in sym (descend-more (length fs) m v c s r (omega (arith, r .inside)) e)
 
   climb-more : (f m : ℕ) (s : Progress) → m ≤ f → climb fs ls l (suc f) m s ≡ climb fs ls l f m s
   unfolding climb
@@ -48,8 +42,7 @@ module _ (fs ls : List ℕ) (l : ℕ) where
   pub climb-step : (v : ℕ) (s : Progress) → v < length fs
       → climb fs ls l (length fs) (suc v) s
       ≡ climb fs ls l (length fs) (parent fs ls v) (compare fs ls l (leftSibling fs ls v) (descend fs ls l (length fs)) (chain fs ls l v s))
-  unfolding climb
-  climb-step v s h = sym (climb-more (length fs) (suc v) s h)
+  climb-step v s h = unfold climb in sym (climb-more (length fs) (suc v) s h)
 
 -- ---- the measure: the heads of a stretch, none of them visited yet
 
@@ -64,24 +57,20 @@ module _ (t : ℕ → Bool) where
   keep-grows : (lo hi : ℕ) → lo ≤ hi → length (keep t lo) ≤ length (keep t hi)
   keep-grows lo zero h = let z : lo ≡ 0 = omega arith in rw z (le-refl _)
   keep-grows lo (suc k) h = by-eq lo (suc k) h (λ z. rw z (le-refl _)) (λ lt.
-      let ih = keep-grows lo k (omega arith) in
-      by-test (t k) (λ e. omega (arith, keep-one k e)) (λ e. rw (keep-miss t k e) ih))
+      let ih = keep-grows lo k (omega arith) in by-test (t k) (λ e. omega (arith, keep-one k e)) (λ e. rw (keep-miss t k e) ih))
 
   pub keep-room : (lo hi : ℕ) → lo ≤ hi → length (keep t hi) + lo ≤ length (keep t lo) + hi
   keep-room lo zero h = let z : lo ≡ 0 = omega arith in rw z (le-refl _)
   keep-room lo (suc k) h = by-eq lo (suc k) h (λ z. rw z (le-refl _)) (λ lt.
-      let ih = keep-room lo k (omega arith) in
-      by-test (t k) (λ e. omega (arith, keep-one k e)) (λ e. rw (keep-miss t k e) (omega arith)))
+      let ih = keep-room lo k (omega arith) in by-test (t k) (λ e. omega (arith, keep-one k e)) (λ e. rw (keep-miss t k e) (omega arith)))
 
 module _ (fs ls : List ℕ) (m v : ℕ) (r : Stretch fs ls m v) (c : ℕ) (e : child fs ls m v ≡ suc c) where
   pub heads-fall : (heads fs ls (suc c) v < heads fs ls m v) × (heads fs ls m c < heads fs ls m v)
   unfolding heads
-  heads-fall =
-      let t : ℕ → Bool = head fs ls in
+  heads-fall = let t : ℕ → Bool = head fs ls in
       let one : length (keep t (suc c)) ≡ suc (length (keep t c)) = keep-one t c (c-head fs ls m v r c e) in
       let a = keep-grows t m c (c-over fs ls m v r c e) in
-      let b = keep-grows t (suc c) v (c-under fs ls m v r c e) in
-      (omega arith, omega arith)
+      let b = keep-grows t (suc c) v (c-under fs ls m v r c e) in (omega arith, omega arith)
 
 -- ---- where the stretch of a last child ends: at the first later head that lasts longer
 
@@ -94,9 +83,7 @@ above-is t p (suc f) v h k e n = by-eq p v h
 
 module _ (fs ls : List ℕ) where
   pub over-is : (m v : ℕ) (r : Stretch fs ls m v) (c : ℕ) → child fs ls m v ≡ suc c → over fs ls c ≡ v
-  unfolding over
-  over-is m v r c e =
-      above-is _ (suc c) (length fs) v (c-under fs ls m v r c e) (omega (arith, r .inside))
+  over-is m v r c e = unfold over in above-is _ (suc c) (length fs) v (c-under fs ls m v r c e) (omega (arith, r .inside))
       (rw (r .top, lt-leb (dayAt ls v) (dayAt ls c) (r .low c (c-over fs ls m v r c e) (c-under fs ls m v r c e) (c-head fs ls m v r c e))))
       (λ x g h. by-test (head fs ls x)
       (λ hx. rw (hx, le-leb (dayAt ls x) (dayAt ls c) (c-longest fs ls m v r c e x (omega (arith, c-over fs ls m v r c e)) h hx)))

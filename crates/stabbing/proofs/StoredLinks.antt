@@ -1,9 +1,7 @@
 -- The links of any index that publish leaves, as they are stored: a word of 16 bits each. Assumes nothing.
 use Rattle.basis.proofs.Prelude.{_∙_, _≡_, ap, _*_, _+_, _<_, _≤_, ℕ, List, _++_, false, true, drop, getD, length, length-append, length-drop, take, length-take-le, arith}
-use Rattle.stabbing.specs.Tree.{head, parent, leftSibling, lastChild, next}
-use Rattle.stabbing.specs.Index.{capacity, parentColumn, leftColumn, childColumn, nextColumn, headLink, rowLink, blockOf, rows, numbers, firsts, lasts, Block}
-use Rattle.stabbing.proofs.Marking.{row-link, head-link, head-none, head-past, row-past, parent-small, left-small, child-small, next-small}
-use Rattle.stabbing.proofs.Block.{parent-word, left-word, child-word, next-word, words-long, fs-rows, fs-few, word-is}
+use Rattle.stabbing.specs.{Tree.{head, parent, leftSibling, lastChild, next}, Index.{capacity, parentColumn, leftColumn, childColumn, nextColumn, headLink, rowLink, blockOf, rows, numbers, firsts, lasts, Block}}
+use Rattle.stabbing.proofs.{Marking.{row-link, head-link, head-none, head-past, row-past, parent-small, left-small, child-small, next-small}, Block.{parent-word, left-word, child-word, next-word, words-long, fs-rows, fs-few, word-is}}
 
 -- A column of links of heads: at a head the definition's mark, which is 0 where it has none; 0 at a row that is no head, and past the rows;
 -- every mark at most 1,024

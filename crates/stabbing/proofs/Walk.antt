@@ -1,27 +1,20 @@
 -- The walk lists what lasts to l, falling, and its comparisons are the formula's. Assumes nothing.
 use Rattle.basis.proofs.Prelude.{_∙_, _≡_, ap, refl, sym, _*_, _+_, _<_, _≤_, suc, zero, zero-le, ℕ, List, [], _++_, _∷_, append-assoc, append-nil, Bool, _&&_, false, true, leb, length, le-refl, arith, eq-eqb, le-leb, leb-false, leb-true, ne-eqb, both, by-eq, by-mark, by-test, untrue}
-use Rattle.stabbing.specs.Tree.{below, keep, count, one, some, dayAt, head, next, parent, child, leftSibling, lastChild, fitsAt, start, onPath, hasNext, hasLeft, hasChild, formula}
-use Rattle.stabbing.specs.Walk.{Progress, nothing, push, tick, compare, chain, descend, climb, walk}
-use Rattle.stabbing.specs.Stored.{Sorted}
-use Rattle.stabbing.specs.Contracts.{Head, bottom, Stretch}
-use Rattle.stabbing.proofs.Marks.{Below, below-is, keep-hit, keep-miss, keep-skip, keep-ext, count-last, count-le}
-use Rattle.stabbing.proofs.Links.{bottom-is, parent-is, own, child-stretch, left-stretch, c-head, c-under, c-over, c-child, c-left, next-some, next-bottom, chain-up, Top, top, barren, left-is}
+use Rattle.stabbing.specs.{Tree.{below, keep, count, one, some, dayAt, head, next, parent, child, leftSibling, lastChild, fitsAt, start, onPath, hasNext, hasLeft, hasChild, formula}, Walk.{Progress, nothing, push, tick, compare, chain, descend, climb, walk}, Stored.Sorted, Contracts.{Head, bottom, Stretch}}
+use Rattle.stabbing.proofs.{Marks.{Below, below-is, keep-hit, keep-miss, keep-skip, keep-ext, count-last, count-le}, Links.{bottom-is, parent-is, own, child-stretch, left-stretch, c-head, c-under, c-over, c-child, c-left, next-some, next-bottom, chain-up, Top, top, barren, left-is}}
 
 module _ (fs ls : List ℕ) (l : ℕ) where
   abbrev pub reach : ℕ → Bool
   reach p = leb l (dayAt ls p)
 
   pub compare-none : (m : ℕ) (go : ℕ → Progress → Progress) (s : Progress) → m ≡ 0 → compare fs ls l m go s ≡ s
-  unfolding compare
-  compare-none m go s e = rw e
+  compare-none m go s e = unfold compare in rw e
 
   pub compare-yes : (m p : ℕ) (go : ℕ → Progress → Progress) (s : Progress) → m ≡ suc p → reach p ≡ true → compare fs ls l m go s ≡ go p (tick s)
-  unfolding compare
-  compare-yes m p go s e r = rw e (rw (r, compare))
+  compare-yes m p go s e r = unfold compare in rw e (rw (r, compare))
 
   pub compare-no : (m p : ℕ) (go : ℕ → Progress → Progress) (s : Progress) → m ≡ suc p → reach p ≡ false → compare fs ls l m go s ≡ tick s
-  unfolding compare
-  compare-no m p go s e r = rw e (rw (r, compare))
+  compare-no m p go s e r = unfold compare in rw e (rw (r, compare))
 
   pub climb-none : (f : ℕ) (s : Progress) → climb fs ls l f 0 s ≡ s
   unfolding climb
@@ -51,29 +44,23 @@ module _ (fs ls : List ℕ) (sorted : Sorted fs ls) (l : ℕ) (on : ℕ → Bool
     pub comparisons : due lo + s′ .comparisons + e ≡ due hi + s .comparisons + e′
 
   pub due-hit : (p : ℕ) → reach fs ls l p ≡ true → due (suc p) ≡ due p + one (next? p) + (one (left? p) + one (child? p))
-  unfolding due
-  due-hit p e = rw (keep-hit (reach fs ls l) p e) (omega (arith, count-last next? (upto p) p, count-last left? (upto p) p, count-last child? (upto p) p))
+  due-hit p e = unfold due in rw (keep-hit (reach fs ls l) p e) (omega (arith, count-last next? (upto p) p, count-last left? (upto p) p, count-last child? (upto p) p))
 
   pub due-miss : (p : ℕ) → reach fs ls l p ≡ false → due (suc p) ≡ due p
-  unfolding due
-  due-miss p e = rw (keep-miss (reach fs ls l) p e)
+  due-miss p e = unfold due in rw (keep-miss (reach fs ls l) p e)
 
   upto-hit : (p : ℕ) (xs : List ℕ) → reach fs ls l p ≡ true → upto p ++ (p ∷ xs) ≡ upto (suc p) ++ xs
   upto-hit p xs e = rw (keep-hit (reach fs ls l) p e) (sym (append-assoc (upto p) (p ∷ []) xs))
 
   -- nothing lasts to l from lo up to hi
   skip : (lo hi : ℕ) (s : Progress) → lo ≤ hi → ((x : ℕ) → lo ≤ x → x < hi → l ≤ dayAt ls x → ⊥) → (upto hi ≡ upto lo) × (due hi ≡ due lo)
-  unfolding due
-  skip lo hi s h f =
-      let e : upto hi ≡ upto lo = keep-skip (reach fs ls l) lo hi h (λ x a b t. f x a b (leb-true _ _ t)) in
-      (e, rw e)
+  skip lo hi s h f = unfold due in let e : upto hi ≡ upto lo = keep-skip (reach fs ls l) lo hi h (λ x a b t. f x a b (leb-true _ _ t)) in (e, rw e)
 
   -- the chain from p down to its bottom lo; what is due for p as a head is left open
   chain-went : (lo p : ℕ) (s : Progress) → p < length fs → lo ≤ p → next fs ls lo ≡ 0 → ((x : ℕ) → lo ≤ x → x < p → head fs ls x ≡ false)
       → reach fs ls l p ≡ true → Went (suc p) s lo (chain fs ls l p s) (one (left? p) + one (child? p)) 0
   unfolding chain
-  chain-went lo zero s h g nx f e =
-      let z : lo ≡ 0 = omega arith in
+  chain-went lo zero s h g nx f e = let z : lo ≡ 0 = omega arith in
       let k : one (next? 0) ≡ 0 = rw (rw z at nx) in
       rw z (record { list = upto-hit 0 (s .list) e; comparisons = omega (arith, due-hit 0 e) })
   chain-went lo (suc p) s h g nx f e = by-eq lo (suc p) g
@@ -135,8 +122,7 @@ module _ (fs ls : List ℕ) (sorted : Sorted fs ls) (l : ℕ) (on : ℕ → Bool
   pub descend-went : (f : ℕ) → Descends f
   unfolding descend
   descend-went zero m v c s r off h e t = absurd (omega (arith, c-over fs ls m v r c e, c-under fs ls m v r c e))
-  descend-went (suc f) m v c s r off h e t =
-      let ih : Descends f = descend-went f in
+  descend-went (suc f) m v c s r off h e t = let ih : Descends f = descend-went f in
       let over = c-over fs ls m v r c e in
       let under = c-under fs ls m v r c e in
       let hc = c-head fs ls m v r c e in
@@ -160,19 +146,16 @@ module _ (fs ls : List ℕ) (sorted : Sorted fs ls) (l : ℕ) (on : ℕ → Bool
   path-under (suc f) (suc v) x h = rw (ne-eqb x v (λ z. omega arith)) (path-under f (parent fs ls v) x (omega (arith, parent-is fs ls v .within)))
 
   path-here : (f v : ℕ) → onPath fs ls (suc f) (suc v) v ≡ true
-  unfolding onPath
-  path-here f v = rw (eq-eqb v v refl)
+  path-here f v = unfold onPath in rw (eq-eqb v v refl)
 
   path-up : (f v x : ℕ) → x < v → onPath fs ls (suc f) (suc v) x ≡ onPath fs ls f (parent fs ls v) x
-  unfolding onPath
-  path-up f v x h = rw (ne-eqb x v (λ z. omega arith))
+  path-up f v x h = unfold onPath in rw (ne-eqb x v (λ z. omega arith))
 
   climb-went : (f v : ℕ) (s : Progress) → v < f → v < length fs → Head fs ls v → reach fs ls l v ≡ true
       → ((x : ℕ) → x ≤ v → on x ≡ onPath fs ls f (suc v) x) → Went (suc v) s 0 (climb fs ls l f (suc v) s) 0 0
   unfolding climb
   climb-went zero v s b h hv t path = absurd (omega arith)
-  climb-went (suc f) v s b h hv t path =
-      let s₁ : Progress = chain fs ls l v s in
+  climb-went (suc f) v s b h hv t path = let s₁ : Progress = chain fs ls l v s in
       let w₁ = chain-of v s hv h t in
       let path′ : (x : ℕ) → x < v → on x ≡ onPath fs ls f (parent fs ls v) x = λ x lt. path x (omega arith) ∙ path-up f v x lt in
       let s₂ : Progress = compare fs ls l (leftSibling fs ls v) (descend fs ls l (length fs)) s₁ in
@@ -200,16 +183,13 @@ module _ (fs ls : List ℕ) (sorted : Sorted fs ls) where
 
   module _ (h l : ℕ) where
     pub fits-of : (p : ℕ) → fitsAt fs ls h l p ≡ true → (dayAt fs p ≤ h) × (l ≤ dayAt ls p)
-    unfolding fitsAt
-    fits-of p e = let q = both (leb (dayAt fs p) h) (leb l (dayAt ls p)) e in (leb-true _ _ (q .0), leb-true _ _ (q .1))
+    fits-of p e = unfold fitsAt in let q = both (leb (dayAt fs p) h) (leb l (dayAt ls p)) e in (leb-true _ _ (q .0), leb-true _ _ (q .1))
 
     pub of-fits : (p : ℕ) → dayAt fs p ≤ h → l ≤ dayAt ls p → fitsAt fs ls h l p ≡ true
-    unfolding fitsAt
-    of-fits p a b = rw (le-leb _ _ a, le-leb _ _ b)
+    of-fits p a b = unfold fitsAt in rw (le-leb _ _ a, le-leb _ _ b)
 
     reach-fits : (p : ℕ) → dayAt fs p ≤ h → reach fs ls l p ≡ fitsAt fs ls h l p
-    unfolding fitsAt
-    reach-fits p a = rw (le-leb (dayAt fs p) h a)
+    reach-fits p a = unfold fitsAt in rw (le-leb (dayAt fs p) h a)
 
     -- what the start is: a head that fits, and no position from it on fits
     pub record Start (m : ℕ) : Type 0 where
@@ -219,10 +199,8 @@ module _ (fs ls : List ℕ) (sorted : Sorted fs ls) where
 
     pub start-is : Start (start fs ls h l)
     unfolding start
-    start-is =
-        let t : ℕ → Bool = λ p. head fs ls p && fitsAt fs ls h l p in
-        let i : Below t (length fs) (below t (length fs)) = below-is t (length fs) in
-        record {
+    start-is = let t : ℕ → Bool = λ p. head fs ls p && fitsAt fs ls h l p in
+        let i : Below t (length fs) (below t (length fs)) = below-is t (length fs) in record {
           within = i .within;
           hit = λ v e. let q = both (head fs ls v) (fitsAt fs ls h l v) (i .hit v e) in let r = fits-of v (q .1) in (q .0, r .0, r .1);
           miss = λ x a b e.
@@ -238,14 +216,11 @@ module _ (fs ls : List ℕ) (sorted : Sorted fs ls) where
       pub comparisons : w .comparisons ≡ formula fs ls m (w .list)
 
     walk-none : Start 0 → Right 0 (walk fs ls l 0)
-    unfolding walk formula count keep
-    walk-none i = rw (climb-none fs ls l (length fs) nothing)
+    walk-none i = unfold walk formula count keep in rw (climb-none fs ls l (length fs) nothing)
         (record { list = sym (keep-skip (fitsAt fs ls h l) 0 (length fs) zero-le (i .miss)); comparisons = refl })
 
     walk-some : (v : ℕ) → Start (suc v) → Right (suc v) (walk fs ls l (suc v))
-    unfolding walk formula keep due count
-    walk-some v i =
-        let q = i .hit v refl in
+    walk-some v i = unfold walk formula keep due count in let q = i .hit v refl in
         let inside : v < length fs = i .within in
         let on : ℕ → Bool = onPath fs ls (length fs) (suc v) in
         let r : ℕ → Bool = reach fs ls l in
@@ -262,8 +237,7 @@ module _ (fs ls : List ℕ) (sorted : Sorted fs ls) where
 
 -- never more than three comparisons for each spell listed
 pub formula-le : (fs ls : List ℕ) (m : ℕ) (ps : List ℕ) → formula fs ls m ps ≤ 3 * length ps
-unfolding formula
-formula-le fs ls m ps = omega (arith, count-le (hasNext fs ls) ps, count-le (hasLeft fs ls) ps, count-le (hasChild fs ls (onPath fs ls (length fs) m)) ps)
+formula-le fs ls m ps = unfold formula in omega (arith, count-le (hasNext fs ls) ps, count-le (hasLeft fs ls) ps, count-le (hasChild fs ls (onPath fs ls (length fs) m)) ps)
 
 -- THE THEOREMS, for any two days
 module _ (fs ls : List ℕ) (sorted : Sorted fs ls) (h l : ℕ) where
@@ -280,9 +254,7 @@ module _ (fs ls : List ℕ) (sorted : Sorted fs ls) (h l : ℕ) where
   comparisons-few = rw (right .comparisons) (formula-le fs ls (start fs ls h l) (walk fs ls l (start fs ls h l) .list))
 
   pub comparisons-none : walk fs ls l (start fs ls h l) .list ≡ [] → walk fs ls l (start fs ls h l) .comparisons ≡ 0
-  unfolding formula count
-  comparisons-none e = right .comparisons ∙ ap (formula fs ls (start fs ls h l)) e
+  comparisons-none e = unfold formula count in right .comparisons ∙ ap (formula fs ls (start fs ls h l)) e
 
   pub unlisted : start fs ls h l ≡ 0 → walk fs ls l (start fs ls h l) .list ≡ []
-  unfolding keep
-  unlisted e = listing ∙ keep-skip (fitsAt fs ls h l) 0 (length fs) zero-le (λ p _ k. start-is fs ls sorted h l .miss p (rw e zero-le) k)
+  unlisted e = unfold keep in listing ∙ keep-skip (fitsAt fs ls h l) 0 (length fs) zero-le (λ p _ k. start-is fs ls sorted h l .miss p (rw e zero-le) k)
