@@ -1,28 +1,21 @@
 -- The orders of positions, and a sort of different numbers: the place of a number tells as much as the test. Assumes nothing.
 use Rattle.basis.proofs.Prelude.{ℕ, zero, suc, _+_, _*_, _≤_, _<_, arith, decLe, _≡_, refl, sym, ap, _∙_, Bool, true, false, cond, List, [], _∷_, eqb-true, eqb-false, lt-ltb, le-ltb, ltb-true, ltb-false, ltb, eqb, length, getD, by-test}
-use Rattle.orders.specs.Orders.{lexical, insertBy}
-use Rattle.orders.proofs.Each.{Each, each-at, each-weaken}
-use Rattle.orders.proofs.Sorting.{Total, hit, miss, each-inserted, irrefl, either-first, later}
-use Rattle.orders.proofs.Keys.{key-last, by-keys}
+use Rattle.orders.{specs.Orders.{lexical, insertBy}, proofs.Each.{Each, each-at, each-weaken}, proofs.Sorting.{Total, hit, miss, each-inserted, irrefl, either-first, later}, proofs.Keys.{key-last, by-keys}}
 use Rattle.row_order.specs.Arranged.{byMinor, byBoth}
 
 pub by-minor : (minor : List ℕ) → Total (byMinor minor)
-unfolding byMinor
-by-minor minor = by-keys (λ p. p) (λ p q e. e) ((λ p. getD minor p 0) ∷ [])
+by-minor minor = unfold byMinor in by-keys (λ p. p) (λ p q e. e) ((λ p. getD minor p 0) ∷ [])
 
 pub by-both : (major minor : List ℕ) → Total (byBoth major minor)
-unfolding byBoth
-by-both major minor = by-keys (λ p. p) (λ p q e. e) ((λ p. getD major p 0) ∷ (λ p. getD minor p 0) ∷ [])
+by-both major minor = unfold byBoth in by-keys (λ p. p) (λ p q e. e) ((λ p. getD major p 0) ∷ (λ p. getD minor p 0) ∷ [])
 
 -- the major decides, and else the minor
 pub by-major : (major minor : List ℕ) (p q : ℕ) → byBoth major minor p q ≡ cond (eqb (getD major p 0) (getD major q 0)) (byMinor minor p q) (ltb (getD major p 0) (getD major q 0))
-unfolding byBoth byMinor lexical
-by-major major minor p q = refl
+by-major major minor p q = unfold byBoth byMinor lexical in refl
 
 -- the minor decides, and else the place
 pub by-place : (minor : List ℕ) (p q : ℕ) → byMinor minor p q ≡ cond (eqb (getD minor p 0) (getD minor q 0)) (ltb p q) (ltb (getD minor p 0) (getD minor q 0))
-unfolding byMinor lexical
-by-place minor p q = ap (λ (b : Bool). cond (eqb (getD minor p 0) (getD minor q 0)) b (ltb (getD minor p 0) (getD minor q 0))) (sym (key-last p q))
+by-place minor p q = unfold byMinor lexical in ap (λ (b : Bool). cond (eqb (getD minor p 0) (getD minor q 0)) b (ltb (getD minor p 0) (getD minor q 0))) (sym (key-last p q))
 
 -- two keys in one number
 pub packed : (x y p q : ℕ) → p < 1024 → q < 1024 → ltb (x * 1024 + p) (y * 1024 + q) ≡ cond (eqb x y) (ltb p q) (ltb x y)

@@ -1,9 +1,7 @@
 -- Positions sorted by an order; columns below a limit; positions in order, two by two. Assumes nothing.
 use Rattle.basis.proofs.Prelude.{both, ℕ, zero, suc, _+_, _≤_, _<_, arith, add-one, zero-add, _≡_, sym, ap, _∙_, Bool, true, false, _&&_, List, [], _∷_, lt-ltb, le-ltb, ltb-true, ltb, length, getD, take, drop, drop-of-length-le, drop-cons, getD-take, length-take-le}
-use Rattle.orders.specs.Orders.{sortedBy, inOrderBy}
-use Rattle.orders.proofs.Sorting.{Total, each-sorted, pass-on, pass-off, pass-end}
-use Rattle.columns.specs.Columns.{positions}
-use Rattle.columns.proofs.Filling.{positions-length, positions-at, positions-from}
+use Rattle.orders.{specs.Orders.{sortedBy, inOrderBy}, proofs.Sorting.{Total, each-sorted, pass-on, pass-off, pass-end}}
+use Rattle.columns.{specs.Columns.positions, proofs.Filling.{positions-length, positions-at, positions-from}}
 use Rattle.row_order.specs.Arranged.{allBelow, limit}
 use Rattle.row_order.proofs.Orders.{Strict, inserted-strict}
 
@@ -22,16 +20,13 @@ module _ (l : List ℕ) (n : ℕ) (long : n ≤ length l) where
   below-cons i h = rw (add-one i) (drop-cons (take n l) i 0 (omega (arith, length-take-le n l long)) ∙ ap (λ (x : ℕ). x ∷ drop (suc i) (take n l)) (getD-take n l i 0 h))
 
   pub below-on : (i : ℕ) → i < n → getD l i 0 < limit → allBelow (drop i (take n l)) ≡ allBelow (drop (i + 1) (take n l))
-  unfolding allBelow
-  below-on i h k = ap allBelow (below-cons i h) ∙ ap (λ (b : Bool). b && allBelow (drop (i + 1) (take n l))) (lt-ltb (getD l i 0) limit k)
+  below-on i h k = unfold allBelow in ap allBelow (below-cons i h) ∙ ap (λ (b : Bool). b && allBelow (drop (i + 1) (take n l))) (lt-ltb (getD l i 0) limit k)
 
   pub below-off : (i : ℕ) → i < n → limit ≤ getD l i 0 → allBelow (drop i (take n l)) ≡ false
-  unfolding allBelow
-  below-off i h k = ap allBelow (below-cons i h) ∙ ap (λ (b : Bool). b && allBelow (drop (i + 1) (take n l))) (le-ltb (getD l i 0) limit k)
+  below-off i h k = unfold allBelow in ap allBelow (below-cons i h) ∙ ap (λ (b : Bool). b && allBelow (drop (i + 1) (take n l))) (le-ltb (getD l i 0) limit k)
 
   pub below-end : (i : ℕ) → n ≤ i → allBelow (drop i (take n l)) ≡ true
-  unfolding allBelow
-  below-end i h = ap allBelow (drop-of-length-le (take n l) {i = i} (omega (arith, length-take-le n l long)))
+  below-end i h = unfold allBelow in ap allBelow (drop-of-length-le (take n l) {i = i} (omega (arith, length-take-le n l long)))
 
 pub below-at : (l : List ℕ) (i : ℕ) → allBelow l ≡ true → i < length l → getD l i 0 < limit
 unfolding allBelow
