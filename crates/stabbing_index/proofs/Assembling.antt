@@ -1,22 +1,21 @@
 -- What the builder lays is the block of the definition: column by column, and then the whole. Assumes nothing.
 use Rattle.basis.proofs.Prelude.{_∙_, _≡_, ap, refl, sym, _+_, _-_, _<_, _≤_, suc, zero, ℕ, List, [], _++_, _∷_, append-assoc, Bool, false, true, eqb, ltb, getD, length, length-append, length-set, set, take, getD-append-add, getD-take, length-take-le, take-all, take-suc-set, le-refl, arith, le-leb, lt-leb, ltb-true, by-test}
-use Rattle.stabbing.specs.Tree.{dayAt, parent, child, leftSibling, lastChild, next, start}
-use Rattle.stabbing.specs.Stored.{latest}
-use Rattle.stabbing.specs.Index.{capacity, dayCount, bucketCount, firstColumn, lastColumn, parentColumn, leftColumn, childColumn, nextColumn, startTable, latestTable, bucketTable, rowCount, indexLength, rowsOk, column, lastOf, headLink, rowLink, bucketOf, inBucket, laid, blockOf}
-use Rattle.stabbing.proofs.Marks.{below-ext}
-use Rattle.stabbing.proofs.Marking.{head-link, head-past, row-past, left-small, child-small, next-small}
-use Rattle.stabbing.proofs.Columns.{column-at, column-length, column-only}
+use Rattle.stabbing_index.proofs.{Names.{dayAt, parent, child, leftSibling, lastChild, next, start, latest, capacity, dayCount, bucketCount, firstColumn, lastColumn, parentColumn, leftColumn, childColumn, nextColumn, startTable, latestTable, bucketTable, rowCount, indexLength, rowsOk, column, lastOf, headLink, rowLink, bucketOf, inBucket, laid, blockOf, below-ext, head-link, head-past, row-past, left-small, child-small, next-small, column-at, column-length, column-only, Columns, ColumnsOf, FilledTo, LinkedOf, ChainedOf, Dayed, DaysAsks, Extends, lowerWord, nameWords, nameCount, MarksIn, markWords, Blank, beside, linkWords, dayWords, RowsOf}, Laying.{laid-more, column-ext}, Links.{held-at, held-same}}
 use Rattle.stabbing_index.specs.Build.{Builds}
-use Rattle.stabbing_index.specs.Contracts.{Columns, ColumnsOf, FilledTo, LinkedOf, ChainedOf, Dayed, DaysAsks, Extends, lowerWord, nameWords, nameCount, MarksIn, markWords, Blank, beside, linkWords, dayWords, RowsOf}
-use Rattle.stabbing_index.proofs.Laying.{laid-more, column-ext}
-use Rattle.stabbing_index.proofs.Links.{held-at}
-use Rattle.stabbing_index.proofs.Chains.{same-last}
 use Rattle.stabbing.proofs.Block.{rows-sorted, rows-days}
+
+-- the last day of the row with the mark m, by the column
+pub last-some : (ys : List ℕ) (m : ℕ) → 1 ≤ m → getD ys (m - 1) 0 ≡ lastOf ys m
+last-some ys zero h = absurd (omega arith)
+last-some ys (suc p) h = let z : suc p - 1 ≡ p = omega arith in rw z
+
+same-last : {xs ys fs ls : List ℕ} {n : ℕ} (m : ℕ) → Columns xs ys fs ls n → m ≤ n → lastOf ys m ≡ lastOf ls m
+same-last zero q h = refl
+same-last (suc p) q h = q .lasts p h
 
 -- a word of a column that is laid
 laid-at : {e x : List ℕ} {a b : ℕ} (size : ℕ) (f : ℕ → ℕ) → Extends e a b (column size f) x → b ≡ a + size → b ≤ length e → (j : ℕ) → j < size → getD x (a + j) 0 ≡ f j
-laid-at {e} {x} {a} {b} size f i t h j g =
-    let l : length (take a e) ≡ a = length-take-le a e (omega arith) in
+laid-at {e} {x} {a} {b} size f i t h j g = let l : length (take a e) ≡ a = length-take-le a e (omega arith) in
     sym (getD-take b x (a + j) 0 (omega arith))
     ∙ ap (λ (l : List ℕ). getD l (a + j) 0) (i .front)
     ∙ ap (λ (k : ℕ). getD (take a e ++ column size f) (k + j) 0) (sym l)
@@ -41,8 +40,7 @@ padded (x ∷ xs) m (suc p) = padded xs m p
 -- ---- a column of the rows
 pub rows-laid : {e m x : List ℕ} {a : ℕ} (xs : List ℕ) (n : ℕ) → n ≤ 1024 → n ≤ length xs → Extends e a (a + length (take n xs)) (take n xs) m
     → Extends m (a + n) (a + n + (1024 - n)) (column (1024 - n) (λ _. 0)) x → Extends e a (a + 1024) (column capacity (dayAt (take n xs))) x
-rows-laid {a = a} xs n h g i j =
-    let l : length (take n xs) ≡ n = length-take-le n xs g in
+rows-laid {a = a} xs n h g i j = let l : length (take n xs) ≡ n = length-take-le n xs g in
     let t : a + n + (1024 - n) ≡ a + 1024 = omega arith in
     let ws : List ℕ = take n xs ++ column (1024 - n) (λ _. 0) in
     let s : length ws ≡ 1024 = length-append (take n xs) (column (1024 - n) (λ _. 0)) ∙ omega (arith, column-length (1024 - n) (λ _. 0)) in
@@ -69,8 +67,7 @@ module _ {xs ys fs ls : List ℕ} {n : ℕ} (q : Columns xs ys fs ls n) where
   past-rows p h = row-past fs ls (next fs ls) p (omega (arith, q .count))
 
   last-children : {cs : List ℕ} → FilledTo cs (headLink fs ls (λ v. child fs ls (suc v) n)) n → FilledTo cs (headLink fs ls (lastChild fs ls)) n
-  unfolding lastChild
-  last-children w = record { size = w .size; words = λ v h. w .words v h ∙ rw (q .count); rest = w .rest }
+  last-children w = unfold lastChild in held-same w (λ v. rw (q .count))
 
 -- ---- the links and the tables by day, one column after another
 pub days-laid : {fs ls ss bs : List ℕ} → Dayed fs ls ss bs dayCount → {e m x : List ℕ} → Extends e startTable (startTable + length ss) ss m → Extends m latestTable (latestTable + length bs) bs x → Extends e startTable bucketTable (dayWords fs ls) x
@@ -115,9 +112,7 @@ module _ {xs ys ps qs cs ns : List ℕ} {n : ℕ} (q : ColumnsOf xs ys n) (found
 
   pub tree-laid : {e₀ e₁ e₂ e₃ e₄ e₅ : List ℕ} → Extends e₀ parentColumn (parentColumn + length ps) ps e₁ → Extends e₁ leftColumn childColumn (markWords ys qs) e₂ → Extends e₂ childColumn nextColumn (markWords ys cs) e₃
       → Extends e₃ nextColumn startTable (markWords ys ns) e₄ → Extends e₄ startTable bucketTable (dayWords fs ls) e₅ → Extends e₀ parentColumn bucketTable (linkWords fs ls ++ dayWords fs ls) e₅
-  unfolding linkWords
-  tree-laid parents left child chain days =
-      laid-more (laid-more (laid-more (laid-more
+  tree-laid parents left child chain days = unfold linkWords in laid-more (laid-more (laid-more (laid-more
       (laid-column capacity (headLink fs ls (parent fs ls)) (found .0 .parents .size) (λ p _. held-at (found .0 .parents) (past-heads q (parent fs ls)) p) parents)
       (marks-laid q (found .0 .lefts) (past-heads q (leftSibling fs ls)) (left-small fs ls) left))
       (marks-laid q (last-children q (found .0 .children)) (past-heads q (lastChild fs ls)) (child-small fs ls) child))
@@ -127,16 +122,14 @@ module _ {xs ys ps qs cs ns : List ℕ} {n : ℕ} (q : ColumnsOf xs ys n) (found
 -- ---- the whole block
 -- the rows of a bucket, of the first n numbers
 bucket-take : (ns : List ℕ) (n b k : ℕ) → k ≤ n → inBucket ns b k ≡ inBucket (take n ns) b k
-unfolding inBucket
-bucket-take ns n b k h = below-ext (λ p. eqb (bucketOf (getD ns p 0)) b) (λ p. eqb (bucketOf (getD (take n ns) p 0)) b) k (λ p g. rw (getD-take n ns p 0 (omega arith)))
+bucket-take ns n b k h = unfold inBucket in below-ext (λ p. eqb (bucketOf (getD ns p 0)) b) (λ p. eqb (bucketOf (getD (take n ns) p 0)) b) k (λ p g. rw (getD-take n ns p 0 (omega arith)))
 
 -- the words of the buckets, by the definition
 named : List ℕ → List ℕ → List ℕ → List ℕ
 named ns fs ls = column bucketCount (λ b. inBucket ns b (length fs)) ++ column capacity (rowLink fs ls (λ p. inBucket ns (bucketOf (getD ns p 0)) p))
 
 names-laid : (ns fs ls : List ℕ) (n : ℕ) → length fs ≡ n → nameWords ns n ≡ named (take n ns) fs ls
-unfolding named
-names-laid ns fs ls n c = rw (
+names-laid ns fs ls n c = unfold named in rw (
   column-ext bucketCount (λ b. inBucket ns b n) (λ b. inBucket (take n ns) b (length fs)) (λ b _. rw c (bucket-take ns n b n (le-refl n))),
   column-ext capacity (lowerWord ns n) (rowLink fs ls (λ p. inBucket (take n ns) (bucketOf (getD (take n ns) p 0)) p)) (λ p _. rw c (by-test (ltb p n)
       (λ e. rw (e, getD-take n ns p 0 (ltb-true p n e)) (bucket-take ns n (bucketOf (getD ns p 0)) p (omega (arith, ltb-true p n e))))
@@ -145,14 +138,12 @@ names-laid ns fs ls n c = rw (
 
 -- the count in the word after them all
 counted : {e x ws : List ℕ} {size : ℕ} (v : ℕ) → Extends e 0 size ws x → length e ≡ size + 1 → set x size v ≡ ws ++ (v ∷ [])
-counted {x = x} {size = size} v i h =
-    sym (take-all (suc size) (set x size v) (omega (arith, length-set x size v, i .size)))
+counted {x = x} {size = size} v i h = sym (take-all (suc size) (set x size v) (omega (arith, length-set x size v, i .size)))
     ∙ take-suc-set x size v (omega (arith, i .size))
     ∙ ap (λ (l : List ℕ). l ++ (v ∷ [])) (i .front)
 
 whole : (ns fs ls : List ℕ) (n : ℕ) → length fs ≡ n → column capacity (dayAt ns) ++ column capacity (dayAt fs) ++ column capacity (dayAt ls) ++ (linkWords fs ls ++ dayWords fs ls) ++ named ns fs ls ++ (n ∷ []) ≡ blockOf ns fs ls
-unfolding blockOf laid linkWords dayWords named
-whole ns fs ls n e = rw (sym e) (simp append-assoc)
+whole ns fs ls n e = unfold blockOf laid linkWords dayWords named in rw (sym e) (simp append-assoc)
 
 -- all that is laid, and the count, make the block
 module _ {e₀ e₁ e₂ e₃ e₄ e₅ us vs ws ts rs : List ℕ} {a b c d f g : ℕ} (numbers : Extends e₀ a b us e₁) (firsts : Extends e₁ b c vs e₂) (lasts : Extends e₂ c d ws e₃) (tree : Extends e₃ d f ts e₄) (names : Extends e₄ f g rs e₅) where

@@ -1,10 +1,7 @@
 -- Words laid into a block from a place on. Assumes nothing.
 use Rattle.basis.proofs.Prelude.{_∙_, _≡_, ap, refl, sym, _+_, _-_, _<_, _≤_, ℕ, List, _++_, append-assoc, append-nil, drop, drop-of-length-le, getD, length, length-append, length-drop, length-set, set, take, ext-getD, getD-drop, getD-set-other, getD-set-same, getD-take, length-take-le, take-add, take-all, take-append-add, take-append-seam, take-at, take-take, arith, by-eq}
-use Rattle.buffer.specs.Buffer.{overlaid}
-use Rattle.buffer.proofs.Overlaid.{overlaid-all}
-use Rattle.stabbing.specs.Index.{column}
-use Rattle.stabbing.proofs.Columns.{column-only, column-at, column-length}
-use Rattle.stabbing_index.specs.Contracts.{Extends}
+use Rattle.buffer.{specs.Buffer.overlaid, proofs.Overlaid.overlaid-all}
+use Rattle.stabbing_index.proofs.Names.{column, column-only, column-at, column-length, Extends}
 
 -- k words from base on are those of f, and the words before base are kept
 pub record Laying (entry : List ℕ) (base k : ℕ) (f : ℕ → ℕ) (now : List ℕ) : Type 0 where
@@ -43,8 +40,7 @@ module _ {entry : List ℕ} {base : ℕ} {f : ℕ → ℕ} where
 pub laid-part : (entry words after : List ℕ) (base size : ℕ) → base + length words ≤ length entry → size ≡ length entry - base
     → after ≡ overlaid words (take size (drop base entry))
     → Extends entry base (base + length words) words (take base entry ++ (after ++ drop size (drop base entry)))
-laid-part entry words after base size h e p =
-    let rest = drop (length words) (drop base entry) in
+laid-part entry words after base size h e p = let rest = drop (length words) (drop base entry) in
     let l : length (take base entry) ≡ base = length-take-le base entry (omega arith) in
     let d : length (drop base entry) ≡ length entry - base = length-drop base entry in
     let put : after ≡ words ++ rest = p ∙ rw (take-all size (drop base entry) (omega arith)) (overlaid-all words (drop base entry) (omega arith)) in

@@ -1,7 +1,7 @@
+pub mod Names
 pub mod Rows
 pub mod Parents
 pub mod Links
-pub mod Chains
 pub mod DayTables
 pub mod Words
 pub mod Laying

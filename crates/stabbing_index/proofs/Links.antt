@@ -1,69 +1,42 @@
 -- The steps of the builder over what it reads and has written, apart from the code. Assumes nothing.
 use Rattle.basis.proofs.Prelude.{_∙_, _≡_, refl, sym, _+_, _-_, _<_, _≤_, suc, zero, zero-le, ℕ, List, Bool, false, true, _≢_, eqb, leb, ltb, List·getD-eq-default, getD, getD-replicate, length, length-replicate, length-set, replicate, set, getD-set-other, getD-set-same, le-refl, add-one, arith, eq-eqb, eqb-false, eqb-true, le-leb, lt-leb, lt-ltb, ltb-false, ltb-true, ne-eqb, by-eq, by-mark, by-test, clash}
-use Rattle.stabbing_index.specs.declared.Way.{Way}
-use Rattle.stabbing.specs.Tree.{below, dayAt, head, next, parent, child, leftSibling}
-use Rattle.stabbing.specs.Stored.{nearest}
-use Rattle.stabbing.specs.Index.{headLink, rowLink}
-use Rattle.stabbing.specs.Contracts.{Head, bottom}
-use Rattle.stabbing.proofs.Marks.{below-hit, below-miss}
-use Rattle.stabbing.proofs.Marking.{head-link}
-use Rattle.stabbing.proofs.Links.{bottom-is, parent-is, child-is, left-is, head-false, next-none, next-some}
-use Rattle.stabbing_index.proofs.Parents.{parent-nearest, left-passed, child-next, child-same}
-use Rattle.stabbing_index.specs.Contracts.{passed, Columns, FilledTo, Linked, Chained, headAt, ClimbAt, Climbed, HeadAt}
+use Rattle.stabbing_index.proofs.{Names.{Way, below, dayAt, head, next, parent, child, leftSibling, nearest, headLink, rowLink, Head, bottom, below-hit, below-miss, head-link, bottom-is, parent-is, child-is, left-is, head-false, next-none, next-some, passed, Columns, FilledTo, Linked, Chained, headAt, ClimbAt, Climbed, HeadAt}, Parents.{parent-nearest, left-passed, child-next, child-same}}
 
 -- a head by its column
 pub head-is : {xs ys fs ls : List ℕ} {n : ℕ} (k : ℕ) → Columns xs ys fs ls n → k < n → headAt xs n k ≡ head fs ls k
-unfolding head
-head-is {xs} {ys} {fs} {ls} {n} k q h = by-test (eqb (suc k) n)
+head-is {xs} {ys} {fs} {ls} {n} k q h = unfold head in by-test (eqb (suc k) n)
     (λ e. rw (q .count, e))
-    (λ e.
-    let ne : suc k ≢ n = eqb-false (suc k) n e in
-    rw (q .count, e, q .firsts k h, q .firsts (suc k) (omega arith)))
+    (λ e. let ne : suc k ≢ n = eqb-false (suc k) n e in rw (q .count, e, q .firsts k h, q .firsts (suc k) (omega arith)))
 
 -- ---- the way upward, with no fuel to follow
 module _ (fs ls : List ℕ) (l : ℕ) where
-  nearest-more : (f m : ℕ) → m ≤ f → nearest fs ls l (suc f) m ≡ nearest fs ls l f m
-  unfolding nearest
-  nearest-more zero zero h = refl
-  nearest-more zero (suc v) h = absurd (omega arith)
-  nearest-more (suc f) zero h = refl
-  nearest-more (suc f) (suc v) h = by-test (leb l (dayAt ls v))
-      (λ e. rw (e, nearest))
-      (λ e. rw (e, nearest) (nearest-more f (parent fs ls v) (omega (arith, parent-is fs ls v .within))))
+  way-more : (f m : ℕ) → m ≤ f → (nearest fs ls l (suc f) m ≡ nearest fs ls l f m) × ((k : ℕ) → passed fs ls l (suc f) m k ≡ passed fs ls l f m k)
+  unfolding nearest passed
+  way-more zero zero h = (refl, λ k. refl)
+  way-more zero (suc v) h = absurd (omega arith)
+  way-more (suc f) zero h = (refl, λ k. refl)
+  way-more (suc f) (suc v) h = let r = way-more f (parent fs ls v) (omega (arith, parent-is fs ls v .within)) in by-test (leb l (dayAt ls v))
+      (λ e. (rw (e, nearest), λ k. rw (e, passed)))
+      (λ e. (rw (e, nearest) (r .0), λ k. rw (e, passed) (r .1 (suc v))))
 
-  passed-more : (f m k : ℕ) → m ≤ f → passed fs ls l (suc f) m k ≡ passed fs ls l f m k
-  unfolding passed
-  passed-more zero zero k h = refl
-  passed-more zero (suc v) k h = absurd (omega arith)
-  passed-more (suc f) zero k h = refl
-  passed-more (suc f) (suc v) k h = by-test (leb l (dayAt ls v))
-      (λ e. rw (e, passed))
-      (λ e. rw (e, passed) (passed-more f (parent fs ls v) (suc v) (omega (arith, parent-is fs ls v .within))))
-
-  way-none : (f k : ℕ) → (nearest fs ls l f 0 ≡ 0) × (passed fs ls l f 0 k ≡ k)
+  way-none : (f k : ℕ) → (0 ≡ nearest fs ls l f 0) × (k ≡ passed fs ls l f 0 k)
   unfolding nearest passed
   way-none zero k = (refl, refl)
   way-none (suc f) k = (refl, refl)
 
-  way-here : (v k : ℕ) → v < length fs → l ≤ dayAt ls v → (nearest fs ls l (length fs) (suc v) ≡ suc v) × (passed fs ls l (length fs) (suc v) k ≡ k)
-  unfolding nearest passed
-  way-here v k h e = (
-    sym (nearest-more (length fs) (suc v) h) ∙ rw (le-leb l (dayAt ls v) e, nearest),
-    sym (passed-more (length fs) (suc v) k h) ∙ rw (le-leb l (dayAt ls v) e, passed),
-  )
+  module _ (v k : ℕ) (h : v < length fs) where
+    way-here : l ≤ dayAt ls v → Climbed fs ls l (suc v) k (record { parent = suc v; left = k })
+    way-here e = unfold nearest passed in let w = way-more (length fs) (suc v) h in let t = le-leb l (dayAt ls v) e in
+        record { parent = sym (rw (t, nearest)) ∙ w .0; left = sym (rw (t, passed)) ∙ w .1 k }
 
-  way-up : (v k : ℕ) → v < length fs → dayAt ls v < l
-      → (nearest fs ls l (length fs) (suc v) ≡ nearest fs ls l (length fs) (parent fs ls v)) × (passed fs ls l (length fs) (suc v) k ≡ passed fs ls l (length fs) (parent fs ls v) (suc v))
-  unfolding nearest passed
-  way-up v k h e = (
-    sym (nearest-more (length fs) (suc v) h) ∙ rw (lt-leb l (dayAt ls v) e, nearest),
-    sym (passed-more (length fs) (suc v) k h) ∙ rw (lt-leb l (dayAt ls v) e, passed),
-  )
+    way-up : dayAt ls v < l → {w : Way} → Climbed fs ls l (parent fs ls v) (suc v) w → Climbed fs ls l (suc v) k w
+    way-up e g = unfold nearest passed in let w = way-more (length fs) (suc v) h in let t = lt-leb l (dayAt ls v) e in
+        record { parent = g .parent ∙ sym (rw (t, nearest)) ∙ w .0; left = g .left ∙ sym (rw (t, passed)) ∙ w .1 k }
 
 -- the steps of `climb`
 module _ {xs ys fs ls : List ℕ} {n : ℕ} {ps : List ℕ} {m : ℕ} (q : ClimbAt xs ys fs ls n ps m) where
   pub ends : {l k : ℕ} → m ≡ 0 → Climbed fs ls l m k (record { parent = 0; left = k })
-  ends {l} {k} z = let w = way-none fs ls l (length fs) k in rw z (record { parent = sym (w .0); left = sym (w .1) })
+  ends {l} {k} z = let w = way-none fs ls l (length fs) k in rw z (record { parent = w .0; left = w .1 })
 
   pub inside : m ≤ 1024
   inside = omega (arith, q .within, q .columns .few)
@@ -72,24 +45,18 @@ module _ {xs ys fs ls : List ℕ} {n : ℕ} {ps : List ℕ} {m : ℕ} (q : Climb
     abbrev v : ℕ
     v = m - 1
 
-    z : m ≡ suc v
-    z = omega arith
-
-    in-rows : v < n
-    in-rows = omega (arith, q .within)
-
-    h : v < length fs
-    h = rw (q .columns .count) in-rows
+    z : (m ≡ suc v) × (v < n) × (v < length fs)
+    z = (omega arith, omega (arith, q .within), omega (arith, q .within, q .columns .count))
 
     pub stays : {l k : ℕ} → l ≤ getD ys v 0 → Climbed fs ls l m k (record { parent = m; left = k })
-    stays {l} {k} e = let w = way-here fs ls l v k h (rw (q .columns .lasts v in-rows) at e) in record { parent = z ∙ sym (w .0) ∙ rw (← z); left = sym (w .1) ∙ rw (← z) }
+    stays {l} {k} e = rw (z .0) (way-here fs ls l v k (z .2) (rw (q .columns .lasts v (z .1)) at e))
 
     module _ {j : ℕ} (y : j ≡ getD ps v 0) where
       j-is : j ≡ parent fs ls v
-      j-is = y ∙ q .parents v (omega (arith, z)) (q .at-head v z)
+      j-is = y ∙ q .parents v (omega (arith, z .0)) (q .at-head v (z .0))
 
       pub falls : j < m
-      falls = omega (arith, j-is, z, parent-is fs ls v .within)
+      falls = omega (arith, j-is, z .0, parent-is fs ls v .within)
 
       pub asks : ClimbAt xs ys fs ls n ps j
       asks = record {
@@ -100,10 +67,7 @@ module _ {xs ys fs ls : List ℕ} {n : ℕ} {ps : List ℕ} {m : ℕ} (q : Climb
       }
 
       pub goes-up : {l k : ℕ} → getD ys v 0 < l → {w : Way} → Climbed fs ls l j m w → Climbed fs ls l m k w
-      goes-up {l} {k} e {w} g =
-          let t = way-up fs ls l v k h (rw (q .columns .lasts v in-rows) at e) in
-          let u : Climbed fs ls l (parent fs ls v) (suc v) w = rw (← z, ← j-is) g in
-          record { parent = u .parent ∙ sym (t .0) ∙ rw (← z); left = u .left ∙ sym (t .1) ∙ rw (← z) }
+      goes-up {l} {k} e g = rw (z .0) (way-up fs ls l v k (z .2) (rw (q .columns .lasts v (z .1)) at e) (rw (← z .0, ← j-is) g))
 
 -- ---- a column, one word more
 held-none : {f : ℕ → ℕ} (size : ℕ) → size ≡ 1024 → FilledTo (replicate size 0) f 0
@@ -132,6 +96,9 @@ module _ {ws : List ℕ} {f : ℕ → ℕ} {k : ℕ} (q : FilledTo ws f k) where
     rest = λ v g. getD-set-other ws k v x 0 (λ e. omega arith) ∙ q .rest v (omega arith);
   }
 
+  pub held-same : {g : ℕ → ℕ} → ((v : ℕ) → f v ≡ g v) → FilledTo ws g k
+  held-same e = record { size = q .size; words = λ v h. q .words v h ∙ e v; rest = q .rest }
+
   -- every word of it, where f too is 0 from k on
   pub held-at : ((v : ℕ) → k ≤ v → f v ≡ 0) → (v : ℕ) → getD ws v 0 ≡ f v
   held-at z v = by-test (ltb v k) (λ e. q .words v (ltb-true v k e)) (λ e. q .rest v (ltb-false v k e) ∙ sym (z v (ltb-false v k e)))
@@ -139,8 +106,7 @@ module _ {ws : List ℕ} {f : ℕ → ℕ} {k : ℕ} (q : FilledTo ws f k) where
 -- ---- one position more
 child-none : (fs ls : List ℕ) (k : ℕ) → child fs ls (suc k) (suc k) ≡ 0
 child-none fs ls k = by-mark (child fs ls (suc k) (suc k)) (λ z. z) (λ b z.
-    let c = child-is fs ls (suc k) (suc k) in
-    absurd (omega (arith, c .within, c .hit b z .1, parent-is fs ls b .within)))
+    let c = child-is fs ls (suc k) (suc k) in absurd (omega (arith, c .within, c .hit b z .1, parent-is fs ls b .within)))
 
 module _ (fs ls : List ℕ) where
   -- a link of what is no head
@@ -155,8 +121,7 @@ module _ (fs ls : List ℕ) where
   next-link k h e = sym (rw (lt-ltb (suc k) (length fs) (head-false fs ls k h e .0), next-some fs ls k h e))
 
 pub none-yet : {fs ls : List ℕ} (size : ℕ) → size ≡ 1024 → Linked fs ls (replicate size 0) (replicate size 0) (replicate size 0) 0 × Chained fs ls (replicate size 0) 0
-unfolding next
-none-yet {fs} size e = (
+none-yet {fs} size e = unfold next in (
   record { parents = held-none size e; lefts = held-none size e; children = held-none size e },
   held-skip (held-none size e) (by-test (ltb 0 (length fs)) (λ z. rw z) (λ z. rw z)),
 )
@@ -170,14 +135,12 @@ module _ {xs ys fs ls : List ℕ} {n k prev : ℕ} {ps qs cs : List ℕ} (q : He
   room = omega (arith, q .inside, q .columns .few)
 
   pub asks-climb : ClimbAt xs ys fs ls n ps prev
-  asks-climb =
-      let i = bottom-is fs ls k in
-      record {
-        columns = q .columns;
-        within = omega (arith, q .before, i .within, q .inside);
-        at-head = λ v z. i .hit v (sym (q .before) ∙ z);
-        parents = λ v a hv. q .links .parents .words v (omega (arith, q .before, i .within)) ∙ head-link fs ls (parent fs ls) v (omega (arith, q .before, i .within, in-list)) hv;
-      }
+  asks-climb = let i = bottom-is fs ls k in record {
+    columns = q .columns;
+    within = omega (arith, q .before, i .within, q .inside);
+    at-head = λ v z. i .hit v (sym (q .before) ∙ z);
+    parents = λ v a hv. q .links .parents .words v (omega (arith, q .before, i .within)) ∙ head-link fs ls (parent fs ls) v (omega (arith, q .before, i .within, in-list)) hv;
+  }
 
   module _ {l : ℕ} (e : l ≡ getD ys k 0) {w : Way} (g : Climbed fs ls l prev 0 w) where
     l-is : l ≡ dayAt ls k
@@ -200,25 +163,23 @@ module _ {xs ys fs ls : List ℕ} {n k prev : ℕ} {ps qs cs : List ℕ} (q : He
         → ((v : ℕ) → parent fs ls k ≡ suc v → getD cs′ v 0 ≡ suc k)
         → ((v : ℕ) → parent fs ls k ≢ suc v → getD cs′ v 0 ≡ getD cs v 0)
         → Linked fs ls (set ps k (w .parent)) (set qs k (w .left)) cs′ (suc k)
-    linked cs′ s c₁ c₂ =
-        let i = parent-is fs ls k in
-        record {
-          parents = held-set (q .links .parents) (w .parent) room (parent-of ∙ sym (head-link fs ls (parent fs ls) k in-list (q .top)));
-          lefts = held-set (q .links .lefts) (w .left) room (left-of ∙ sym (head-link fs ls (leftSibling fs ls) k in-list (q .top)));
-          children = record {
-            size = s;
-            words = λ v a. by-test (eqb (parent fs ls k) (suc v))
-                (λ t.
-                let y : parent fs ls k ≡ suc v = eqb-true _ _ t in
-                c₁ v y ∙ sym (head-link fs ls (λ u. child fs ls (suc u) (suc k)) v (omega (arith, in-list)) (i .hit v y .0) ∙ child-next fs ls (suc v) k (q .top) y))
-                (λ t.
-                let y : parent fs ls k ≢ suc v = eqb-false _ _ t in
-                c₂ v y ∙ by-eq v k (omega arith)
-                (λ z. rw z (q .links .children .rest k (le-refl k) ∙ sym (head-link fs ls (λ u. child fs ls (suc u) (suc k)) k in-list (q .top) ∙ child-none fs ls k)))
-                (λ lt. q .links .children .words v lt ∙ rw (child-same fs ls (suc v) k (λ _. y))));
-            rest = λ v a. c₂ v (λ y. omega (arith, i .within)) ∙ q .links .children .rest v (omega arith);
-          };
-        }
+    linked cs′ s c₁ c₂ = let i = parent-is fs ls k in record {
+      parents = held-set (q .links .parents) (w .parent) room (parent-of ∙ sym (head-link fs ls (parent fs ls) k in-list (q .top)));
+      lefts = held-set (q .links .lefts) (w .left) room (left-of ∙ sym (head-link fs ls (leftSibling fs ls) k in-list (q .top)));
+      children = record {
+        size = s;
+        words = λ v a. by-test (eqb (parent fs ls k) (suc v))
+            (λ t.
+            let y : parent fs ls k ≡ suc v = eqb-true _ _ t in
+            c₁ v y ∙ sym (head-link fs ls (λ u. child fs ls (suc u) (suc k)) v (omega (arith, in-list)) (i .hit v y .0) ∙ child-next fs ls (suc v) k (q .top) y))
+            (λ t.
+            let y : parent fs ls k ≢ suc v = eqb-false _ _ t in
+            c₂ v y ∙ by-eq v k (omega arith)
+            (λ z. rw z (q .links .children .rest k (le-refl k) ∙ sym (head-link fs ls (λ u. child fs ls (suc u) (suc k)) k in-list (q .top) ∙ child-none fs ls k)))
+            (λ lt. q .links .children .words v lt ∙ rw (child-same fs ls (suc v) k (λ _. y))));
+        rest = λ v a. c₂ v (λ y. omega (arith, i .within)) ∙ q .links .children .rest v (omega arith);
+      };
+    }
 
     -- no parent
     pub linked-root : w .parent ≡ 0 → Linked fs ls (set ps k (w .parent)) (set qs k (w .left)) cs (suc k)
@@ -226,26 +187,10 @@ module _ {xs ys fs ls : List ℕ} {n k prev : ℕ} {ps qs cs : List ℕ} (q : He
 
     -- a parent: k is its last child so far
     pub linked-child : w .parent ≢ 0 → Linked fs ls (set ps k (w .parent)) (set qs k (w .left)) (set cs (w .parent - 1) (k + 1)) (suc k)
-    linked-child z =
-        let u : ℕ = w .parent - 1 in
+    linked-child z = let u : ℕ = w .parent - 1 in
         linked (set cs u (k + 1)) (length-set cs u _ ∙ q .links .children .size)
         (λ v y. let x : u ≡ v = omega (arith, parent-of) in rw (← x) (getD-set-same cs u (k + 1) 0 (omega (arith, parent-small, room, q .links .children .size)) ∙ omega arith))
         (λ v y. getD-set-other cs u v (k + 1) 0 (λ x. y (omega (arith, parent-of))))
-
--- the ways of `is_head`, as the code adds 1
-module _ (xs : List ℕ) (n k : ℕ) where
-  pub head-last : k + 1 ≡ n → true ≡ headAt xs n k
-  head-last e = let z : suc k ≡ n = omega arith in sym (rw (eq-eqb (suc k) n z))
-
-  module _ (e : k + 1 ≢ n) where
-    other : eqb (suc k) n ≡ false
-    other = ne-eqb (suc k) n (λ z. e (omega arith))
-
-    pub head-no : getD xs k 0 ≡ getD xs (k + 1) 0 → false ≡ headAt xs n k
-    head-no h = sym (rw (other, eq-eqb (getD xs k 0) (getD xs (suc k) 0) (rw add-one at h)))
-
-    pub head-yes : getD xs k 0 ≢ getD xs (k + 1) 0 → true ≡ headAt xs n k
-    head-yes h = sym (rw (other, ne-eqb (getD xs k 0) (getD xs (suc k) 0) (rw add-one at h)))
 
 -- ---- `link`, position after position: the links of the heads before k, of which prev is the last, and of the chains
 pub record Linking (xs ys fs ls : List ℕ) (n : ℕ) (ps qs cs ns : List ℕ) (prev k : ℕ) : Type 0 where
@@ -256,8 +201,7 @@ pub record Linking (xs ys fs ls : List ℕ) (n : ℕ) (ps qs cs ns : List ℕ) (
   pub within : k ≤ n
 
 pub starts : {xs ys fs ls : List ℕ} {n : ℕ} {ps qs cs ns : List ℕ} → Columns xs ys fs ls n → Linked fs ls ps qs cs 0 → Chained fs ls ns 0 → Linking xs ys fs ls n ps qs cs ns 0 0
-unfolding below
-starts q l c = record { columns = q; links = l; before = refl; chains = c; within = zero-le }
+starts q l c = unfold below in record { columns = q; links = l; before = refl; chains = c; within = zero-le }
 
 module _ {xs ys fs ls : List ℕ} {n k prev : ℕ} {ps qs cs ns : List ℕ} (i : Linking xs ys fs ls n ps qs cs ns prev k) where
   pub all-linked : n ≤ k → Linked fs ls ps qs cs n × Chained fs ls ns n
@@ -271,8 +215,7 @@ module _ {xs ys fs ls : List ℕ} {n k prev : ℕ} {ps qs cs ns : List ℕ} (i :
     asks-head z = record { columns = i .columns; inside = inside; top = sym is-head ∙ z; before = i .before; links = i .links }
 
     pub turn-head : r ≡ true → {ps′ qs′ cs′ : List ℕ} → Linked fs ls ps′ qs′ cs′ (suc k) → Linking xs ys fs ls n ps′ qs′ cs′ ns (k + 1) (k + 1)
-    turn-head z g =
-        let h : Head fs ls k = sym is-head ∙ z in
+    turn-head z g = let h : Head fs ls k = sym is-head ∙ z in
         rw (add-one k) (record { columns = i .columns; links = g; before = sym (below-hit (head fs ls) k h); chains = held-skip (i .chains) (next-link-none fs ls k h); within = inside })
 
     -- no head
@@ -284,17 +227,14 @@ module _ {xs ys fs ls : List ℕ} {n k prev : ℕ} {ps qs cs ns : List ℕ} (i :
       goes-on = omega (arith, head-false fs ls k (rw (i .columns .count) inside) np .0, i .columns .count, i .columns .few)
 
       pub turn-skip : Linking xs ys fs ls n ps qs cs (set ns (k + 1) (k + 1)) prev (k + 1)
-      turn-skip =
-          let c = held-skip (i .links .children) (link-none fs ls (λ v. child fs ls (suc v) k) k np) in
-          let same : (v : ℕ) → child fs ls (suc v) (suc k) ≡ child fs ls (suc v) k = λ v. child-same fs ls (suc v) k (λ hk. absurd (clash hk np)) in
-          rw (add-one k) (record {
-            columns = i .columns;
-            links = record {
-              parents = held-skip (i .links .parents) (link-none fs ls (parent fs ls) k np);
-              lefts = held-skip (i .links .lefts) (link-none fs ls (leftSibling fs ls) k np);
-              children = record { size = c .size; words = λ v h. c .words v h ∙ rw (same v); rest = c .rest };
-            };
-            before = i .before ∙ sym (below-miss (head fs ls) k np);
-            chains = held-set (i .chains) (suc k) (omega (arith, goes-on)) (next-link fs ls k (rw (i .columns .count) inside) np);
-            within = inside;
-          })
+      turn-skip = rw (add-one k) (record {
+        columns = i .columns;
+        links = record {
+          parents = held-skip (i .links .parents) (link-none fs ls (parent fs ls) k np);
+          lefts = held-skip (i .links .lefts) (link-none fs ls (leftSibling fs ls) k np);
+          children = held-same (held-skip (i .links .children) (link-none fs ls (λ v. child fs ls (suc v) k) k np)) (λ v. rw (child-same fs ls (suc v) k (λ hk. absurd (clash hk np))));
+        };
+        before = i .before ∙ sym (below-miss (head fs ls) k np);
+        chains = held-set (i .chains) (suc k) (omega (arith, goes-on)) (next-link fs ls k (rw (i .columns .count) inside) np);
+        within = inside;
+      })

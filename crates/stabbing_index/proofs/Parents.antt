@@ -1,19 +1,11 @@
 -- How the links are found when a list is published: each head climbs from the head before it. Assumes nothing.
 use Rattle.basis.proofs.Prelude.{_∙_, _≡_, refl, sym, _<_, _≤_, suc, zero, zero-le, ℕ, List, Bool, _&&_, _≢_, eqb, leb, length, arith, eq-eqb, eqb-true, leb-false, leb-true, both, by-eq, by-mark, by-test, untrue}
-use Rattle.stabbing.specs.Tree.{below, dayAt, head, parent, child, leftSibling}
-use Rattle.stabbing.specs.Stored.{Sorted, nearest}
-use Rattle.stabbing.specs.Contracts.{Head, bottom}
-use Rattle.stabbing.proofs.Marks.{below-is, below-hit, below-miss, below-skip, below-only}
-use Rattle.stabbing.proofs.Links.{bottom-is, parent-is, parent-ge, left-is}
-use Rattle.stabbing.proofs.Starts.{lasting, nearest-is}
-use Rattle.stabbing_index.specs.Contracts.{passed}
+use Rattle.stabbing_index.proofs.Names.{below, dayAt, head, parent, child, leftSibling, Sorted, nearest, Head, bottom, below-is, below-hit, below-miss, below-skip, below-only, bottom-is, parent-is, parent-ge, left-is, lasting, nearest-is, passed}
 
 module _ (fs ls : List ℕ) (sorted : Sorted fs ls) where
   -- a head's parent is the nearest that lasts as long, from the head before it upward
   pub parent-nearest : (a : ℕ) → a < length fs → parent fs ls a ≡ nearest fs ls (dayAt ls a) (length fs) (bottom fs ls a)
-  unfolding parent
-  parent-nearest a h =
-      let i = bottom-is fs ls a in
+  parent-nearest a h = unfold parent in let i = bottom-is fs ls a in
       let t : ℕ → Bool = lasting fs ls sorted (dayAt ls a) in
       below-skip t (bottom fs ls a) a (i .within) (λ x g k e. i .miss x g k (both (head fs ls x) (leb (dayAt ls a) (dayAt ls x)) e .0))
       ∙ sym (nearest-is fs ls sorted (dayAt ls a) (length fs) (bottom fs ls a) (omega (arith, i .within)) (i .hit))
@@ -28,19 +20,15 @@ module _ (fs ls : List ℕ) (sorted : Sorted fs ls) where
 
     -- where the way ends, it is at a's parent
     way-end : (m : ℕ) → Way m → ((v : ℕ) → m ≡ suc v → dayAt ls a ≤ dayAt ls v) → parent fs ls a ≡ m
-    way-end m w f =
-        let i = parent-is fs ls a in
+    way-end m w f = let i = parent-is fs ls a in
         let up : m ≤ parent fs ls a = by-mark m (λ z. rw z zero-le) (λ v z. rw z (parent-ge fs ls v a (w .at-head v z) (omega (arith, w .within)) (f v z))) in
         by-eq m (parent fs ls a) up (λ z. sym z) (λ lt. by-mark (parent fs ls a) (λ z. absurd (omega arith)) (λ b z.
-        let p = i .hit b z in
-        absurd (omega (arith, p .1, w .low b (omega arith) (omega (arith, i .within)) (p .0)))))
+        let p = i .hit b z in absurd (omega (arith, p .1, w .low b (omega arith) (omega (arith, i .within)) (p .0)))))
 
     -- and one step of it
     way-up : (v : ℕ) → Way (suc v) → dayAt ls v < dayAt ls a → Way (parent fs ls v)
-    way-up v w h =
-        let i = parent-is fs ls v in
-        let hv : Head fs ls v = w .at-head v refl in
-        record {
+    way-up v w h = let i = parent-is fs ls v in
+        let hv : Head fs ls v = w .at-head v refl in record {
           within = omega (arith, i .within, w .within);
           at-head = λ u z. i .hit u z .0;
           low = λ x g k hx. by-test (leb x v)
@@ -54,11 +42,8 @@ module _ (fs ls : List ℕ) (sorted : Sorted fs ls) where
         }
 
     child-up : (v : ℕ) → Way (suc v) → child fs ls (parent fs ls v) a ≡ suc v
-    unfolding child
-    child-up v w =
-        let t : ℕ → Bool = λ b. head fs ls b && eqb (parent fs ls b) (parent fs ls v) in
-        let hv : Head fs ls v = w .at-head v refl in
-        below-only t a _ _ (below-is t a) (record {
+    child-up v w = unfold child in let t : ℕ → Bool = λ b. head fs ls b && eqb (parent fs ls b) (parent fs ls v) in
+        let hv : Head fs ls v = w .at-head v refl in below-only t a _ _ (below-is t a) (record {
           within = w .within;
           hit = λ p e. let z : v ≡ p = omega arith in rw (← z) (rw (hv, eq-eqb (parent fs ls v) (parent fs ls v) refl));
           miss = λ x g k e.
@@ -76,9 +61,7 @@ module _ (fs ls : List ℕ) (sorted : Sorted fs ls) where
 
     first : child fs ls (bottom fs ls a) a ≡ 0
     unfolding child below
-    first =
-        let t : ℕ → Bool = λ b. head fs ls b && eqb (parent fs ls b) (bottom fs ls a) in
-        below-skip t 0 a zero-le (λ x _ k e.
+    first = let t : ℕ → Bool = λ b. head fs ls b && eqb (parent fs ls b) (bottom fs ls a) in below-skip t 0 a zero-le (λ x _ k e.
         let b = both (head fs ls x) (eqb (parent fs ls x) (bottom fs ls a)) e in
         let i = bottom-is fs ls a in
         by-test (leb (bottom fs ls a) x)
@@ -86,8 +69,7 @@ module _ (fs ls : List ℕ) (sorted : Sorted fs ls) where
         (λ y. omega (arith, eqb-true (parent fs ls x) (bottom fs ls a) (b .1), parent-is fs ls x .within, leb-false (bottom fs ls a) x y)))
 
     pub left-passed : a < length fs → leftSibling fs ls a ≡ passed fs ls (dayAt ls a) (length fs) (bottom fs ls a) 0
-    left-passed h =
-        let i = bottom-is fs ls a in
+    left-passed h = let i = bottom-is fs ls a in
         left-is fs ls a ∙ left-from (length fs) (bottom fs ls a) 0 (omega (arith, i .within))
         (record {
           within = i .within;
@@ -99,9 +81,7 @@ module _ (fs ls : List ℕ) (sorted : Sorted fs ls) where
 
 -- one head more: the last child of the mark m before a + 1
 pub child-next : (fs ls : List ℕ) (m a : ℕ) → Head fs ls a → parent fs ls a ≡ m → child fs ls m (suc a) ≡ suc a
-unfolding child
-child-next fs ls m a h e = below-hit _ a (rw (h, eq-eqb (parent fs ls a) m e))
+child-next fs ls m a h e = unfold child in below-hit _ a (rw (h, eq-eqb (parent fs ls a) m e))
 
 pub child-same : (fs ls : List ℕ) (m a : ℕ) → (Head fs ls a → parent fs ls a ≢ m) → child fs ls m (suc a) ≡ child fs ls m a
-unfolding child
-child-same fs ls m a f = below-miss _ a (untrue _ (λ e. let b = both (head fs ls a) (eqb (parent fs ls a) m) e in f (b .0) (eqb-true _ _ (b .1))))
+child-same fs ls m a f = unfold child in below-miss _ a (untrue _ (λ e. let b = both (head fs ls a) (eqb (parent fs ls a) m) e in f (b .0) (eqb-true _ _ (b .1))))

@@ -1,6 +1,6 @@
 -- Rows that can be published, row by row. Assumes nothing.
 use Rattle.basis.proofs.Prelude.{_∙_, _≡_, refl, sym, _+_, _<_, _≤_, zero-le, ℕ, List, Bool, _&&_, false, true, drop, drop-of-length-le, getD, length, take, drop-cons, getD-take, length-take-le, add-one, arith}
-use Rattle.stabbing.specs.Index.{rowOk, mayFollow, rowsAfter, rowsOk}
+use Rattle.stabbing_index.proofs.Names.{rowOk, mayFollow, rowsAfter, rowsOk}
 
 -- what is still to be tested decides: of the first n rows, from the row k on, after a row with the days f and l
 pub record Rest (xs ys : List ℕ) (n f l k : ℕ) : Type 0 where
@@ -17,8 +17,7 @@ module _ {xs ys : List ℕ} {n f l k : ℕ} (r : Rest xs ys n f l k) where
   long = (length-take-le n xs (r .firsts), length-take-le n ys (r .lasts))
 
   pub rest-none : n ≤ k → true ≡ rowsOk (take n xs) (take n ys)
-  unfolding rowsAfter
-  rest-none h = sym (r .decides ∙ rw (drop-of-length-le (take n xs) {i = k} (omega (arith, long .0)), drop-of-length-le (take n ys) {i = k} (omega (arith, long .1))))
+  rest-none h = unfold rowsAfter in sym (r .decides ∙ rw (drop-of-length-le (take n xs) {i = k} (omega (arith, long .0)), drop-of-length-le (take n ys) {i = k} (omega (arith, long .1))))
 
   module _ (lt : k < n) where
     row : rowsOk (take n xs) (take n ys) ≡ rowOk (getD xs k 0) (getD ys k 0) && mayFollow f l (getD xs k 0) (getD ys k 0) && rowsAfter (getD xs k 0) (getD ys k 0) (drop (k + 1) (take n xs)) (drop (k + 1) (take n ys))

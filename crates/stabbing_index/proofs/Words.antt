@@ -1,10 +1,6 @@
 -- The buckets of the numbers, row by row. Assumes nothing.
 use Rattle.basis.proofs.Prelude.{_∙_, _≡_, ap, refl, sym, _%_, _+_, _<_, suc, zero-le, ℕ, List, Bool, _≢_, eqb, ltb, getD, length, length-set, set, getD-set-other, getD-set-same, le-refl, add-one, arith, eqb-false, eqb-true, le-ltb, lt-ltb, ltb-false, ltb-true, by-test}
-use Rattle.stabbing.specs.Tree.{below}
-use Rattle.stabbing.specs.Index.{capacity, bucketCount, bucketTable, lowerColumn, rowCount, indexLength, column, bucketOf, inBucket}
-use Rattle.stabbing.proofs.Marks.{below-hit, below-miss}
-use Rattle.stabbing_index.specs.Contracts.{Extends, lowerWord, nameWords, Blank}
-use Rattle.stabbing_index.proofs.Laying.{laying-all, laid-more}
+use Rattle.stabbing_index.proofs.{Names.{below, capacity, bucketCount, bucketTable, lowerColumn, rowCount, indexLength, column, bucketOf, inBucket, below-hit, below-miss, Extends, lowerWord, nameWords, Blank}, Laying.{laying-all, laid-more}}
 
 -- of the numbers xs the first k are in their buckets, and the words before the buckets are kept
 pub record Naming (entry xs : List ℕ) (k : ℕ) (now : List ℕ) : Type 0 where
@@ -14,8 +10,7 @@ pub record Naming (entry xs : List ℕ) (k : ℕ) (now : List ℕ) : Type 0 wher
   pub lowers : (j : ℕ) → j < capacity → getD now (lowerColumn + j) 0 ≡ lowerWord xs k j
 
 pub nobody : {entry : List ℕ} (xs : List ℕ) → Blank entry → Naming entry xs 0 entry
-unfolding inBucket below
-nobody {entry} xs b = record {
+nobody {entry} xs b = unfold inBucket below in record {
   size = refl;
   kept = λ j h. refl;
   buckets = λ x h. b .empty x (omega arith);
@@ -49,9 +44,7 @@ module _ (xs : List ℕ) {entry now : List ℕ} {k x : ℕ} (i : Naming entry xs
   twice = set once bucket (suc k)
 
   latest : (b : ℕ) → b < bucketCount → getD twice (bucketTable + b) 0 ≡ inBucket xs b (suc k)
-  unfolding inBucket
-  latest b g =
-      let t : ℕ → Bool = λ p. eqb (bucketOf (getD xs p 0)) b in
+  latest b g = unfold inBucket in let t : ℕ → Bool = λ p. eqb (bucketOf (getD xs p 0)) b in
       by-test (eqb (bucketOf (getD xs k 0)) b)
       (λ y.
       let z : b ≡ x % bucketCount = sym (ap bucketOf e ∙ eqb-true (bucketOf (getD xs k 0)) b y) in

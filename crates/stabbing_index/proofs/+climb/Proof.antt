@@ -1,26 +1,15 @@
 -- `stabbing_index::climb` meets its contract: each need is a step of `proofs/Links.antt`. The measure is the mark. Assumes nothing.
 use Rattle.basis.proofs.Prelude.{_-_, _<_, ℕ, arith, needs}
 use Rattle.stabbing_index.proofs.Links as Steps
-use borrow.Fn.Kinds.{In}
 use borrow.Fn.PlainCycle.{Measures, is, falls, and}
-use Rattle.stabbing_index.proofs.climb.Reads as climb
-use Rattle.stabbing_index.proofs.climb.Kinds as climb-kinds
-use Rattle.stabbing_index.proofs.+climb.Lts-climb as climb-lts
-use Rattle.stabbing_words.proofs.to_usize.Reads as to-usize-reads
-use Rattle.stabbing_index.proofs.+climb.{statement}
-use Rattle.stabbing_index.proofs.+climb.Tie.{close}
+use Rattle.stabbing_index.proofs.{climb.{Reads.Pre, Reads.Post, Kinds.ps}, +climb.{statement, Tie.close, Lts-climb.spec}}
+use Rattle.stabbing_words.proofs.to_usize.{Reads.Asked, Reads.Learnt}
 
-abbrev μ-climb : Measures 3 climb-kinds.ps ℕ
-μ-climb κs a = a .1 .1 .1 .1 .1 .0
-
-abbrev climb-at : ℕ → In 3 climb-kinds.ps
-climb-at t = and 3 climb-kinds.ps (is 3 climb-kinds.ps μ-climb t) climb.Pre
-
-abbrev climb-below : ℕ → In 3 climb-kinds.ps
-climb-below t = and 3 climb-kinds.ps (falls 3 climb-kinds.ps _<_ μ-climb t) climb.Pre
+abbrev μ : Measures 3 ps ℕ
+μ κs a = a .1 .1 .1 .1 .1 .0
 
 pub +climb-spec : {M : Type 1} → statement M
-+climb-spec = close μ-climb λ t. climb-lts.spec (to-usize-reads.Asked, to-usize-reads.Learnt, climb-below t, climb.Post) (climb-at t) climb.Post
++climb-spec = close μ λ t. spec (Asked, Learnt, and 3 ps (falls 3 ps _<_ μ t) Pre, Post) (and 3 ps (is 3 ps μ t) Pre) Post
     -- m is none
     (λ c. Steps.ends (c .before .pre .1) (c .if1 .taken))
     -- last[m - 1]

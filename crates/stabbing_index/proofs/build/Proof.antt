@@ -1,13 +1,10 @@
 -- `stabbing_index::build` meets its contract: each need is a step of `proofs/Assembling.antt`. Assumes nothing.
 use Rattle.basis.proofs.Prelude.{needs, not-false, not-true}
 use Rattle.stabbing_index.proofs.Assembling as Assemble
-use Rattle.stabbing_index.proofs.build.Statement.{statement}
-use Rattle.stabbing_index.proofs.build.Tie as tie
+use Rattle.stabbing_index.proofs.build.{Statement.statement, Tie.close, Tie.spec}
 
 pub build-spec : {M : Type 1} → statement M
-build-spec =
-    tie.close
-    (tie.spec
+build-spec = close (spec
     (λ c. Assemble.too-many (c .if1 .taken))
     (λ c κs. search needs)
     (λ c. let b = c .before .before .before .before in Assemble.out-of-order (b .if1 .left) (c .before .in-order .ensures) (not-true _ (c .if2 .taken)))

@@ -1,21 +1,11 @@
 -- `stabbing_index::clear` meets its contract: each need is a step of `proofs/Laying.antt`. Assumes nothing.
 use Rattle.basis.proofs.Prelude.{refl, _-_, _≤_, zero-le, arith, needs}
 use Rattle.stabbing_index.proofs.Laying as Steps
-use Rattle.stabbing_index.proofs.clear.Statement.{statement}
-use Rattle.stabbing_index.proofs.clear.Tie as tie
-
-abbrev Inv-loop : tie.InvT-loop
-Inv-loop index₀ base size k₀ index k = Steps.Laying index₀ base k (λ _. 0) index × (k ≤ size)
-
-abbrev μ-loop : tie.MeasureT-loop
-μ-loop index₀ base size k₀ index k = size - k
+use Rattle.stabbing_index.proofs.clear.{Statement.statement, Tie.close, Tie.spec}
 
 pub clear-spec : {M : Type 1} → statement M
-clear-spec =
-    tie.close
-    (tie.spec
-    Inv-loop
-    μ-loop
+clear-spec = close (spec
+    (λ index₀ base size _ index k. Steps.Laying index₀ base k (λ _. 0) index × (k ≤ size)) (λ _ _ size _ _ k. size - k)
     (λ c. (Steps.laying-none, zero-le))
     (λ c. search needs) (λ c. search needs) (λ c. search needs) (λ c. search needs) (λ c. search needs)
     (λ c. let b = c .before in (Steps.laying-next (b .loop .inv .0) (omega (arith, c .loop-test .taken, b .before .pre)) refl, omega (arith, c .loop-test .taken)))

@@ -1,21 +1,12 @@
 -- `stabbing_index::day_tables` meets its contract: each need is a step of `proofs/DayTables.antt`. Assumes nothing.
 use Rattle.basis.proofs.Prelude.{_-_, take, arith, needs}
 use Rattle.stabbing_index.proofs.DayTables as Steps
-use Rattle.stabbing_index.proofs.day_tables.Statement.{statement}
-use Rattle.stabbing_index.proofs.day_tables.Tie as tie
-
-abbrev Inv-loop : tie.InvT-loop
-Inv-loop first last n parent start₀ begun₀ d₀ m₀ s₀ start begun d m s = Steps.Tabling first last (take n first) (take n last) n parent start begun d m s
-
-abbrev μ-loop : tie.MeasureT-loop
-μ-loop first last n parent start₀ begun₀ d₀ m₀ s₀ start begun d m s = 4000 - d
+use Rattle.stabbing_index.proofs.day_tables.{Statement.statement, Tie.close, Tie.spec}
 
 pub day-tables-spec : {M : Type 1} → statement M
-day-tables-spec =
-    tie.close
-    (tie.spec
-    Inv-loop
-    μ-loop
+day-tables-spec = close (spec
+    (λ first last n parent start₀ begun₀ d₀ m₀ s₀ start begun d m s. Steps.Tabling first last (take n first) (take n last) n parent start begun d m s)
+    (λ _ _ _ _ _ _ _ _ _ _ _ d _ _. 4000 - d)
     (λ c. search needs) (λ c. search needs)
     (λ c. Steps.starts (c .pre .0) (c .args .start .now) (c .args .begun .now) (c .pre .1 .0) (c .pre .1 .1))
     (λ c. search needs)

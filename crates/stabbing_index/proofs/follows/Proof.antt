@@ -1,12 +1,9 @@
 -- `stabbing_index::follows` meets its contract: each test decides one of the definition's. Assumes nothing.
 use Rattle.basis.proofs.Prelude.{sym, eq-eqb, le-leb, le-ltb, lt-leb, lt-ltb, ne-eqb}
-use Rattle.stabbing_index.proofs.follows.Statement.{statement}
-use Rattle.stabbing_index.proofs.follows.Tie as tie
+use Rattle.stabbing_index.proofs.follows.{Statement.statement, Tie.close, Tie.spec}
 
 pub follows-spec : {M : Type 1} → statement M
-follows-spec =
-    tie.close
-    (tie.spec
+follows-spec = close (spec
     -- g < 1, m < g, 4000 < m
     (λ c. sym (simp (lt-leb _ _ (c .if1 .taken))))
     (λ c. sym (simp (le-leb _ _ (c .before .if1 .left), lt-leb _ _ (c .if2 .taken))))

@@ -1,15 +1,11 @@
--- `stabbing_index::is_head` meets its contract: each need is a step of `proofs/Links.antt`. Assumes nothing.
-use Rattle.basis.proofs.Prelude.{needs}
-use Rattle.stabbing_index.proofs.Links as Steps
-use Rattle.stabbing_index.proofs.is_head.Statement.{statement}
-use Rattle.stabbing_index.proofs.is_head.Tie as tie
+-- `stabbing_index::is_head` meets its contract: each test decides one of the definition's. Assumes nothing.
+use Rattle.basis.proofs.Prelude.{sym, add-one, eq-eqb, ne-eqb, needs}
+use Rattle.stabbing_index.proofs.is_head.{Statement.statement, Tie.close, Tie.spec}
 
 pub is-head-spec : {M : Type 1} → statement M
-is-head-spec =
-    tie.close
-    (tie.spec
+is-head-spec = close (spec
     (λ c. search needs)
-    (λ c. let g = c .before .args in Steps.head-last (g .first .now) (g .n) (g .k) (c .if1 .taken))
+    (λ c. sym (rw (← add-one (c .before .args .k)) (simp (eq-eqb _ _ (c .if1 .taken)))))
     (λ c. search needs) (λ c. search needs) (λ c. search needs) (λ c. search needs) (λ c. search needs)
-    (λ c. let b = c .before .before .before in let g = b .before .args in Steps.head-no (g .first .now) (g .n) (g .k) (b .if1 .left) (c .if2 .taken))
-    (λ c. let b = c .before .before .before in let g = b .before .args in Steps.head-yes (g .first .now) (g .n) (g .k) (b .if1 .left) (c .if2 .left)))
+    (λ c. let b = c .before .before .before in sym (rw (← add-one (b .before .args .k)) (simp (ne-eqb _ _ (b .if1 .left), eq-eqb _ _ (c .if2 .taken)))))
+    (λ c. let b = c .before .before .before in sym (rw (← add-one (b .before .args .k)) (simp (ne-eqb _ _ (b .if1 .left), ne-eqb _ _ (c .if2 .left))))))

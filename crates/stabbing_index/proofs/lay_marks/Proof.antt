@@ -1,22 +1,12 @@
 -- `stabbing_index::lay_marks` meets its contract: each need is a step of `proofs/Laying.antt`. Assumes nothing.
 use Rattle.basis.proofs.Prelude.{_∙_, _≡_, ap, _-_, _≤_, zero-le, getD, length, arith, needs}
-use Rattle.stabbing.specs.Index.{lastOf}
+use Rattle.stabbing_index.proofs.{Names.lastOf, lay_marks.{Statement.statement, Tie.close, Tie.spec}}
 use Rattle.stabbing_index.proofs.Laying as Steps
-use Rattle.stabbing_index.proofs.lay_marks.Statement.{statement}
-use Rattle.stabbing_index.proofs.lay_marks.Tie as tie
-
-abbrev Inv-loop : tie.InvT-loop
-Inv-loop index₀ base marks last beside k₀ index k = Steps.Laying index₀ beside k (λ p. lastOf last (getD marks p 0)) index × (k ≤ 1024)
-
-abbrev μ-loop : tie.MeasureT-loop
-μ-loop index₀ base marks last beside k₀ index k = 1024 - k
 
 pub lay-marks-spec : {M : Type 1} → statement M
-lay-marks-spec =
-    tie.close
-    (tie.spec
-    Inv-loop
-    μ-loop
+lay-marks-spec = close (spec
+    (λ index₀ base marks last beside k₀ index k. Steps.Laying index₀ beside k (λ p. lastOf last (getD marks p 0)) index × (k ≤ 1024))
+    (λ _ _ _ _ _ _ _ k. 1024 - k)
     (λ c κs. search needs) (λ c. search needs)
     (λ c. (Steps.laying-none, zero-le))
     (λ c. search needs) (λ c. search needs) (λ c κs. search needs)

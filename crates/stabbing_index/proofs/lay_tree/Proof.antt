@@ -2,14 +2,10 @@
 -- that after `lay`, and d, e, f those after each `lay_marks`. Assumes nothing.
 use Rattle.basis.proofs.Prelude.{refl, arith, needs}
 use Rattle.stabbing_index.proofs.Assembling as Assemble
-use Rattle.stabbing_index.proofs.Links.{none-yet}
-use Rattle.stabbing_index.proofs.lay_tree.Statement.{statement}
-use Rattle.stabbing_index.proofs.lay_tree.Tie as tie
+use Rattle.stabbing_index.proofs.{Links.none-yet, lay_tree.{Statement.statement, Tie.close, Tie.spec}}
 
 pub lay-tree-spec : {M : Type 1} → statement M
-lay-tree-spec =
-    tie.close
-    (tie.spec
+lay-tree-spec = close (spec
     (λ c κs. (Assemble.columns-of (c .before .before .before .before .before .pre .0), none-yet 1024 refl))
     (λ c. search needs) (λ c κs. search needs)
     -- the left siblings, the last children, the next in the chains, each with the last days

@@ -1,21 +1,12 @@
 -- `stabbing_index::link` meets its contract: each need is a step of `proofs/Links.antt`. Assumes nothing.
 use Rattle.basis.proofs.Prelude.{_-_, take, needs}
 use Rattle.stabbing_index.proofs.Links as Steps
-use Rattle.stabbing_index.proofs.link.Statement.{statement}
-use Rattle.stabbing_index.proofs.link.Tie as tie
-
-abbrev Inv-loop : tie.InvT-loop
-Inv-loop first last n parent₀ left₀ child₀ next₀ prev₀ k₀ parent left child next prev k = Steps.Linking first last (take n first) (take n last) n parent left child next prev k
-
-abbrev μ-loop : tie.MeasureT-loop
-μ-loop first last n parent₀ left₀ child₀ next₀ prev₀ k₀ parent left child next prev k = n - k
+use Rattle.stabbing_index.proofs.link.{Statement.statement, Tie.close, Tie.spec}
 
 pub link-spec : {M : Type 1} → statement M
-link-spec =
-    tie.close
-    (tie.spec
-    Inv-loop
-    μ-loop
+link-spec = close (spec
+    (λ first last n parent₀ left₀ child₀ next₀ prev₀ k₀ parent left child next prev k. Steps.Linking first last (take n first) (take n last) n parent left child next prev k)
+    (λ _ _ n _ _ _ _ _ _ _ _ _ _ _ k. n - k)
     (λ c. Steps.starts (c .pre .0) (c .pre .1 .0) (c .pre .1 .1))
     (λ c. search needs) (λ c κs. search needs)
     -- a head

@@ -1,13 +1,10 @@
 -- `stabbing_index::link_head` meets its contract: each need is a step of `proofs/Links.antt`. Assumes nothing.
 use Rattle.basis.proofs.Prelude.{refl, arith, needs}
 use Rattle.stabbing_index.proofs.Links as Steps
-use Rattle.stabbing_index.proofs.link_head.Statement.{statement}
-use Rattle.stabbing_index.proofs.link_head.Tie as tie
+use Rattle.stabbing_index.proofs.link_head.{Statement.statement, Tie.close, Tie.spec}
 
 pub link-head-spec : {M : Type 1} → statement M
-link-head-spec =
-    tie.close
-    (tie.spec
+link-head-spec = close (spec
     (λ c. search needs) (λ c. search needs)
     (λ c κs. Steps.asks-climb (c .before .before .pre))
     -- parent[k] and left[k]

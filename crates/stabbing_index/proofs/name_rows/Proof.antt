@@ -1,25 +1,14 @@
 -- `stabbing_index::name_rows` meets its contract: each need is a step of `proofs/Words.antt`. Assumes nothing.
 use Rattle.basis.proofs.Prelude.{_≡_, _-_, _≤_, zero-le, arith, needs}
 use Rattle.stabbing_index.proofs.Words as Names
-use Rattle.stabbing_index.proofs.Words.{Naming}
-use Rattle.stabbing_index.proofs.name_rows.Statement.{statement}
-use Rattle.stabbing_index.proofs.name_rows.Tie as tie
-
-abbrev Inv-loop : tie.InvT-loop
-Inv-loop index₀ number n k₀ index k = Naming index₀ number k index × (k ≤ n)
-
-abbrev μ-loop : tie.MeasureT-loop
-μ-loop index₀ number n k₀ index k = n - k
+use Rattle.stabbing_index.proofs.{Words.Naming, name_rows.{Statement.statement, Tie.close, Tie.spec}}
 
 pub name-rows-spec : {M : Type 1} → statement M
-name-rows-spec =
-    tie.close
-    (tie.spec
-    Inv-loop
-    μ-loop
+name-rows-spec = close (spec
+    (λ index₀ number n k₀ index k. Naming index₀ number k index × (k ≤ n))
+    (λ _ _ n _ _ k. n - k)
     (λ c. (Names.nobody (c .before .args .number .now) (c .before .pre .1 .0), zero-le))
-    (λ c. search needs) (λ c. search needs) (λ c κs. search needs) (λ c. search needs) (λ c. search needs)
-    (λ c. search needs) (λ c. search needs)
+    (λ c. search needs) (λ c. search needs) (λ c κs. search needs) (λ c. search needs) (λ c. search needs) (λ c. search needs) (λ c. search needs)
     (λ c. search needs) (λ c. search needs) (λ c. search needs) (λ c. search needs) (λ c. search needs)
     -- index[bucket], after the word before it is written
     (λ c. let l = c .before .before .before .before in Names.wide (l .loop .inv .0) (l .before .before .pre .1 .1) _ _ _)

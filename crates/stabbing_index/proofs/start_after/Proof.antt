@@ -1,13 +1,10 @@
 -- `stabbing_index::start_after` meets its contract: each need is a step of `proofs/DayTables.antt`. Assumes nothing.
 use Rattle.basis.proofs.Prelude.{needs}
 use Rattle.stabbing_index.proofs.DayTables as Steps
-use Rattle.stabbing_index.proofs.start_after.Statement.{statement}
-use Rattle.stabbing_index.proofs.start_after.Tie as tie
+use Rattle.stabbing_index.proofs.start_after.{Statement.statement, Tie.close, Tie.spec}
 
 pub start-after-spec : {M : Type 1} → statement M
-start-after-spec =
-    tie.close
-    (tie.spec
+start-after-spec = close (spec
     (λ c. Steps.begins-here (c .before .pre) (c .if1 .taken))
     (λ c. search needs) (λ c. search needs)
     (λ c κs. Steps.asks-climb (c .before .pre))
