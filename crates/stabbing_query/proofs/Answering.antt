@@ -1,99 +1,71 @@
 -- From the walk to the answers of day, span and cover: what is written, the theorems on listing and comparisons, the starts. Assumes nothing.
 use Rattle.basis.proofs.Prelude.{_∙_, _≡_, ap, refl, sym, _%_, _+_, _-_, _/_, _<_, _≤_, suc, zero, zero-le, ℕ, List, [], _++_, _∷_, map, map-append, Bool, _&&_, false, true, _≢_, drop, drop-of-length-le, getD, length, length-map, take, take-all, le-refl, arith, le-leb, lt-leb, by-test}
-use Rattle.buffer.specs.Buffer.{overlaid}
-use Rattle.buffer.proofs.Overlaid.{overlaid-all}
-use Rattle.stabbing.specs.declared.Listed.{Listed}
-use Rattle.stabbing.specs.Tree.{keep, dayAt, fitsAt, start}
-use Rattle.stabbing.specs.Walk.{Progress, nothing, walk, climb}
-use Rattle.stabbing.specs.Stored.{latest, spanStart}
-use Rattle.stabbing.proofs.Marks.{below-is, keep-hit, keep-miss}
-use Rattle.stabbing.proofs.Starts.{latest-is, start-span, cover-latest}
-use Rattle.stabbing.proofs.Walk.{start-is, listing, comparisons-formula}
-use Rattle.stabbing.specs.Index.{firstColumn, lastColumn, startTable, latestTable, Built, named, numbers, firsts, lasts, markIn}
-use Rattle.stabbing.proofs.Block.{built-holds}
-use Rattle.calendar.specs.Calendar.{isDay}
+use Rattle.buffer.{specs.Buffer.overlaid, proofs.Overlaid.overlaid-all}
+use Rattle.stabbing.{specs.declared.Listed.Listed, proofs.Marks.{below-is, keep-hit, keep-miss}, proofs.Starts.{latest-is, start-span, cover-latest}, proofs.Block.built-holds, specs.Answer.{Reported, refused, give, question, dayOf, dayIn, Gave, spanOf, spanIn, covering, coverOf, coverIn}}
+use Rattle.stabbing_query.proofs.{Names.{keep, dayAt, fitsAt, start, Progress, nothing, walk, climb, latest, spanStart, start-is, listing, comparisons-formula, firstColumn, lastColumn, startTable, latestTable, Built, named, numbers, firsts, lasts, markIn, isDay, Holds, Now, Does, ClimbAt, WalkAsks, SpanAsks, numbered, decoded, listedOf}, Keeping.{now-place, comparisons-is}}
 pub use Rattle.calendar.proofs.Calendar.{dated}
-use Rattle.stabbing.specs.Answer.{Reported, refused, give, question, dayOf, dayIn, Gave, spanOf, spanIn, covering, coverOf, coverIn}
-use Rattle.stabbing.specs.Contracts.{Holds}
-use Rattle.stabbing_query.specs.Contracts.{Now, Does, ClimbAt, WalkAsks, SpanAsks, numbered, decoded, listedOf}
-use Rattle.stabbing_query.proofs.Keeping.{now-place, comparisons-is}
 
 -- the walk's beginning and its end
 start-now : {ix xs : List ℕ} → length xs ≡ 1024 → Now ix xs 67108864 nothing
 start-now {xs = xs} n = record { size = n; fits = zero-le; few = omega arith; is = refl; list = drop-of-length-le xs {i = 1024} (omega arith) }
 
 pub asks : {ix xs : List ℕ} {l m : ℕ} → WalkAsks ix l m → length xs ≡ 1024 → ClimbAt ix (numbers ix) (firsts ix) (lasts ix) l m xs 67108864
-asks {ix} q n =
-    let b = built-holds ix (q .built) in
-    record {
-      built = b;
-      dated = q .dated;
-      within = q .start .within;
-      at-head = q .start .at-head;
-      at = nothing;
-      now = start-now n;
-      free = omega (arith, q .start .within, b .few);
-      few = omega (arith, q .start .within);
-    }
+asks {ix} q n = let b = built-holds ix (q .built) in record {
+  built = b;
+  dated = q .dated;
+  within = q .start .within;
+  at-head = q .start .at-head;
+  at = nothing;
+  now = start-now n;
+  free = omega (arith, q .start .within, b .few);
+  few = omega (arith, q .start .within);
+}
 
 pub walked : {ix xs : List ℕ} (l m : ℕ) → length xs ≡ 1024 → {xs′ : List ℕ} {r : ℕ} → Does ix xs 67108864 xs′ r (climb (firsts ix) (lasts ix) l (length (firsts ix)) m) → Now ix xs′ r (walk (firsts ix) (lasts ix) l m)
-unfolding walk
-walked l m n d = d .does nothing (start-now n)
+walked l m n d = unfold walk in d .does nothing (start-now n)
 
 -- the two ends of `decoded`
 pub decoded-none : (s : ℕ) → 1024 < s / 65536 → decoded s ≡ record { refusal = 11; count = 0; comparisons = 0 }
-unfolding decoded
-decoded-none s h = rw (lt-leb (s / 65536) 1024 h, decoded)
+decoded-none s h = unfold decoded in rw (lt-leb (s / 65536) 1024 h, decoded)
 
 pub decoded-all : (s : ℕ) → s / 65536 ≤ 1024 → decoded s ≡ record { refusal = 0; count = 1024 - s / 65536; comparisons = s % 65536 }
-unfolding decoded
-decoded-all s h = rw (le-leb (s / 65536) 1024 h, decoded)
+decoded-all s h = unfold decoded in rw (le-leb (s / 65536) 1024 h, decoded)
 
 -- the two ends of `give`
 module _ (ns : List ℕ) (comparisons : ℕ) (out : List ℕ) where
   pub give-all : length ns ≤ length out → give ns comparisons out ≡ record { result = record { refusal = 0; count = length ns; comparisons = comparisons }; out = ns ++ drop (length ns) out }
-  unfolding give
-  give-all h = rw (le-leb (length ns) (length out) h, give)
+  give-all h = unfold give in rw (le-leb (length ns) (length out) h, give)
 
   pub give-none : length out < length ns → give ns comparisons out ≡ refused 11 out
-  unfolding give
-  give-none h = rw (lt-leb (length ns) (length out) h, give)
+  give-none h = unfold give in rw (lt-leb (length ns) (length out) h, give)
 
 module _ {ix xs : List ℕ} {s : ℕ} {f : Progress} (g : Now ix xs s f) (out : List ℕ) where
   abbrev ns : List ℕ
   ns = numbered ix (f .list)
 
-  at-is : s / 65536 ≡ 1024 - length (f .list)
-  at-is = now-place g
-
   pub at-in : s / 65536 ≤ 1024
-  at-in = omega (arith, at-is)
+  at-in = omega (arith, now-place g)
 
   pub k-is : 1024 - s / 65536 ≡ length ns
-  k-is = omega (arith, at-is, g .fits, length-map (f .list) (λ (p : ℕ). getD ix p 0))
+  k-is = omega (arith, now-place g, g .fits, length-map (f .list) (λ (p : ℕ). getD ix p 0))
 
   pub too-short : length out < 1024 - s / 65536 → Gave (decoded 67174400) out (give ns (f .comparisons) out)
   too-short h = rw (give-none ns (f .comparisons) out (omega (arith, k-is))) (record { result = decoded-none 67174400 (omega arith); out = refl })
 
   -- the places from the one reached on hold what was found
   there : take (1024 - s / 65536) (drop (s / 65536) xs) ≡ ns
-  there =
-      let z : drop (s / 65536) xs ≡ ns = rw at-is (g .list) in
-      rw z (take-all (1024 - s / 65536) ns (omega (arith, k-is)))
+  there = let z : drop (s / 65536) xs ≡ ns = rw (now-place g) (g .list) in rw z (take-all (1024 - s / 65536) ns (omega (arith, k-is)))
 
   pub all-given : 1024 - s / 65536 ≤ length out → {after : List ℕ} → after ≡ overlaid (take (1024 - s / 65536) (drop (s / 65536) xs)) out
       → Gave (decoded s) after (give ns (f .comparisons) out)
-  all-given h e =
-      let c : s % 65536 ≡ f .comparisons = comparisons-is s (length (f .list)) (f .comparisons) (g .fits) (g .few) (g .is) in
+  all-given h e = let c : s % 65536 ≡ f .comparisons = comparisons-is s (length (f .list)) (f .comparisons) (g .fits) (g .few) (g .is) in
       rw (give-all ns (f .comparisons) out (omega (arith, k-is))) (record { result = decoded-all s at-in ∙ rw (k-is, c); out = e ∙ rw there (overlaid-all ns out (omega (arith, k-is))) })
 
 -- what is listed, by its numbers
 pub keep-map : (f g : ℕ → ℕ) (t : ℕ → Bool) (k : ℕ) → ((p : ℕ) → p < k → f p ≡ g p) → map f (keep t k) ≡ map g (keep t k)
 unfolding keep
 keep-map f g t zero h = refl
-keep-map f g t (suc k) h =
-    let ih = keep-map f g t k (λ p a. h p (omega arith)) in
-    by-test (t k)
+keep-map f g t (suc k) h = let ih = keep-map f g t k (λ p a. h p (omega arith)) in by-test (t k)
     (λ e. rw (keep-hit t k e) (map-append f (keep t k) (k ∷ []) ∙ rw (ih, h k (le-refl (suc k))) (sym (map-append g (keep t k) (k ∷ [])))))
     (λ e. rw (keep-miss t k e) ih)
 
@@ -105,29 +77,21 @@ pub record Question (ix : List ℕ) (h l m : ℕ) : Type 0 where
 
 -- the walk that it makes, and its outcome o
 module _ {ix : List ℕ} {h l m : ℕ} (q : Question ix h l m) where
-  abbrev fs : List ℕ
-  fs = firsts ix
-
-  abbrev ls : List ℕ
-  ls = lasts ix
-
-  holding : Holds ix (numbers ix) fs ls
+  holding : Holds ix (numbers ix) (firsts ix) (lasts ix)
   holding = built-holds ix (q .built)
 
   pub asks-walk : WalkAsks ix l m
-  asks-walk =
-      let i = start-is fs ls (holding .sorted) h l in
-      record {
-        built = q .built;
-        dated = q .dated;
-        start = record { within = rw (q .start) (i .within); at-head = λ v z. let p = i .hit v (sym (q .start) ∙ z) in (p .0, p .2) };
-      }
+  asks-walk = let i = start-is (firsts ix) (lasts ix) (holding .sorted) h l in record {
+    built = q .built;
+    dated = q .dated;
+    start = record { within = rw (q .start) (i .within); at-head = λ v z. let p = i .hit v (sym (q .start) ∙ z) in (p .0, p .2) };
+  }
 
-  answers : (out : List ℕ) → listedOf ix l m out ≡ question (numbers ix) fs ls h l out
+  answers : (out : List ℕ) → listedOf ix l m out ≡ question (numbers ix) (firsts ix) (lasts ix) h l out
   unfolding question
-  answers out = rw (q .start, listing fs ls (holding .sorted) h l, comparisons-formula fs ls (holding .sorted) h l) (rw (keep-map (λ p. getD ix p 0) (λ p. getD (numbers ix) p 0) (fitsAt fs ls h l) (length fs) (holding .numbers)))
+  answers out = rw (q .start, listing (firsts ix) (lasts ix) (holding .sorted) h l, comparisons-formula (firsts ix) (lasts ix) (holding .sorted) h l) (rw (keep-map (λ p. getD ix p 0) (λ p. getD (numbers ix) p 0) (fitsAt (firsts ix) (lasts ix) h l) (length (firsts ix)) (holding .numbers)))
 
-  pub gives : (out : List ℕ) {after : List ℕ} {a r : Listed} {o : Reported} → o ≡ question (numbers ix) fs ls h l out → Gave a after (listedOf ix l m out) → r ≡ a → Gave r after o
+  pub gives : (out : List ℕ) {after : List ℕ} {a r : Listed} {o : Reported} → o ≡ question (numbers ix) (firsts ix) (lasts ix) h l out → Gave a after (listedOf ix l m out) → r ≡ a → Gave r after o
   gives out z g t = rw (z, t) (rw (answers out) at g)
 
 pub refusal : {n : ℕ} {out : List ℕ} {o : Reported} → o ≡ refused n out → {r : Listed} → r ≡ record { refusal = n; count = 0; comparisons = 0 } → Gave r out o
@@ -139,23 +103,13 @@ day-start ix b d h e z = z ∙ ap (λ (y : ℕ). getD ix (y + startTable) 0) e �
 
 module _ (ix : List ℕ) (d : ℕ) (out : List ℕ) where
   pub day-in : isDay d ≡ true → dayIn ix d out ≡ question (numbers ix) (firsts ix) (lasts ix) d d out
-  unfolding dayOf
-  day-in e = rw (e, dayOf)
+  day-in e = unfold dayOf in rw (e, dayOf)
 
   pub day-off : isDay d ≡ false → dayIn ix d out ≡ refused 3 out
-  unfolding dayOf
-  day-off e = rw (e, dayOf)
+  day-off e = unfold dayOf in rw (e, dayOf)
 
-pub record DayAt (ix : List ℕ) (d m : ℕ) : Type 0 where
-  pub built : Built ix
-  pub on-calendar : isDay d ≡ true
-  pub start : m ≡ start (firsts ix) (lasts ix) d d
-
-pub day-at : {ix : List ℕ} → Built ix → {d x m : ℕ} → isDay d ≡ true → x ≡ d → m ≡ getD ix (x + startTable) 0 → DayAt ix d m
-day-at {ix} b {d} e z₁ z₂ = record { built = b; on-calendar = e; start = day-start ix b d (dated d e .1) z₁ z₂ }
-
-pub day-question : {ix : List ℕ} {d m : ℕ} → DayAt ix d m → Question ix d d m
-day-question {d = d} q = record { built = q .built; dated = dated d (q .on-calendar) .0; start = q .start }
+pub day-question : {ix : List ℕ} → Built ix → {d x m : ℕ} → isDay d ≡ true → x ≡ d → m ≡ getD ix (x + startTable) 0 → Question ix d d m
+day-question {ix} b {d} e z₁ z₂ = record { built = b; dated = dated d e .0; start = day-start ix b d (dated d e .1) z₁ z₂ }
 
 -- span: m is the latest by day b and r the start of day a, as they are stored
 pub record SpanAt (ix : List ℕ) (a b m r : ℕ) : Type 0 where
@@ -171,53 +125,42 @@ span-stored {ix} {a} {b} q e z e₁ z₁ = record {
 }
 
 module _ {ix : List ℕ} {a b m r : ℕ} (q : SpanAt ix a b m r) where
-  abbrev gs : List ℕ
-  gs = firsts ix
-
-  abbrev ks : List ℕ
-  ks = lasts ix
-
-  held : Holds ix (numbers ix) gs ks
+  held : Holds ix (numbers ix) (firsts ix) (lasts ix)
   held = built-holds ix (q .asked .built)
 
-  span-is : start gs ks b a ≡ spanStart gs ks a m r
-  span-is = start-span gs ks (held .sorted) (held .forward) a b (q .asked .forward) ∙ rw (q .m-is, q .r-is)
+  span-is : start (firsts ix) (lasts ix) b a ≡ spanStart (firsts ix) (lasts ix) a m r
+  span-is = start-span (firsts ix) (lasts ix) (held .sorted) (held .forward) a b (q .asked .forward) ∙ rw (q .m-is, q .r-is)
 
   pub m-small : m ≤ 1024
-  m-small = rw (q .m-is) (omega (arith, latest-is gs ks (held .sorted) b .within, held .few))
+  m-small = rw (q .m-is) (omega (arith, latest-is (firsts ix) (lasts ix) (held .sorted) b .within, held .few))
 
-  pub span-none : m ≡ 0 → r ≡ start gs ks b a
-  unfolding spanStart
-  span-none k = sym (span-is ∙ rw k)
+  pub span-none : m ≡ 0 → r ≡ start (firsts ix) (lasts ix) b a
+  span-none k = unfold spanStart in sym (span-is ∙ rw k)
 
   module _ (some : m ≢ 0) where
-    first : getD ix (m - 1 + firstColumn) 0 ≡ dayAt gs (m - 1)
-    first = held .firsts (m - 1) (omega (arith, q .m-is, latest-is gs ks (held .sorted) b .within))
+    first : getD ix (m - 1 + firstColumn) 0 ≡ dayAt (firsts ix) (m - 1)
+    first = held .firsts (m - 1) (omega (arith, q .m-is, latest-is (firsts ix) (lasts ix) (held .sorted) b .within))
 
     m-suc : m ≡ suc (m - 1)
     m-suc = omega arith
 
-    pub span-before : getD ix (m - 1 + firstColumn) 0 < a → r ≡ start gs ks b a
-    unfolding spanStart
-    span-before h = sym (span-is ∙ ap (λ (u : ℕ). spanStart gs ks a u r) m-suc ∙ rw (lt-leb a (dayAt gs (m - 1)) (rw first at h), spanStart))
+    pub span-before : getD ix (m - 1 + firstColumn) 0 < a → r ≡ start (firsts ix) (lasts ix) b a
+    span-before h = unfold spanStart in sym (span-is ∙ ap (λ (u : ℕ). spanStart (firsts ix) (lasts ix) a u r) m-suc ∙ rw (lt-leb a (dayAt (firsts ix) (m - 1)) (rw first at h), spanStart))
 
-    pub span-within : a ≤ getD ix (m - 1 + firstColumn) 0 → m ≡ start gs ks b a
+    pub span-within : a ≤ getD ix (m - 1 + firstColumn) 0 → m ≡ start (firsts ix) (lasts ix) b a
     unfolding spanStart
-    span-within h = m-suc ∙ sym (span-is ∙ ap (λ (u : ℕ). spanStart gs ks a u r) m-suc ∙ rw (le-leb a (dayAt gs (m - 1)) (rw first at h), spanStart))
+    span-within h = m-suc ∙ sym (span-is ∙ ap (λ (u : ℕ). spanStart (firsts ix) (lasts ix) a u r) m-suc ∙ rw (le-leb a (dayAt (firsts ix) (m - 1)) (rw first at h), spanStart))
 
 module _ (ix : List ℕ) (a b : ℕ) (out : List ℕ) where
   pub span-off : isDay a && isDay b ≡ false → spanIn ix a b out ≡ refused 3 out
-  unfolding spanOf
-  span-off e = rw (e, spanOf)
+  span-off e = unfold spanOf in rw (e, spanOf)
 
   module _ (x : (isDay a ≡ true) × (isDay b ≡ true)) where
     pub span-in : a ≤ b → spanIn ix a b out ≡ question (numbers ix) (firsts ix) (lasts ix) b a out
-    unfolding spanOf
-    span-in h = rw (x .0, x .1, spanOf) (rw (le-leb a b h, spanOf))
+    span-in h = unfold spanOf in rw (x .0, x .1, spanOf) (rw (le-leb a b h, spanOf))
 
     pub span-back : b < a → spanIn ix a b out ≡ refused 4 out
-    unfolding spanOf
-    span-back h = rw (x .0, x .1, spanOf) (rw (lt-leb a b h, spanOf))
+    span-back h = unfold spanOf in rw (x .0, x .1, spanOf) (rw (lt-leb a b h, spanOf))
 
 pub asks-span : {ix : List ℕ} → Built ix → {a b : ℕ} → (isDay a ≡ true) × (isDay b ≡ true) → a ≤ b → SpanAsks ix a b
 asks-span built {a} {b} x h = record { built = built; dated = dated a (x .0) .0; forward = h; late = dated b (x .1) .1 }
@@ -231,34 +174,23 @@ pub record RowOf (ix : List ℕ) (x p : ℕ) : Type 0 where
   pub is : markIn ix x ≡ suc p
 
 pub cover-none : (ix : List ℕ) (x : ℕ) {m : ℕ} → m ≡ markIn ix x → m ≡ 0 → (out : List ℕ) → coverIn ix x out ≡ refused 7 out
-unfolding coverOf covering
-cover-none ix x e k out = ap (λ (u : ℕ). covering (numbers ix) (firsts ix) (lasts ix) u out) (sym e ∙ k)
-
-pub row-of : {ix : List ℕ} → Built ix → {x m p : ℕ} → m ≡ markIn ix x → m ≡ suc p → RowOf ix x p
-row-of b e k = record { built = b; is = sym e ∙ k }
+cover-none ix x e k out = unfold coverOf covering in ap (λ (u : ℕ). covering (numbers ix) (firsts ix) (lasts ix) u out) (sym e ∙ k)
 
 module _ {ix : List ℕ} {x p : ℕ} (q : RowOf ix x p) where
-  abbrev js : List ℕ
-  js = firsts ix
-
-  abbrev es : List ℕ
-  es = lasts ix
-
-  known : Holds ix (numbers ix) js es
+  known : Holds ix (numbers ix) (firsts ix) (lasts ix)
   known = built-holds ix (q .built)
 
-  within : p < length js
-  unfolding named
-  within = let w : markIn ix x ≤ length js = below-is _ (length js) .within in omega (arith, q .is)
+  within : p < length (firsts ix)
+  within = let w : markIn ix x ≤ length (firsts ix) = unfold named in below-is _ (length (firsts ix)) .within in omega (arith, q .is)
 
   pub row-small : p < 1024
   row-small = omega (arith, within, known .few)
 
   module _ {l f : ℕ} (e₁ : l ≡ getD ix (p + lastColumn) 0) (e₂ : f ≡ getD ix (p + firstColumn) 0) where
-    l-is : l ≡ dayAt es p
+    l-is : l ≡ dayAt (lasts ix) p
     l-is = e₁ ∙ known .lasts p within
 
-    f-is : f ≡ dayAt js p
+    f-is : f ≡ dayAt (firsts ix) p
     f-is = e₂ ∙ known .firsts p within
 
     pub cover-first : f ≤ 4000
@@ -268,9 +200,8 @@ module _ {ix : List ℕ} {x p : ℕ} (q : RowOf ix x p) where
     cover-question u = record {
       built = q .built;
       dated = omega (arith, l-is, known .begins p within, known .forward p within);
-      start = u ∙ known .begun f cover-first ∙ rw (f-is, l-is) (sym (cover-latest js es (known .sorted) p within));
+      start = u ∙ known .begun f cover-first ∙ rw (f-is, l-is) (sym (cover-latest (firsts ix) (lasts ix) (known .sorted) p within));
     }
 
-    pub cover-in : (out : List ℕ) → coverIn ix x out ≡ question (numbers ix) js es f l out
-    unfolding coverOf covering
-    cover-in out = ap (λ (u : ℕ). covering (numbers ix) js es u out) (q .is) ∙ rw (f-is, l-is)
+    pub cover-in : (out : List ℕ) → coverIn ix x out ≡ question (numbers ix) (firsts ix) (lasts ix) f l out
+    cover-in out = unfold coverOf covering in ap (λ (u : ℕ). covering (numbers ix) (firsts ix) (lasts ix) u out) (q .is) ∙ rw (f-is, l-is)

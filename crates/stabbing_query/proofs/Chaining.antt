@@ -1,13 +1,6 @@
 -- The steps of `chain` over what it asks and gives, apart from the code. Assumes nothing.
 use Rattle.basis.proofs.Prelude.{_∙_, _≡_, ap, refl, sym, _%_, _+_, _-_, _/_, _<_, _≤_, suc, zero, ℕ, List, getD, length, set, mod-eq-of-lt, arith}
-use Rattle.stabbing.specs.Tree.{one, some, next}
-use Rattle.stabbing.specs.Walk.{Progress, push, compare, chain}
-use Rattle.stabbing.proofs.Links.{next-le}
-use Rattle.stabbing.proofs.Walk.{compare-none}
-use Rattle.stabbing.proofs.Steps.{compare-same}
-use Rattle.stabbing.specs.Index.{nextColumn, nextLastColumn}
-use Rattle.stabbing_query.specs.Contracts.{Does, ChainAt}
-use Rattle.stabbing_query.proofs.Keeping.{ticked, ticked-list, ticked-comparisons, one-le, as-few, as-long, lit, place-less, now-push, then, Neighbour, ticks, misses, hits, next-only}
+use Rattle.stabbing_query.proofs.{Names.{one, some, next, Progress, push, compare, chain, next-le, compare-none, compare-same, nextColumn, nextLastColumn, Does, ChainAt}, Keeping.{ticked, ticked-list, ticked-comparisons, one-le, as-few, as-long, lit, place-less, now-push, then, Neighbour, ticks, misses, hits, next-only}}
 use Rattle.stabbing_query.proofs.Keeping as Keeping
 
 -- one position of a chain, by its link
