@@ -1,7 +1,6 @@
 -- The steps of `close`, apart from the code: the finds from the place f on are moved to the front, one after the other. Assumes nothing.
 use Rattle.basis.proofs.Prelude.{_∙_, _≡_, ap, refl, sym, _+_, _-_, _<_, _≤_, ℕ, List, _++_, append-assoc, append-nil, drop, getD, length, length-drop, length-set, set, take, take-append-drop, drop-append-le, drop-length, getD-append-add, getD-drop, length-take-le, take-length, arith}
-use Rattle.buffer.specs.Buffer.{overlaid}
-use Rattle.buffer.proofs.Overlaid.{filled, overlaid-all}
+use Rattle.buffer.{specs.Buffer.overlaid, proofs.Overlaid.{filled, overlaid-all}}
 
 -- of the finds l, i of those from f on stand in the first places, and the later places are as they were
 pub record Closing (l : List ℕ) (f : ℕ) (xs : List ℕ) (i : ℕ) : Type 0 where
@@ -18,8 +17,7 @@ none l f z = rw (z, take-length l, drop-length l) (sym (append-nil l))
 module _ {l xs : List ℕ} {f i : ℕ} (g : Closing l f xs i) where
   -- what is read was not written over
   ahead : getD xs (i + f) 0 ≡ getD (drop f l) i 0
-  ahead =
-      let n : length (take i (drop f l)) ≡ i = length-take-le i (drop f l) (omega (arith, length-drop f l, g .within)) in
+  ahead = let n : length (take i (drop f l)) ≡ i = length-take-le i (drop f l) (omega (arith, length-drop f l, g .within)) in
       let p : i + f ≡ length (take i (drop f l)) + f = omega (arith, n) in
       let q : i + f ≡ f + i = omega arith in
       ap (λ (ys : List ℕ). getD ys (i + f) 0) (g .places) ∙ ap (λ (j : ℕ). getD (take i (drop f l) ++ drop i l) j 0) p
@@ -34,15 +32,13 @@ module _ {l xs : List ℕ} {f i : ℕ} (g : Closing l f xs i) where
   }
 
   pub ends : length l ≤ i + f → xs ≡ overlaid (drop f l) l
-  ends h =
-      let n : i ≡ length (drop f l) = omega (arith, g .within, length-drop f l) in
+  ends h = let n : i ≡ length (drop f l) = omega (arith, g .within, length-drop f l) in
       g .places ∙ rw (n, take-length (drop f l)) (sym (overlaid-all (drop f l) l (omega (arith, length-drop f l))))
 
 -- where the first k of the numbers xs are the finds: with the gap closed, the finds from f on stand first, and the later places are as
 -- they were
 pub closed : (xs : List ℕ) (k f : ℕ) → k ≤ length xs → f ≤ k → overlaid (drop f (take k xs)) (take k xs) ++ drop k xs ≡ drop f (take k xs) ++ drop (k - f) xs
-closed xs k f h z =
-    let ns : List ℕ = take k xs in
+closed xs k f h z = let ns : List ℕ = take k xs in
     let l : length ns ≡ k = length-take-le k xs h in
     let n : length (drop f ns) ≡ k - f = length-drop f ns ∙ omega (arith, l) in
     ap (λ (ys : List ℕ). ys ++ drop k xs) (overlaid-all (drop f ns) ns (omega (arith, n, l)) ∙ ap (λ (j : ℕ). drop f ns ++ drop j ns) n)

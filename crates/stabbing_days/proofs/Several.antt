@@ -1,95 +1,56 @@
 -- The steps of the days question, apart from the code. Assumes nothing.
-use Rattle.basis.proofs.Prelude.{_∙_, _≡_, ap, refl, sym, _+_, _-_, _<_, _≤_, zero-le, ℕ, List, [], _++_, _∷_, append-assoc, append-nil, map, map-append, false, true, ltb, drop, drop-of-length-le, getD, length, length-append, length-drop, length-map, take, take-append-drop, drop-at, drop-cons, drop-drop, getD-drop, length-take-le, take-all, take-at, add-one, arith, le-ltb, lt-ltb, ltb-true, both}
+use Rattle.basis.proofs.Prelude.{_∙_, _≡_, ap, refl, sym, _+_, _-_, _<_, _≤_, zero-le, ℕ, List, [], _++_, _∷_, append-assoc, append-nil, map, map-append, Bool, false, true, ltb, drop, drop-of-length-le, getD, length, length-append, length-drop, length-map, take, take-append-drop, drop-at, drop-cons, drop-drop, getD-drop, length-take-le, take-all, take-at, add-one, arith, le-ltb, lt-ltb, ltb-true, both}
 use borrow.Rule.Slice.PartMut.{putMid, postOf}
-use Rattle.stabbing.specs.Tree.{keep, fitsAt, start, formula}
-use Rattle.stabbing.specs.Stored.{latest}
-use Rattle.stabbing.specs.Index.{latestTable, Built, numbers, firsts, lasts}
-use Rattle.buffer.specs.Buffer.{overlaid}
-use Rattle.buffer.proofs.Overlaid.{overlaid-all}
-use Rattle.stabbing.specs.declared.Listed.{Listed}
+use Rattle.stabbing.{specs.Tree.{keep, fitsAt, start, formula}, specs.Stored.latest, specs.Index.{latestTable, Built, numbers, firsts, lasts}, specs.declared.Listed.Listed, specs.Answer.{Reported, Gave, give, question, risingFrom, containsAny, dayIn, daysOf, daysIn}, specs.Contracts.{Holds, from}, proofs.Starts.latest-is, proofs.Steps.keep-room, proofs.Block.built-holds, proofs.Days.{keep-from, added, added-room, added-none, added-all, latest-none}}
+use Rattle.buffer.{specs.Buffer.overlaid, proofs.Overlaid.overlaid-all}
 use Rattle.calendar.specs.Calendar.{isDay, daysOk}
-use Rattle.stabbing.specs.Answer.{Reported, Gave, give, question, risingFrom, containsAny, dayIn, daysOf, daysIn}
-use Rattle.stabbing.specs.Contracts.{Holds, from}
-use Rattle.stabbing.proofs.Starts.{latest-is}
-use Rattle.stabbing.proofs.Steps.{keep-room}
-use Rattle.stabbing.proofs.Block.{built-holds}
-use Rattle.stabbing.proofs.Days.{keep-from, added, added-room, added-none, added-all, latest-none}
-use Rattle.stabbing_query.specs.Contracts.{numbered}
-use Rattle.stabbing_query.proofs.Answering.{give-all, give-none, refusal, keep-map, day-in}
+use Rattle.stabbing_query.{specs.Contracts.numbered, proofs.Answering.{give-all, give-none, refusal, keep-map, day-in}}
 use Rattle.stabbing_query.proofs.Answering as Answers
 use Rattle.stabbing_days.specs.Contracts.{Skips, Parted, dayFrom, daysFrom, asked, askedAll, AddAsks, GatherAsks, Added, Gathered}
-use Rattle.stabbing_days.proofs.Skipping.{drop-map, rest-from, kept-rows}
-use Rattle.stabbing_days.proofs.Closing.{closed}
+use Rattle.stabbing_days.proofs.{Skipping.{drop-map, rest-from, kept-rows}, Closing.closed}
 
--- ---- The checks, day by day: what the days from the place i on say is what all of them say
+-- ---- The checks, day by day: what `rest` says of the days from the place i on is what all of them say
 
-pub record Dating (ds : List ℕ) (i : ℕ) : Type 0 where
+pub record Passing (says : Bool) (rest : List ℕ → Bool) (ds : List ℕ) (i : ℕ) : Type 0 where
   pub within : i ≤ length ds
-  pub says : daysOk (drop i ds) ≡ daysOk ds
+  pub decides : rest (drop i ds) ≡ says
 
-pub record Ordering (ds : List ℕ) (b i : ℕ) : Type 0 where
-  pub within : i ≤ length ds
-  pub says : risingFrom b (drop i ds) ≡ risingFrom 0 ds
+module _ {says : Bool} {rest : List ℕ → Bool} {ds : List ℕ} {i : ℕ} (g : Passing says rest ds i) where
+  pub all-passed : length ds ≤ i → rest [] ≡ says
+  all-passed h = ap rest (sym (drop-of-length-le ds {i = i} h)) ∙ g .decides
 
-cons : (ds : List ℕ) (i : ℕ) → i < length ds → drop i ds ≡ getD ds i 0 ∷ drop (i + 1) ds
-cons ds i h = drop-cons ds i 0 h ∙ rw (add-one i)
+  module _ (h : i < length ds) where
+    cons : rest (getD ds i 0 ∷ drop (i + 1) ds) ≡ says
+    cons = rw (add-one i, ← drop-cons ds i 0 h) (g .decides)
 
-module _ {ds : List ℕ} {i : ℕ} (g : Dating ds i) where
-  pub off : i < length ds → isDay (getD ds i 0) ≡ false → false ≡ daysOk ds
-  unfolding daysOk
-  off h e = sym (rw (cons ds i h) (rw e)) ∙ g .says
+    pub fails : rest (getD ds i 0 ∷ drop (i + 1) ds) ≡ false → false ≡ says
+    fails e = sym e ∙ cons
 
-  pub dated : i < length ds → isDay (getD ds i 0) ≡ true → Dating ds (i + 1)
-  unfolding daysOk
-  dated h e = record { within = omega arith; says = sym (ap daysOk (cons ds i h) ∙ rw e) ∙ g .says }
-
-  pub all-dated : length ds ≤ i → true ≡ daysOk ds
-  unfolding daysOk
-  all-dated h = sym (rw (drop-of-length-le ds {i = i} h)) ∙ g .says
-
-module _ {ds : List ℕ} {b i : ℕ} (g : Ordering ds b i) where
-  pub back : i < length ds → getD ds i 0 ≤ b → false ≡ risingFrom 0 ds
-  unfolding risingFrom
-  back h e = sym (rw (cons ds i h) (rw (le-ltb b (getD ds i 0) e))) ∙ g .says
-
-  pub on : i < length ds → b < getD ds i 0 → Ordering ds (getD ds i 0) (i + 1)
-  unfolding risingFrom
-  on h e = record { within = omega arith; says = sym (ap (risingFrom b) (cons ds i h) ∙ rw (lt-ltb b (getD ds i 0) e)) ∙ g .says }
-
-  pub all-rise : length ds ≤ i → true ≡ risingFrom 0 ds
-  unfolding risingFrom
-  all-rise h = sym (rw (drop-of-length-le ds {i = i} h)) ∙ g .says
+    pub passes : {more : List ℕ → Bool} → rest (getD ds i 0 ∷ drop (i + 1) ds) ≡ more (drop (i + 1) ds) → Passing says more ds (i + 1)
+    passes e = record { within = omega arith; decides = sym e ∙ cons }
 
 -- ---- What one day adds
 
 -- the day is asked into the part
 module _ {ix : List ℕ} {d : ℕ} {part : List ℕ} (q : AddAsks ix d part) where
-  abbrev fs : List ℕ
-  fs = firsts ix
-
-  abbrev ls : List ℕ
-  ls = lasts ix
-
-  held : Holds ix (numbers ix) fs ls
+  held : Holds ix (numbers ix) (firsts ix) (lasts ix)
   held = built-holds ix (q .built)
 
   abbrev finds : List ℕ
-  finds = keep (fitsAt fs ls d d) (length fs)
+  finds = keep (fitsAt (firsts ix) (lasts ix) d d) (length (firsts ix))
 
   listed : map (λ p. getD (numbers ix) p 0) finds ≡ numbered ix finds
-  listed = sym (keep-map (λ p. getD ix p 0) (λ p. getD (numbers ix) p 0) (fitsAt fs ls d d) (length fs) (held .numbers))
+  listed = sym (keep-map (λ p. getD ix p 0) (λ p. getD (numbers ix) p 0) (fitsAt (firsts ix) (lasts ix) d d) (length (firsts ix)) (held .numbers))
 
   listed-length : length (numbered ix finds) ≡ length finds
   listed-length = length-map finds (λ (p : ℕ). getD ix p 0)
 
   few : length (numbered ix finds) ≤ length part
-  unfolding keep
-  few = omega (arith, listed-length, keep-room (fitsAt fs ls d d) 0 (length fs) zero-le, q .room)
+  few = unfold keep in omega (arith, listed-length, keep-room (fitsAt (firsts ix) (lasts ix) d d) 0 (length (firsts ix)) zero-le, q .room)
 
   -- it is not refused: its finds stand in the first places
-  given : dayIn ix d part ≡ record { result = record { refusal = 0; count = length (numbered ix finds); comparisons = formula fs ls (start fs ls d d) finds }; out = numbered ix finds ++ drop (length (numbered ix finds)) part }
-  unfolding question
-  given = day-in ix d part (q .dated) ∙ rw listed (give-all (numbered ix finds) (formula fs ls (start fs ls d d) finds) part few)
+  given : dayIn ix d part ≡ record { result = record { refusal = 0; count = length (numbered ix finds); comparisons = formula (firsts ix) (lasts ix) (start (firsts ix) (lasts ix) d d) finds }; out = numbered ix finds ++ drop (length (numbered ix finds)) part }
+  given = unfold question in day-in ix d part (q .dated) ∙ rw listed (give-all (numbered ix finds) (formula (firsts ix) (lasts ix) (start (firsts ix) (lasts ix) d d) finds) part few)
 
   asked-is : asked ix d part ≡ numbered ix finds ++ drop (length (numbered ix finds)) part
   asked-is = ap (λ (o : Reported). o .out) given
@@ -110,7 +71,7 @@ module _ {ix : List ℕ} {d : ℕ} {part : List ℕ} (q : AddAsks ix d part) whe
     -- with the place that is reached by skipping
     module _ {m f : ℕ} (z : Skips ix (take (r .count) xs) m f) where
       parted : Parted m f finds
-      parted = z .skips finds (kept-rows ix (fitsAt fs ls d d)) found-is
+      parted = z .skips finds (kept-rows ix (fitsAt (firsts ix) (lasts ix) d d)) found-is
 
       pub f-in : f ≤ r .count
       f-in = omega (arith, parted .within, count-is, listed-length)
@@ -119,7 +80,7 @@ module _ {ix : List ℕ} {d : ℕ} {part : List ℕ} (q : AddAsks ix d part) whe
       f-within = omega (arith, length-take-le (r .count) xs count-in, f-in)
 
       new : drop f (take (r .count) xs) ≡ dayFrom ix m d
-      new = ap (drop f) found-is ∙ drop-map (λ (p : ℕ). getD ix p 0) f finds ∙ ap (numbered ix) (rest-from (fitsAt fs ls d d) m (length fs) f parted)
+      new = ap (drop f) found-is ∙ drop-map (λ (p : ℕ). getD ix p 0) f finds ∙ ap (numbered ix) (rest-from (fitsAt (firsts ix) (lasts ix) d d) m (length (firsts ix)) f parted)
 
       new-count : r .count - f ≡ length (dayFrom ix m d)
       new-count = sym (length-drop f (take (r .count) xs) ∙ omega (arith, length-take-le (r .count) xs count-in)) ∙ ap length new
@@ -137,13 +98,7 @@ pub lent : (xs : List ℕ) (a : ℕ) → take (length xs - a) (drop a xs) ≡ dr
 lent xs a = take-all (length xs - a) (drop a xs) (omega (arith, length-drop a xs))
 
 module _ {ix ds : List ℕ} {m : ℕ} {part : List ℕ} (q : GatherAsks ix ds m part) where
-  abbrev gs : List ℕ
-  gs = firsts ix
-
-  abbrev ks : List ℕ
-  ks = lasts ix
-
-  holds : Holds ix (numbers ix) gs ks
+  holds : Holds ix (numbers ix) (firsts ix) (lasts ix)
   holds = built-holds ix (q .built)
 
   -- no day is left
@@ -152,14 +107,13 @@ module _ {ix ds : List ℕ} {m : ℕ} {part : List ℕ} (q : GatherAsks ix ds m 
     nil-is = drop-of-length-le ds {i = 0} (omega arith)
 
     pub none-left : daysFrom ix m ds ≡ []
-    none-left = rw nil-is (ap (numbered ix) (added-none gs ks (holds .sorted) m))
+    none-left = rw nil-is (ap (numbered ix) (added-none (firsts ix) (lasts ix) (holds .sorted) m))
 
     pub none-asked : askedAll ix m ds part ≡ part
-    unfolding askedAll
-    none-asked = rw nil-is
+    none-asked = unfold askedAll in rw nil-is
 
-  m-in : m ≤ length gs
-  m-in = rw (q .begun) (latest-is gs ks (holds .sorted) (q .b) .within)
+  m-in : m ≤ length (firsts ix)
+  m-in = rw (q .begun) (latest-is (firsts ix) (lasts ix) (holds .sorted) (q .b) .within)
 
   -- the first day x, by which M rows begin
   module _ (some : 0 < length ds) where
@@ -170,12 +124,10 @@ module _ {ix ds : List ℕ} {m : ℕ} {part : List ℕ} (q : GatherAsks ix ds m 
     cons-is = drop-cons ds 0 0 some
 
     dates : (isDay x ≡ true) × (daysOk (drop 1 ds) ≡ true)
-    unfolding daysOk
-    dates = both (isDay x) (daysOk (drop 1 ds)) (ap daysOk (sym cons-is) ∙ q .dated)
+    dates = unfold daysOk in both (isDay x) (daysOk (drop 1 ds)) (ap daysOk (sym cons-is) ∙ q .dated)
 
     rises : (ltb (q .b) x ≡ true) × (risingFrom x (drop 1 ds) ≡ true)
-    unfolding risingFrom
-    rises = both (ltb (q .b) x) (risingFrom x (drop 1 ds)) (ap (risingFrom (q .b)) (sym cons-is) ∙ q .rising)
+    rises = unfold risingFrom in both (ltb (q .b) x) (risingFrom x (drop 1 ds)) (ap (risingFrom (q .b)) (sym cons-is) ∙ q .rising)
 
     after-b : q .b < x
     after-b = ltb-true (q .b) x (rises .0)
@@ -183,30 +135,28 @@ module _ {ix ds : List ℕ} {m : ℕ} {part : List ℕ} (q : GatherAsks ix ds m 
     pub asks-add : AddAsks ix x part
     asks-add = record { built = q .built; dated = dates .0; room = omega (arith, q .room, m-in) }
 
-    module _ {M : ℕ} (e : M ≡ latest gs ks x) where
-      M-in : M ≤ length gs
-      M-in = rw e (latest-is gs ks (holds .sorted) x .within)
+    module _ {M : ℕ} (e : M ≡ latest (firsts ix) (lasts ix) x) where
+      M-in : M ≤ length (firsts ix)
+      M-in = rw e (latest-is (firsts ix) (lasts ix) (holds .sorted) x .within)
 
       pub M-small : M ≤ 1024
       M-small = omega (arith, M-in, holds .few)
 
       -- what it adds, and what the rest does
       pub both-are : daysFrom ix m ds ≡ dayFrom ix m x ++ daysFrom ix M (drop 1 ds)
-      both-are =
-          let f : ℕ → ℕ = λ p. getD ix p 0 in
-          let es : keep (from m (containsAny gs ks (x ∷ drop 1 ds))) (length gs) ≡ keep (from m (fitsAt gs ks x x)) (length gs) ++ keep (from M (containsAny gs ks (drop 1 ds))) (length gs)
-          = rw (q .begun, e) (added gs ks (holds .sorted) (q .b) x after-b (drop 1 ds) (rises .1)) in
-          ap (daysFrom ix m) cons-is ∙ ap (numbered ix) es ∙ map-append f (keep (from m (fitsAt gs ks x x)) (length gs)) (keep (from M (containsAny gs ks (drop 1 ds))) (length gs))
+      both-are = let f : ℕ → ℕ = λ p. getD ix p 0 in
+          let es : keep (from m (containsAny (firsts ix) (lasts ix) (x ∷ drop 1 ds))) (length (firsts ix)) ≡ keep (from m (fitsAt (firsts ix) (lasts ix) x x)) (length (firsts ix)) ++ keep (from M (containsAny (firsts ix) (lasts ix) (drop 1 ds))) (length (firsts ix))
+          = rw (q .begun, e) (added (firsts ix) (lasts ix) (holds .sorted) (q .b) x after-b (drop 1 ds) (rises .1)) in
+          ap (daysFrom ix m) cons-is ∙ ap (numbered ix) es ∙ map-append f (keep (from m (fitsAt (firsts ix) (lasts ix) x x)) (length (firsts ix))) (keep (from M (containsAny (firsts ix) (lasts ix) (drop 1 ds))) (length (firsts ix)))
 
       module _ {k : ℕ} (n : k ≡ length (dayFrom ix m x)) where
         pub both-asked : askedAll ix m ds part ≡ dayFrom ix m x ++ askedAll ix M (drop 1 ds) (drop k (asked ix x part))
-        unfolding askedAll
-        both-asked = ap (λ (zs : List ℕ). askedAll ix m zs part) cons-is ∙ rw (e, n)
+        both-asked = unfold askedAll in ap (λ (zs : List ℕ). askedAll ix m zs part) cons-is ∙ rw (e, n)
 
         pub k-room : k + m ≤ M
         k-room =
-            let l : k ≡ length (keep (from m (fitsAt gs ks x x)) (length gs)) = n ∙ length-map (keep (from m (fitsAt gs ks x x)) (length gs)) (λ (p : ℕ). getD ix p 0) in
-            rw (l, q .begun, e) (added-room gs ks (holds .sorted) (q .b) x after-b)
+            let l : k ≡ length (keep (from m (fitsAt (firsts ix) (lasts ix) x x)) (length (firsts ix))) = n ∙ length-map (keep (from m (fitsAt (firsts ix) (lasts ix) x x)) (length (firsts ix))) (λ (p : ℕ). getD ix p 0) in
+            rw (l, q .begun, e) (added-room (firsts ix) (lasts ix) (holds .sorted) (q .b) x after-b)
 
         pub asks-rest : GatherAsks ix (drop 1 ds) M (drop k (asked ix x part))
         asks-rest = record {
@@ -233,10 +183,8 @@ starts q = record { same = refl; within = zero-le; few = zero-le; asks = q; part
 
 module _ {ix ds answer₀ answer : List ℕ} {m at i : ℕ} (g : Going ix ds answer₀ answer m at i) where
   pub ends : length ds ≤ i → Gathered ix ds answer₀ answer at
-  ends h =
-      let l : length (drop i ds) ≡ 0 = length-drop i ds ∙ omega arith in
-      let z : take at answer ≡ daysFrom ix 0 ds = sym (g .part ∙ rw (none-left (g .asks) l, append-nil)) in
-      record {
+  ends h = let l : length (drop i ds) ≡ 0 = length-drop i ds ∙ omega arith in
+      let z : take at answer ≡ daysFrom ix 0 ds = sym (g .part ∙ rw (none-left (g .asks) l, append-nil)) in record {
         count = sym (length-take-le at answer (g .within)) ∙ ap length z;
         first = z;
         places = sym (g .places ∙ rw (none-asked (g .asks) l) (take-append-drop at answer));
@@ -307,13 +255,11 @@ module _ {ix ds answer₀ answer : List ℕ} {m at i : ℕ} (g : Going ix ds ans
       unwritten = rw after-is (drop-at so-far left (at + k) long)
 
       pub goes-on : Going ix ds answer₀ after M (at + k) (i + 1)
-      goes-on =
-          let n : length after ≡ at + k + length left = ap length after-is ∙ length-append so-far left ∙ omega (arith, long) in
+      goes-on = let n : length after ≡ at + k + length left = ap length after-is ∙ length-append so-far left ∙ omega (arith, long) in
           let l : length free ≡ length answer - at = ap length (lent answer at) ∙ length-drop at answer in
           let d : drop 1 rest ≡ drop (i + 1) ds = rw (lent ds i) (drop-drop 1 i ds) in
           let w : daysFrom ix m (drop i ds) ≡ daysFrom ix m rest = rw (lent ds i) in
-          let v : askedAll ix m (drop i ds) (drop at answer) ≡ askedAll ix m rest free = rw (lent ds i, lent answer at) in
-          record {
+          let v : askedAll ix m (drop i ds) (drop at answer) ≡ askedAll ix m rest free = rw (lent ds i, lent answer at) in record {
             same = omega (arith, length-drop k (asked ix today free), asked-length asks-day, room, M-in q some-left e′, asks-day .room, g .within, g .same);
             within = omega arith;
             few = omega (arith, room, g .few);
@@ -329,12 +275,10 @@ refusal-of n = record { refusal = n; count = 0; comparisons = 0 }
 
 module _ (ix ds out : List ℕ) {r : Listed} where
   pub days-off : daysOk ds ≡ false → r ≡ refusal-of 3 → Gave r out (daysIn ix ds out)
-  unfolding daysOf
-  days-off e = refusal (rw (e, daysOf))
+  days-off e = unfold daysOf in refusal (rw (e, daysOf))
 
   pub days-back : daysOk ds ≡ true → risingFrom 0 ds ≡ false → r ≡ refusal-of 10 → Gave r out (daysIn ix ds out)
-  unfolding daysOf
-  days-back d e = refusal (rw (d, daysOf) (rw (e, daysOf)))
+  days-back d e = unfold daysOf in refusal (rw (d, daysOf) (rw (e, daysOf)))
 
 -- the days pass the checks
 pub record Accepted (ix ds : List ℕ) : Type 0 where
@@ -343,13 +287,7 @@ pub record Accepted (ix ds : List ℕ) : Type 0 where
   pub rising : risingFrom 0 ds ≡ true
 
 module _ {ix ds : List ℕ} (q : Accepted ix ds) where
-  abbrev js : List ℕ
-  js = firsts ix
-
-  abbrev es : List ℕ
-  es = lasts ix
-
-  holding : Holds ix (numbers ix) js es
+  holding : Holds ix (numbers ix) (firsts ix) (lasts ix)
   holding = built-holds ix (q .built)
 
   pub asks-gather : {answer : List ℕ} → length answer ≡ 2048 → GatherAsks ix ds 0 answer
@@ -358,26 +296,25 @@ module _ {ix ds : List ℕ} (q : Accepted ix ds) where
     dated = q .dated;
     b = 0;
     rising = q .rising;
-    begun = sym (latest-none js es (holding .sorted) (holding .begins));
+    begun = sym (latest-none (firsts ix) (lasts ix) (holding .sorted) (holding .begins));
     room = omega (arith, n, holding .few);
   }
 
   abbrev all : List ℕ
-  all = keep (containsAny js es ds) (length js)
+  all = keep (containsAny (firsts ix) (lasts ix) ds) (length (firsts ix))
 
   abbrev names : List ℕ
   names = map (λ p. getD (numbers ix) p 0) all
 
   given-is : (out : List ℕ) → daysIn ix ds out ≡ give names 0 out
-  unfolding daysOf
-  given-is out = rw (q .dated, daysOf) (rw (q .rising, daysOf))
+  given-is out = unfold daysOf in rw (q .dated, daysOf) (rw (q .rising, daysOf))
 
   module _ {answer after : List ℕ} {k : ℕ} (a : Gathered ix ds answer after k) where
     all-is : daysFrom ix 0 ds ≡ names
-    all-is = ap (numbered ix) (added-all js es (holding .sorted) ds) ∙ keep-map (λ p. getD ix p 0) (λ p. getD (numbers ix) p 0) (containsAny js es ds) (length js) (holding .numbers)
+    all-is = ap (numbered ix) (added-all (firsts ix) (lasts ix) (holding .sorted) ds) ∙ keep-map (λ p. getD ix p 0) (λ p. getD (numbers ix) p 0) (containsAny (firsts ix) (lasts ix) ds) (length (firsts ix)) (holding .numbers)
 
     pub few-in : k ≤ 1024
-    few-in = omega (arith, a .count, length-map (keep (from 0 (containsAny js es ds)) (length js)) (λ (p : ℕ). getD ix p 0), keep-from (containsAny js es ds) 0 (length js) zero-le, holding .few)
+    few-in = omega (arith, a .count, length-map (keep (from 0 (containsAny (firsts ix) (lasts ix) ds)) (length (firsts ix))) (λ (p : ℕ). getD ix p 0), keep-from (containsAny (firsts ix) (lasts ix) ds) 0 (length (firsts ix)) zero-le, holding .few)
 
     counted : k ≡ length names
     counted = a .count ∙ ap length all-is

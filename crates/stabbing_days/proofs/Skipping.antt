@@ -1,11 +1,6 @@
 -- The rows of a list that lie past the first m, found by halving: the steps of `skip`, apart from the code. Assumes nothing.
 use Rattle.basis.proofs.Prelude.{_∙_, _≡_, ap, refl, sym, _+_, _-_, _<_, _≤_, suc, zero, zero-le, ℕ, List, [], _++_, _∷_, map, Bool, _&&_, _≢_, leb, ltb, List·getD-append, drop, getD, length, length-append, length-map, drop-at, getD-append-add, le-refl, arith, le-ltb, leb-true, lt-ltb, ltb-false, ltb-true, both, by-eq, by-test}
-use Rattle.stabbing.specs.Tree.{keep}
-use Rattle.stabbing.specs.Index.{Built, numbers, firsts, markIn}
-use Rattle.stabbing.specs.Contracts.{from}
-use Rattle.stabbing.proofs.Block.{built-holds, leads-back}
-use Rattle.stabbing.proofs.Days.{keep-parts}
-use Rattle.stabbing.proofs.Listing.{lists}
+use Rattle.stabbing.{specs.Tree.keep, specs.Index.{Built, numbers, firsts, markIn}, specs.Contracts.from, proofs.Block.{built-holds, leads-back}, proofs.Days.keep-parts, proofs.Listing.lists}
 use Rattle.stabbing_query.specs.Contracts.{numbered}
 use Rattle.stabbing_days.specs.Contracts.{InRows, Parted, Skips}
 
@@ -24,8 +19,7 @@ meets m r us vs low high q = by-test (ltb r (length us))
 
 -- of the positions that pass a test, those from the place r on are those from m on
 pub rest-from : (t : ℕ → Bool) (m n r : ℕ) → Parted m r (keep t n) → drop r (keep t n) ≡ keep (from m t) n
-rest-from t m n r q =
-    let a : ℕ → Bool = λ p. ltb p m && t p in
+rest-from t m n r q = let a : ℕ → Bool = λ p. ltb p m && t p in
     let parts : keep t n ≡ keep a n ++ keep (from m t) n = keep-parts t a t m n (λ p h. rw (lt-ltb p m h)) (λ p h _. rw (le-ltb p m h)) (λ p _ _. refl) in
     let place : r ≡ length (keep a n) = meets m r (keep a n) (keep (from m t) n)
     (λ k h. ltb-true _ m (both (ltb (getD (keep a n) k 0) m) (t (getD (keep a n) k 0)) (lists a n .passes k h .1) .0))
@@ -88,8 +82,7 @@ module _ {ix xs : List ℕ} {m lo hi : ℕ} (g : Halving ix xs m lo hi) where
       inside = omega (arith, long ix ps e, g .within)
 
       mark-is : n ≡ suc (getD ps j 0)
-      mark-is =
-          let p : getD ps j 0 < length (firsts ix) = r .inside j inside in
+      mark-is = let p : getD ps j 0 < length (firsts ix) = r .inside j inside in
           en ∙ ap (markIn ix) (ap (λ (ys : List ℕ). getD ys j 0) e ∙ getD-map (λ (q : ℕ). getD ix q 0) ps j inside ∙ built-holds ix (g .built) .numbers (getD ps j 0) p)
           ∙ leads-back ix (g .built) (getD ps j 0) p
 
@@ -114,8 +107,7 @@ module _ {ix xs : List ℕ} {m lo hi : ℕ} (g : Halving ix xs m lo hi) where
 -- the last of them is looked at first, by the mark n of its number: where it is not new none is
 module _ {ix xs : List ℕ} {m : ℕ} (b : Built ix) (some : length xs ≢ 0) {n : ℕ} (e : n ≡ markIn ix (getD xs (length xs - 1) 0)) where
   pub none-new : n ≤ m → Skips ix xs m (length xs)
-  none-new h =
-      let z : length xs - 1 + 1 ≡ length xs = omega arith in
+  none-new h = let z : length xs - 1 + 1 ≡ length xs = omega arith in
       rw z at (ends (old (begins ix xs m b) zero-le (omega arith) e h) (omega arith))
 
   pub last-new : m < n → Halving ix xs m 0 (length xs - 1)

@@ -2,17 +2,14 @@
 use Rattle.basis.proofs.Prelude.{sym, getD, length-take-le, arith, needs}
 use Rattle.stabbing_days.specs.Contracts.{AddAsks}
 use Rattle.stabbing_days.proofs.Several as Steps
-use Rattle.stabbing_days.proofs.add.Statement.{statement}
-use Rattle.stabbing_days.proofs.add.Tie as tie
+use Rattle.stabbing_days.proofs.add.{Statement.statement, Tie.After-day, Tie.close, Tie.spec}
 
 -- what is asked of the day, where it is asked
-asks : (d : tie.After-day) → let g = d .before .before .before .before .before .args in AddAsks (g .index .now) (getD (g .days .now) 0 0) (g .part .now)
+asks : (d : After-day) → let g = d .before .before .before .before .before .args in AddAsks (g .index .now) (getD (g .days .now) 0 0) (g .part .now)
 asks d = d .before .before .before .before .before .pre .1
 
 pub add-spec : {M : Type 1} → statement M
-add-spec =
-    tie.close
-    (tie.spec
+add-spec = close (spec
     (λ c. search needs) (λ c κs. search needs)
     -- the first k places, lent to `skip`
     (λ c. let d = c .before .before in Steps.count-in (asks d) (d .day .ensures))

@@ -1,11 +1,10 @@
 -- `stabbing_days::days` meets its contract: each need is a step of `proofs/Several.antt`. Assumes nothing.
 use Rattle.basis.proofs.Prelude.{_∙_, sym, needs, not-false, not-true}
 use Rattle.stabbing_days.proofs.Several as Steps
-use Rattle.stabbing_days.proofs.days.Statement.{statement}
-use Rattle.stabbing_days.proofs.days.Tie as tie
+use Rattle.stabbing_days.proofs.days.{Statement.statement, Tie.Else2, Tie.close, Tie.spec}
 
 -- both checks are passed
-accepted : (c : tie.Else2) → let g = c .before .before .before .before .before .before .args in Steps.Accepted (g .index .now) (g .days .now)
+accepted : (c : Else2) → let g = c .before .before .before .before .before .before .args in Steps.Accepted (g .index .now) (g .days .now)
 accepted c = record {
   built = c .before .before .before .before .before .before .pre;
   dated = sym (c .before .before .before .on-calendar .ensures) ∙ not-false _ (c .before .before .if1 .left);
@@ -13,9 +12,7 @@ accepted c = record {
 }
 
 pub days-spec : {M : Type 1} → statement M
-days-spec =
-    tie.close
-    (tie.spec
+days-spec = close (spec
     (λ c κs. search needs) (λ c κs. search needs)
     (λ c. let g = c .before .before .before .before .before .args in Steps.days-off (g .index .now) (g .days .now) (g .out .now) (sym (c .before .before .on-calendar .ensures) ∙ not-true _ (c .before .if1 .taken)) (c .refuse .ensures))
     (λ c κs. search needs) (λ c κs. search needs)

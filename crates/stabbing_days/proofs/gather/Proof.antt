@@ -1,25 +1,15 @@
 -- `stabbing_days::gather` meets its contract: each need is a step of `proofs/Several.antt`. Assumes nothing.
 use Rattle.basis.proofs.Prelude.{refl, _-_, length, arith, needs}
 use Rattle.stabbing_days.proofs.Several as Steps
-use Rattle.stabbing_days.proofs.Several.{Going}
-use Rattle.stabbing_days.proofs.gather.Statement.{statement}
-use Rattle.stabbing_days.proofs.gather.Tie as tie
-
-abbrev Inv-loop : tie.InvT-loop
-Inv-loop index days answer₀ begun₀ at₀ i₀ answer begun at i = Going index days answer₀ answer begun at i
-
-abbrev μ-loop : tie.MeasureT-loop
-μ-loop index days answer₀ begun₀ at₀ i₀ answer begun at i = length days - i
+use Rattle.stabbing_days.proofs.{Several.Going, gather.{Statement.statement, Tie.close, Tie.spec}}
 
 pub gather-spec : {M : Type 1} → statement M
-gather-spec =
-    tie.close
-    (tie.spec
-    Inv-loop
-    μ-loop
+gather-spec = close (spec
+    (λ index days answer₀ begun₀ at₀ i₀ answer begun at i. Going index days answer₀ answer begun at i)
+    (λ _ days _ _ _ _ _ _ _ i. length days - i)
     (λ c. Steps.starts (c .before .before .pre))
-    (λ c. search needs) (λ c. search needs) (λ c. search needs) (λ c. search needs) (λ c. search needs)
-    (λ c. search needs) (λ c. search needs) (λ c. search needs)
+    (λ c. search needs) (λ c. search needs) (λ c. search needs) (λ c. search needs) (λ c. search needs) (λ c. search needs) (λ c. search needs)
+    (λ c. search needs)
     -- the call of `add`, and its result
     (λ c κs. let a = c .before .before in (Steps.some-left (a .before .loop .inv) (a .loop-test .taken), Steps.asks-day (a .before .loop .inv) (a .loop-test .taken)))
     (λ c. let a = c .before .before .before .before .before in record { fits = omega (arith, Steps.small (a .before .loop .inv) (a .loop-test .taken) refl (c .before .before .add .ensures)) })

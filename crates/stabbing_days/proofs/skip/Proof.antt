@@ -1,22 +1,12 @@
 -- `stabbing_days::skip` meets its contract: each need is a step of `proofs/Skipping.antt`. Assumes nothing.
 use Rattle.basis.proofs.Prelude.{_-_, arith, needs}
 use Rattle.stabbing_days.proofs.Skipping as Steps
-use Rattle.stabbing_days.proofs.Skipping.{Halving}
-use Rattle.stabbing_days.proofs.skip.Statement.{statement}
-use Rattle.stabbing_days.proofs.skip.Tie as tie
-
-abbrev Inv-loop : tie.InvT-loop
-Inv-loop index found m n end lo₀ hi₀ lo hi = Halving index found m lo hi
-
-abbrev μ-loop : tie.MeasureT-loop
-μ-loop index found m n end lo₀ hi₀ lo hi = hi - lo
+use Rattle.stabbing_days.proofs.{Skipping.Halving, skip.{Statement.statement, Tie.close, Tie.spec}}
 
 pub skip-spec : {M : Type 1} → statement M
-skip-spec =
-    tie.close
-    (tie.spec
-    Inv-loop
-    μ-loop
+skip-spec = close (spec
+    (λ index found m n end lo₀ hi₀ lo hi. Halving index found m lo hi)
+    (λ _ _ _ _ _ _ _ lo hi. hi - lo)
     (λ c. let g = c .before .before .args in Steps.all-new (g .index .now) (g .found .now) (omega (arith, c .if1 .taken)))
     (λ c. let s = c .before .before .before in Steps.ends (Steps.begins (s .args .index .now) (s .args .found .now) (s .args .m) (s .pre)) (omega (arith, c .if2 .taken)))
     -- found[end], and whether it is new
