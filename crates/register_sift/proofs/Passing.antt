@@ -1,8 +1,6 @@
 -- The end of a line, byte by byte. Assumes nothing.
 use Rattle.basis.proofs.Prelude.{_∙_, _≡_, ap, _+_, _<_, ℕ, List, drop, getD, length}
-use Rattle.fields.proofs.Places.{here}
-use Rattle.repairing.specs.Repair.{afterLine}
-use Rattle.repairing.proofs.Lines.{byte-ends, byte-passed}
+use Rattle.register_sift.proofs.Names.{here, afterLine, byte-ends, byte-passed}
 
 module _ (text : List ℕ) (i : ℕ) (h : i < length text) where
   pub ends-here : getD text i 0 ≡ 10 → afterLine (drop i text) ≡ drop (i + 1) text

@@ -1,19 +1,10 @@
 -- The state after some lines, one line more, and the end. Assumes nothing.
 use Rattle.basis.proofs.Prelude.{_∙_, _≡_, ap, refl, sym, _+_, _<_, _≤_, ℕ, List, [], _++_, _∷_, append-nil, append-snoc, Bool, false, true, drop, drop-of-length-le, getD-replicate, length, drop-drop, drop-set-lt, length-drop, length-replicate, length-set, replicate, set, take, take-append-drop, length-take-le, take-suc-set, add-one, arith, le-leb, lt-leb}
-use Rattle.spell.specs.declared.Spell.{Spell}
-use Rattle.spell.specs.Blank.{blank}
-use Rattle.spell.specs.Listing.{stands}
-use Rattle.spell.proofs.Listing.{stands-more}
-use Rattle.fields.specs.Fields.{Found}
-use Rattle.register.specs.Text.{readLine}
+use Rattle.register_sift.proofs.Names.{Spell, Found, readLine, linesOf, verdict, keeping, keptAfter, verdictsAfter, keptOf, lines-none, passes, keeps-it, drops-it, kept-first, verdicts-first, Past, Marks, Reads, Judges}
+use Rattle.spell.{specs.Blank.blank, specs.Listing.stands, proofs.Listing.stands-more}
 use Rattle.register_read.proofs.Progress.{marked-more}
-use Rattle.repairing.specs.Repair.{linesOf, verdict, keeping, keptAfter, verdictsAfter, keptOf}
-use Rattle.repairing.proofs.Lines.{lines-none}
 use Rattle.repairing.proofs.Remarks.{verdicts-length}
-use Rattle.repairing.proofs.Keeping.{passes, keeps-it, drops-it, kept-first, verdicts-first}
-use Rattle.register_sift.specs.declared.Judged.{Judged}
-use Rattle.register_sift.specs.Sifting.{withinLimit, Sifts}
-use Rattle.register_sift.specs.Contracts.{Past, Marks, Reads, Judges}
+use Rattle.register_sift.specs.{declared.Judged.Judged, Sifting.{withinLimit, Sifts}}
 
 pub record State (text : List ℕ) (met₀ met : List ℕ) (spells : List Spell) (seen : List Bool) (count lines at : ℕ) : Type 0 where
   pub few : count ≤ 1024
@@ -29,8 +20,7 @@ pub record State (text : List ℕ) (met₀ met : List ℕ) (spells : List Spell)
   pub says : verdictsAfter [] (linesOf text) ≡ take lines met ++ verdictsAfter (take count spells) (linesOf (drop at text))
 
 pub begins : (text met : List ℕ) {none : Spell} → none ≡ blank → length text ≤ length met → State text met met (replicate 1024 none) (replicate 65536 false) 0 0 0
-unfolding stands
-begins text met {none} e h = record {
+begins text met {none} e h = unfold stands in record {
   few = omega arith;
   room = length-replicate 1024 none;
   marks = record { wide = length-replicate 65536 false; marked = λ k l. getD-replicate 65536 k false false l };
@@ -77,8 +67,7 @@ module _ {text met₀ met : List ℕ} {spells : List Spell} {seen : List Bool} {
     keeps-on = st .keeps ∙ kept-first kept (drop at text) line left refl ∙ rw (then, past .rest)
 
     says-on : verdictsAfter [] (linesOf text) ≡ take (lines + 1) (set met lines (r .number)) ++ verdictsAfter (take count′ spells′) (linesOf (drop next text))
-    says-on =
-        st .says ∙ ap (λ (l : List ℕ). take lines met ++ l) (verdicts-first kept (drop at text) line left refl)
+    says-on = st .says ∙ ap (λ (l : List ℕ). take lines met ++ l) (verdicts-first kept (drop at text) line left refl)
         ∙ rw (met-more, is, ← past .rest, then) (sym (append-snoc (take lines met) (verdict kept line) (verdictsAfter (take count′ spells′) (linesOf (drop next text)))))
 
     on : {seen′ : List Bool} → count′ ≤ 1024 → length spells′ ≡ 1024 → Marks seen′ (take count′ spells′) → drop count′ spells′ ≡ drop count′ (replicate 1024 blank)
@@ -108,8 +97,7 @@ module _ {text met₀ met : List ℕ} {spells : List Spell} {seen : List Bool} {
     listed = rw add-one (take-suc-set spells count (r .spell) (omega (arith, st .room, judged .room zero)))
 
     then-kept : keeping kept line ≡ take (count + 1) (set spells count (r .spell))
-    then-kept =
-        ap (keeping kept) (read .line)
+    then-kept = ap (keeping kept) (read .line)
         ∙ keeps-it kept (r .spell) (read .rest) (passes kept (r .spell) (read .rest) (sym (ap (verdict kept) (read .line)) ∙ sym is ∙ zero))
         ∙ sym listed
 
@@ -125,8 +113,7 @@ module _ {text met₀ met : List ℕ} {spells : List Spell} {seen : List Bool} {
 
 pub ends : {text met₀ met : List ℕ} {spells : List Spell} {seen : List Bool} {count lines at : ℕ} → State text met₀ met spells seen count lines at → length text ≤ at
     → Sifts text met₀ (record { spells = spells; count = count; lines = lines }) met
-unfolding keptAfter verdictsAfter
-ends {text} {met₀} {met} {spells} {seen} {count} {lines} {at} st h =
+ends {text} {met₀} {met} {spells} {seen} {count} {lines} {at} st h = unfold keptAfter verdictsAfter in
     let over : linesOf (drop at text) ≡ [] = ap linesOf (drop-of-length-le text h) ∙ lines-none in
     let kept : keptOf text ≡ take count spells = st .keeps ∙ ap (keptAfter (take count spells)) over in
     let said : verdictsAfter [] (linesOf text) ≡ take lines met = st .says ∙ ap (λ (l : List (List ℕ)). take lines met ++ verdictsAfter (take count spells) l) over ∙ append-nil (take lines met) in
@@ -142,9 +129,7 @@ ends {text} {met₀} {met} {spells} {seen} {count} {lines} {at} st h =
 
 module _ (text : List ℕ) where
   pub within : length text ≤ 65536 → withinLimit text ≡ text
-  unfolding withinLimit
-  within h = rw (le-leb (length text) 65536 h)
+  within h = unfold withinLimit in rw (le-leb (length text) 65536 h)
 
   pub beyond : 65536 < length text → withinLimit text ≡ []
-  unfolding withinLimit
-  beyond h = rw (lt-leb (length text) 65536 h)
+  beyond h = unfold withinLimit in rw (lt-leb (length text) 65536 h)
