@@ -9,12 +9,10 @@ toSay met i = placesOf (remarksFrom (suc i) (drop i met))
 
 module _ (met : List ℕ) (i : ℕ) (h : i < length met) where
   pub say-none : getD met i 0 ≡ 0 → toSay met i ≡ toSay met (i + 1)
-  unfolding remarksFrom
-  say-none e = rw (drop-cons met i 0 h, e, add-one i)
+  say-none e = unfold remarksFrom in rw (drop-cons met i 0 h, e, add-one i)
 
   pub say-one : (getD met i 0 ≡ 0 → ⊥) → toSay met i ≡ suc i ∷ getD met i 0 ∷ toSay met (i + 1)
-  unfolding remarksFrom placesOf
-  say-one z = rw (drop-cons met i 0 h, ne-eqb (getD met i 0) 0 z, add-one i)
+  say-one z = unfold remarksFrom placesOf in rw (drop-cons met i 0 h, ne-eqb (getD met i 0) 0 z, add-one i)
 
 -- the remarks of the first i lines stand in the first k places
 pub record Saying (met : List ℕ) (entry now : List ℕ) (i k : ℕ) : Type 0 where
@@ -39,8 +37,7 @@ module _ {met entry now : List ℕ} {i k : ℕ} (s : Saying met entry now i k) (
         omega (arith, room, s .sized, s .here, ap length (s .whole), length-append (s .done) (toSay met i), ap length (say-one met i h z))
 
     pub says-one : {v : ℕ} → v ≡ getD met i 0 → Saying met entry (set (set now k (i + 1)) (k + 1) v) (i + 1) (k + 2)
-    says-one {v} e =
-        let a = s .done in
+    says-one {v} e = let a = s .done in
         let line = i + 1 in
         let first : drop k entry ≡ getD entry k 0 ∷ drop (suc k) entry = drop-cons entry k 0 (omega (arith, two-left, s .sized)) in
         let second : drop (suc k) entry ≡ getD entry (suc k) 0 ∷ drop (suc (suc k)) entry = drop-cons entry (suc k) 0 (omega (arith, two-left, s .sized)) in
@@ -51,8 +48,7 @@ module _ {met entry now : List ℕ} {i k : ℕ} (s : Saying met entry now i k) (
         rw (one, second) (set-at (a ++ (line ∷ [])) (getD entry (suc k) 0) (drop (suc (suc k)) entry) v (k + 1) longer) in
         let both : (a ++ (line ∷ [])) ++ (v ∷ drop (suc (suc k)) entry) ≡ (a ++ (line ∷ v ∷ [])) ++ drop (suc (suc k)) entry =
         append-assoc a (line ∷ []) (v ∷ drop (suc (suc k)) entry) ∙ sym (append-assoc a (line ∷ v ∷ []) (drop (suc (suc k)) entry)) in
-        let up : suc (suc k) ≡ k + 2 = omega arith in
-        record {
+        let up : suc (suc k) ≡ k + 2 = omega arith in record {
           done = a ++ (line ∷ v ∷ []);
           here = length-append a (line ∷ v ∷ []) ∙ omega (arith, s .here);
           whole = s .whole ∙ ap (λ (l : List ℕ). a ++ l) (say-one met i h z ∙ rw (e, add-one i)) ∙ sym (append-assoc a (line ∷ v ∷ []) (toSay met (i + 1)));
@@ -62,8 +58,7 @@ module _ {met entry now : List ℕ} {i k : ℕ} (s : Saying met entry now i k) (
         }
 
 pub all-said : {met entry now : List ℕ} {i k : ℕ} → Saying met entry now i k → length met ≤ i → now ≡ over (toSay met 0) entry
-unfolding remarksFrom placesOf
-all-said {met} {entry} {now} {i} {k} s h =
+all-said {met} {entry} {now} {i} {k} s h = unfold remarksFrom placesOf in
     let over : toSay met i ≡ [] = ap (λ (l : List ℕ). placesOf (remarksFrom (suc i) l)) (drop-of-length-le met h) in
     let whole : toSay met 0 ≡ s .done = s .whole ∙ ap (λ (l : List ℕ). s .done ++ l) over ∙ append-nil (s .done) in
     s .places ∙ rw (whole, s .here)

@@ -1,37 +1,25 @@
 -- The answer of a repair, at each way out. Assumes nothing.
 use Rattle.basis.proofs.Prelude.{_∙_, _≡_, ap, refl, sym, _*_, _+_, _-_, _<_, _≤_, ℕ, List, [], Bool, _&&_, false, true, leb, drop, length, replicate, take, take-at, arith, eq-eqb, le-leb, leb-true, lt-leb, ne-eqb, by-test}
 use Rattle.buffer.specs.Buffer.{over}
-use Rattle.orders.specs.Orders.{sortedBy}
-use Rattle.orders.proofs.Sorting.{sorted-length}
-use Rattle.spell.specs.declared.Spell.{Spell}
-use Rattle.spell.specs.Blank.{blank}
-use Rattle.spell.specs.Order.{earlierOf}
-use Rattle.register.specs.declared.Written.{Written}
-use Rattle.register.specs.Text.{writeAll}
-use Rattle.register.specs.Answers.{Writes}
-use Rattle.repairing.specs.declared.Repaired.{Repaired}
-use Rattle.repairing.specs.Repair.{linesOf, verdictsAfter, keptOf, putOf, repairedText, remarksFrom, placesOf, remarksOf, displacedIn}
-use Rattle.repairing.specs.Answers.{fitting, repairRefusal, repairRefused, Repairs}
-use Rattle.repairing.proofs.Remarks.{each-line, lines-few, verdicts-length, places-length, put-sized}
-use Rattle.register_sift.specs.declared.Sifted.{Sifted}
-use Rattle.register_sift.specs.Sifting.{Sifts}
+use Rattle.orders.{specs.Orders.sortedBy, proofs.Sorting.sorted-length}
+use Rattle.spell.{specs.declared.Spell.Spell, specs.Blank.blank, specs.Order.earlierOf}
+use Rattle.register.{specs.declared.Written.Written, specs.Text.writeAll, specs.Answers.Writes}
+use Rattle.repairing.{specs.declared.Repaired.Repaired, specs.Repair.{linesOf, verdictsAfter, keptOf, putOf, repairedText, remarksFrom, placesOf, remarksOf, displacedIn}, specs.Answers.{fitting, repairRefusal, repairRefused, Repairs}, proofs.Remarks.{each-line, lines-few, verdicts-length, places-length, put-sized}}
+use Rattle.register_sift.{specs.declared.Sifted.Sifted, specs.Sifting.Sifts}
 
 -- ---- What a refusal leaves, and what is given
 
 module _ {t out remarks : List ℕ} where
   refuses : (k : ℕ) → (k ≡ 0 → ⊥) → repairRefusal t (length out) (length remarks) ≡ k → Repairs t out remarks (repairRefused k) out remarks
-  refuses k z e =
-      let no = ne-eqb (repairRefusal t (length out) (length remarks)) 0 (λ n. z (sym e ∙ n)) in
+  refuses k z e = let no = ne-eqb (repairRefusal t (length out) (length remarks)) 0 (λ n. z (sym e ∙ n)) in
       record { answer = rw (no, e); text = rw no; said = rw no }
 
   pub too-long : {r : Repaired} → r ≡ repairRefused 12 → 65536 < length t → Repairs t out remarks r out remarks
-  unfolding repairRefusal
-  too-long e h = rw e (refuses 12 (λ z. omega arith) (rw (lt-leb (length t) 65536 h)))
+  too-long e h = unfold repairRefusal in rw e (refuses 12 (λ z. omega arith) (rw (lt-leb (length t) 65536 h)))
 
   module _ (short : length t ≤ 65536) where
     unfitting : {r : Repaired} → r ≡ repairRefused 11 → fitting t (length out) (length remarks) ≡ false → Repairs t out remarks r out remarks
-    unfolding repairRefusal
-    unfitting e f = rw e (refuses 11 (λ z. omega arith) (rw (le-leb (length t) 65536 short, f)))
+    unfitting e f = unfold repairRefusal in rw e (refuses 11 (λ z. omega arith) (rw (le-leb (length t) 65536 short, f)))
 
     pub remarks-short : {r : Repaired} → r ≡ repairRefused 11 → length remarks < length (placesOf (remarksOf t)) → Repairs t out remarks r out remarks
     unfolding fitting
@@ -44,8 +32,7 @@ module _ {t out remarks : List ℕ} where
     -- the text was written, or is too long for its list
     module _ {w : Written} {out′ : List ℕ} (wrote : Writes (repairedText t) out w out′) where
       pub text-short : {r : Repaired} → r ≡ repairRefused 11 → (w .refusal ≡ 0 → ⊥) → Repairs t out remarks r out′ remarks
-      unfolding fitting
-      text-short e z = by-test (leb (length (repairedText t)) (length out))
+      text-short e z = unfold fitting in by-test (leb (length (repairedText t)) (length out))
           (λ f. absurd (z (ap (λ (w : Written). w .refusal) (wrote .answer) ∙ rw f)))
           (λ f. rw (rw f at (wrote .places)) (unfitting e (rw f)))
 
@@ -97,8 +84,7 @@ module _ {text before met : List ℕ} {r : Sifted} (short : length text ≤ 6553
   place-count = places-length (remarksOf text) ∙ omega (arith, drop-count)
 
   pub all-remarks : placesOf (remarksFrom 1 (take (r .lines) met)) ≡ placesOf (remarksOf text)
-  all-remarks =
-      let said = verdictsAfter [] (linesOf text) in
+  all-remarks = let said = verdictsAfter [] (linesOf text) in
       ap (λ (l : List ℕ). placesOf (remarksFrom 1 l)) (ap (take (r .lines)) (s .said) ∙ take-at said (drop (length said) before) (r .lines) said-count)
 
   pub kept : take (r .count) (r .spells) ≡ keptOf text
