@@ -1,15 +1,6 @@
 -- A damaged text, repaired by computation; the order of the last two checks. Assumes nothing.
 use Rattle.basis.proofs.Prelude.{_≡_, refl, ℕ, List, [], _∷_, length, replicate}
-use Rattle.orders.specs.Orders.{insertBy, sortedBy}
-use Rattle.spell.specs.declared.Urgency.the-variants.{Grade}
-use Rattle.spell.specs.declared.Spell.{Spell}
-use Rattle.spell.specs.Order.{earlierOf}
-use Rattle.spell.specs.Listing.{stands}
-use Rattle.fields.specs.Fields.{found, digitsOf, decimalOf, passed, readDigits, readDecimal}
-use Rattle.register.specs.Text.{lineText, textOnto, readLetter, readValue, readUrgency, readLine}
-use Rattle.repairing.specs.declared.Repaired.{Repaired}
-use Rattle.repairing.specs.Repair.{laterLines, linesOf, verdict, keeping, keptAfter, verdictsAfter, remarksFrom, placesOf, someBefore, displacedIn, repairedText, remarksOf}
-use Rattle.repairing.specs.Answers.{fitting, repairRefusal, repairRefused, repairGiven, either}
+use Rattle.repairing.proofs.Names.{insertBy, sortedBy, Grade, Spell, earlierOf, stands, found, digitsOf, decimalOf, passed, readDigits, readDecimal, lineText, textOnto, readLetter, readValue, readUrgency, readLine, Repaired, laterLines, linesOf, verdict, keeping, keptAfter, verdictsAfter, remarksFrom, placesOf, someBefore, displacedIn, repairedText, remarksOf, fitting, repairRefusal, repairRefused, repairGiven, either}
 
 -- line 1 stands; line 2 is empty; line 3 is backwards, and its number is not taken; line 4 has that number, and belongs before line 1; the
 -- number of line 5 is taken; line 6 has no LF
@@ -49,8 +40,7 @@ bare :
     × (placesOf (remarksOf []) ≡ [])
     × (repairedText (10 ∷ 10 ∷ []) ≡ [])
     × (placesOf (remarksOf (10 ∷ 10 ∷ [])) ≡ 1 ∷ 12 ∷ 2 ∷ 12 ∷ [])
-unfolding sortedBy textOnto readDecimal readLine laterLines linesOf verdict keeping keptAfter verdictsAfter remarksFrom placesOf
-bare = (refl, refl, refl, refl)
+bare = unfold sortedBy textOnto readDecimal readLine laterLines linesOf verdict keeping keptAfter verdictsAfter remarksFrom placesOf in (refl, refl, refl, refl)
 
 abbrev spell : ℕ → Spell
 spell n = record { number = n; candidate = 1; first = 1; last = 1; urgency = Grade 1 }
@@ -60,5 +50,4 @@ full :
     (verdict (replicate 1024 (spell 7)) (found (spell 7) []) ≡ 6)
     × (verdict (replicate 1024 (spell 7)) (found (spell 8) []) ≡ 8)
     × (verdict (replicate 1023 (spell 7)) (found (spell 8) []) ≡ 0)
-unfolding stands verdict
-full = (refl, refl, refl)
+full = unfold stands verdict in (refl, refl, refl)

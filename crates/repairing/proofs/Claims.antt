@@ -1,23 +1,9 @@
 -- What repairing a register is for. Assumes nothing.
 use Rattle.basis.proofs.Prelude.{_∙_, _≡_, ap, refl, sym, _+_, _*_, _≤_, ℕ, List, List·Memᴰ, [], _∷_, map, true, _↔_, eqb, leb, length, arith, le-leb, leb-true, both, by-test}
-use Rattle.orders.specs.Orders.{sortedBy, inOrderBy}
-use Rattle.orders.proofs.Sorting.{in-order-sorted}
-use Rattle.orders.proofs.Members.{sorted-has}
-use Rattle.spell.specs.declared.Spell.{Spell}
-use Rattle.spell.specs.Order.{earlierOf, ordered, orderedBy}
-use Rattle.spell.specs.Listing.{Good, Sound}
-use Rattle.spell.proofs.Order.{text-order, asym}
+use Rattle.repairing.proofs.{Names.{sortedBy, inOrderBy, Spell, earlierOf, ordered, orderedBy, Good, Sound, text-order, asym, readText, good, writeAll, rising, over, Repaired, linesOf, keptOf, putOf, repairedText, remarksOf, placesOf, displacedIn, fitting, repairRefusal, repairRefused, repairGiven, Repairs}, Keeping.{kept-good, good-kept}, Displaced.{none-displaced, displaced-exactly}, Remarks.{remarks-rise, each-line, places-length, put-sized}}
+use Rattle.orders.{proofs.Sorting.in-order-sorted, proofs.Members.sorted-has}
 use Rattle.spell.proofs.Sorted.{sorted-orderly}
-use Rattle.register.specs.Text.{readText, good, writeAll}
 use Rattle.register.proofs.Claims.{list-again, text-again, fits}
-use Rattle.model.specs.Questions.{rising}
-use Rattle.buffer.specs.Buffer.{over}
-use Rattle.repairing.specs.declared.Repaired.{Repaired}
-use Rattle.repairing.specs.Repair.{linesOf, keptOf, putOf, repairedText, remarksOf, placesOf, displacedIn}
-use Rattle.repairing.specs.Answers.{fitting, repairRefusal, repairRefused, repairGiven, Repairs}
-use Rattle.repairing.proofs.Keeping.{kept-good, good-kept}
-use Rattle.repairing.proofs.Displaced.{none-displaced, displaced-exactly}
-use Rattle.repairing.proofs.Remarks.{remarks-rise, each-line, places-length, put-sized}
 
 -- what is put into the order can stand
 pub put-good : (t : List ℕ) → Good (putOf t)
@@ -46,12 +32,10 @@ pub record Unaltered (t : List ℕ) (l : List Spell) : Type 0 where
   pub in-place : displacedIn (keptOf t) ≡ 0
 
 pub unaltered : (t : List ℕ) (l : List Spell) → readText t ≡ good l → Unaltered t l
-unaltered t l e =
-    let w = text-again t l e in
+unaltered t l e = let w = text-again t l e in
     let g = w .1 in
     let k = good-kept l g in
-    let kept : keptOf t ≡ l = ap keptOf (sym (w .0)) ∙ k .0 in
-    record {
+    let kept : keptOf t ≡ l = ap keptOf (sym (w .0)) ∙ k .0 in record {
       text = ap (λ (m : List Spell). writeAll (sortedBy earlierOf m)) kept ∙ ap writeAll (in-order-sorted earlierOf l (in-order l (g .in-order))) ∙ w .0;
       silent = ap remarksOf (sym (w .0)) ∙ k .1;
       kept = kept;
@@ -127,9 +111,7 @@ module _ {t out remarks out′ remarks′ : List ℕ} {r : Repaired} (a : Repair
   -- GIVEN ROOM, a good register stands in the first places as it came, and nothing is said
   pub passes-through : (l : List Spell) → readText t ≡ good l → length t ≤ length out
       → (out′ ≡ over t out) × (remarks′ ≡ remarks) × (r ≡ record { refusal = 0; line = 0; length = length t; dropped = 0; displaced = 0 })
-  unfolding repairRefusal fitting placesOf
-  passes-through l e room =
-      let u = unaltered t l e in
+  passes-through l e room = unfold repairRefusal fitting placesOf in let u = unaltered t l e in
       let short : leb (length t) 65536 ≡ true = le-leb (length t) 65536 (omega (arith, text-again t l e, ap length (text-again t l e .0), fits l (text-again t l e .1))) in
       let fit : leb (length t) (length out) ≡ true = le-leb (length t) (length out) room in
       let none : leb 0 (length remarks) ≡ true = le-leb 0 (length remarks) (omega arith) in

@@ -1,26 +1,19 @@
 -- How many kept lines now stand after a line that followed them: by the least of those that followed, and when it is none. Assumes nothing.
 use Rattle.basis.proofs.Prelude.{_∙_, _≡_, ap, refl, sym, _+_, ℕ, List, [], _∷_, Bool, _||_, cond, false, not, true, _↔_, eqb, arith, eqb-false, not-true, both, by-cases, by-test, clash}
 use Rattle.orders.proofs.Keys.{key-is, key-says, key-denies}
-use Rattle.spell.specs.declared.Spell.{Spell}
-use Rattle.spell.specs.Order.{lexical, earlierOf, ordered, orderedBy}
-use Rattle.spell.specs.Listing.{stands, distinct, Each}
-use Rattle.spell.proofs.Listing.{neither}
-use Rattle.spell.proofs.Order.{text-order, asym, ordered-tail, ordered-first, ordered-cons}
-use Rattle.repairing.specs.Repair.{someBefore, displacedIn}
+use Rattle.repairing.proofs.Names.{Spell, lexical, earlierOf, ordered, orderedBy, stands, distinct, Each, neither, text-order, asym, ordered-tail, ordered-first, ordered-cons, someBefore, displacedIn}
 
 -- ---- The least of the spells that followed is before s where any of them is
 
 lexical-weak : (ks : List (Spell → ℕ)) (a b c : Spell) → lexical ks a b ≡ false → lexical ks a c ≡ true → lexical ks b c ≡ true
 unfolding lexical
 lexical-weak [] a b c h k = k
-lexical-weak (f ∷ ks) a b c h k =
-    let d = key-denies (f a) (f b) (lexical ks a b) h in
+lexical-weak (f ∷ ks) a b c h k = let d = key-denies (f a) (f b) (lexical ks a b) h in
     let s = key-says (f a) (f c) (lexical ks a c) k in
     key-is (f b) (f c) (lexical ks b c) (omega arith) (λ e. lexical-weak ks a b c (d .1 (omega arith)) (s .1 (omega arith)))
 
 weak : (a b c : Spell) → earlierOf a b ≡ false → earlierOf a c ≡ true → earlierOf b c ≡ true
-unfolding earlierOf
-weak = lexical-weak ((λ s. s .first) ∷ (λ s. s .last) ∷ (λ s. s .number) ∷ [])
+weak = unfold earlierOf in lexical-weak ((λ s. s .first) ∷ (λ s. s .last) ∷ (λ s. s .number) ∷ [])
 
 -- the earlier one of two
 abbrev pub lesser : Spell → Spell → Spell
@@ -35,26 +28,21 @@ or-false true = refl
 or-false false = refl
 
 pub least-one : (x : Spell) → Least x (x ∷ [])
-unfolding someBefore
-least-one x s = or-false (earlierOf x s)
+least-one x s = unfold someBefore in or-false (earlierOf x s)
 
 pub least-more : (m x : Spell) (l : List Spell) → Least m l → Least (lesser m x) (x ∷ l)
-unfolding someBefore
-least-more m x l h s = ap (λ (b : Bool). earlierOf x s || b) (h s) ∙ by-cases (λ (z : Spell). earlierOf x s || earlierOf m s ≡ earlierOf z s) (earlierOf m x)
+least-more m x l h s = unfold someBefore in ap (λ (b : Bool). earlierOf x s || b) (h s) ∙ by-cases (λ (z : Spell). earlierOf x s || earlierOf m s ≡ earlierOf z s) (earlierOf m x)
     (λ e. by-test (earlierOf x s) (λ f. rw f (sym (text-order .trans m x s e f))) (λ f. rw f))
     (λ e. by-test (earlierOf x s) (λ f. rw f) (λ f. by-test (earlierOf m s) (λ g. absurd (clash (weak m x s e g) f)) (λ g. rw (f, g))))
 
 pub displaced-none : displacedIn [] ≡ 0
-unfolding displacedIn
-displaced-none = refl
+displaced-none = unfold displacedIn in refl
 
 pub displaced-one : (x : Spell) → displacedIn (x ∷ []) ≡ 0
-unfolding displacedIn someBefore
-displaced-one x = refl
+displaced-one x = unfold displacedIn someBefore in refl
 
 pub displaced-more : (m x : Spell) (l : List Spell) → Least m l → displacedIn (x ∷ l) ≡ cond (earlierOf m x) 1 0 + displacedIn l
-unfolding displacedIn
-displaced-more m x l h = rw (h x)
+displaced-more m x l h = unfold displacedIn in rw (h x)
 
 -- ---- None, exactly where the spells stood in the order
 
@@ -66,8 +54,7 @@ none-before x (y ∷ l) e = rw (asym text-order x y (e .0), none-before x l (e .
 all-after : (x : Spell) (l : List Spell) → stands l (x .number) ≡ false → someBefore x l ≡ false → Each (λ z. earlierOf x z ≡ true) l
 unfolding someBefore stands Each
 all-after x [] d h = tt
-all-after x (y ∷ l) d h =
-    let p = neither (eqb (y .number) (x .number)) (stands l (x .number)) d in
+all-after x (y ∷ l) d h = let p = neither (eqb (y .number) (x .number)) (stands l (x .number)) d in
     let q = neither (earlierOf y x) (someBefore x l) h in
     (text-order .total y x (eqb-false (y .number) (x .number) (p .0)) (q .0), all-after x l (p .1) (q .1))
 

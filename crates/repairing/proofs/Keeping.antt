@@ -1,16 +1,8 @@
 -- What is kept of any text can stand, and a good text is kept whole with nothing said. Assumes nothing.
 use Rattle.basis.proofs.Prelude.{_∙_, _≡_, ap, refl, sym, _<_, _≤_, suc, ℕ, List, [], _++_, _∷_, append-nil, append-snoc, Bool, cond, false, true, eqb, ltb, length, length-append, arith, eq-eqb, eqb-true, lt-ltb, ltb-true, ne-eqb, by-cases, by-test, clash}
-use Rattle.spell.specs.declared.Spell.{Spell}
-use Rattle.spell.specs.Entry.{refusalOf}
-use Rattle.spell.specs.Listing.{stands, distinct, Each, Sound, Good}
-use Rattle.spell.proofs.Entered.{past}
-use Rattle.spell.proofs.Listing.{distinct-fresh, distinct-more}
-use Rattle.fields.specs.Fields.{Found, found, unreadable, readDecimal}
+use Rattle.repairing.proofs.{Names.{Spell, stands, distinct, Each, Sound, Good, distinct-fresh, distinct-more, Found, found, unreadable, readDecimal, readLine, lineText, textOnto, read-line, write-line, linesOf, afterLine, verdict, keeping, keptAfter, verdictsAfter, remarksFrom, keptOf, remarksOf}, Lines.{lines-none, lines-first, line-ends}}
+use Rattle.spell.{specs.Entry.refusalOf, proofs.Entered.past}
 use Rattle.fields.proofs.Bytes.{never}
-use Rattle.register.specs.Text.{readLine, lineText, textOnto}
-use Rattle.register.proofs.Lines.{read-line, write-line}
-use Rattle.repairing.specs.Repair.{linesOf, afterLine, verdict, keeping, keptAfter, verdictsAfter, remarksFrom, keptOf, remarksOf}
-use Rattle.repairing.proofs.Lines.{lines-none, lines-first, line-ends}
 
 -- ---- A line that is kept
 
@@ -21,8 +13,7 @@ pub record Passes (kept : List Spell) (s : Spell) : Type 0 where
   pub room : length kept < 1024
 
 pub verdict-none : (kept : List Spell) (s : Spell) (rest : List ℕ) → Passes kept s → verdict kept (found s rest) ≡ 0
-unfolding verdict
-verdict-none kept s rest p = rw (eq-eqb (refusalOf s) 0 (p .entered), p .new, lt-ltb (length kept) 1024 (p .room))
+verdict-none kept s rest p = unfold verdict in rw (eq-eqb (refusalOf s) 0 (p .entered), p .new, lt-ltb (length kept) 1024 (p .room))
 
 pub passes : (kept : List Spell) (s : Spell) (rest : List ℕ) → verdict kept (found s rest) ≡ 0 → Passes kept s
 unfolding verdict
@@ -37,8 +28,7 @@ passes kept s rest e = by-test (eqb (refusalOf s) 0)
     roomy false e = absurd (omega arith)
 
 pub keeps-it : (kept : List Spell) (s : Spell) (rest : List ℕ) → Passes kept s → keeping kept (found s rest) ≡ kept ++ (s ∷ [])
-unfolding keeping
-keeps-it kept s rest p = rw (verdict-none kept s rest p)
+keeps-it kept s rest p = unfold keeping in rw (verdict-none kept s rest p)
 
 -- a line that meets a number
 pub drops-it : (kept : List Spell) (f : Found Spell) → (verdict kept f ≡ 0 → ⊥) → keeping kept f ≡ kept
@@ -49,12 +39,10 @@ drops-it kept (found s rest) z = rw (ne-eqb (verdict kept (found s rest)) 0 z)
 -- the first line of a text, and the others
 module _ (kept : List Spell) (t : List ℕ) (f : Found Spell) (h : 0 < length t) (e : readLine t ≡ f) where
   pub kept-first : keptAfter kept (linesOf t) ≡ keptAfter (keeping kept f) (linesOf (afterLine t))
-  unfolding keptAfter
-  kept-first = ap (keptAfter kept) (lines-first t h) ∙ ap (λ (g : Found Spell). keptAfter (keeping kept g) (linesOf (afterLine t))) e
+  kept-first = unfold keptAfter in ap (keptAfter kept) (lines-first t h) ∙ ap (λ (g : Found Spell). keptAfter (keeping kept g) (linesOf (afterLine t))) e
 
   pub verdicts-first : verdictsAfter kept (linesOf t) ≡ verdict kept f ∷ verdictsAfter (keeping kept f) (linesOf (afterLine t))
-  unfolding verdictsAfter
-  verdicts-first = ap (verdictsAfter kept) (lines-first t h) ∙ ap (λ (g : Found Spell). verdict kept g ∷ verdictsAfter (keeping kept g) (linesOf (afterLine t))) e
+  verdicts-first = unfold verdictsAfter in ap (verdictsAfter kept) (lines-first t h) ∙ ap (λ (g : Found Spell). verdict kept g ∷ verdictsAfter (keeping kept g) (linesOf (afterLine t))) e
 
 -- ---- What is kept can stand
 
@@ -110,12 +98,9 @@ there [] s rest e = absurd (never e)
 there (b ∷ t) s rest e = omega arith
 
 line-kept : (kept : List Spell) (t : List ℕ) (s : Spell) (rest : List ℕ) → readLine t ≡ found s rest → Passes kept s → On kept t s rest
-unfolding remarksFrom
-line-kept kept t s rest e p =
-    let v = verdict-none kept s rest p in
+line-kept kept t s rest e p = unfold remarksFrom in let v = verdict-none kept s rest p in
     let h = there t s rest e in
-    let k = keeps-it kept s rest p in
-    record {
+    let k = keeps-it kept s rest p in record {
       keeps = kept-first kept t (found s rest) h e ∙ rw (k, line-ends t s rest e);
       says = λ n. ap (remarksFrom n) (verdicts-first kept t (found s rest) h e) ∙ rw (v, k, line-ends t s rest e);
     }
@@ -127,8 +112,7 @@ record Whole (before m : List Spell) : Type 0 where
 whole : (m before : List Spell) → Each Sound m → distinct (before ++ m) ≡ true → length (before ++ m) ≤ 1024 → Whole before m
 unfolding textOnto Each keptAfter verdictsAfter remarksFrom
 whole [] before e d h = record { keeps = rw lines-none (sym (append-nil before)); says = λ n. rw lines-none }
-whole (x ∷ m) before e d h =
-    let room : length before < 1024 = omega (arith, length-append before (x ∷ m)) in
+whole (x ∷ m) before e d h = let room : length before < 1024 = omega (arith, length-append before (x ∷ m)) in
     let p : Passes before x = record { entered = e .0 .entered; new = distinct-fresh before x m d; room = room } in
     let on = line-kept before (lineText x (textOnto m [])) x (textOnto m []) (read-line x (textOnto m []) (e .0)) p in
     let later = whole m (before ++ (x ∷ [])) (e .1) (rw append-snoc d) (rw append-snoc h) in

@@ -1,3 +1,4 @@
+pub mod Names
 pub mod Cases
 pub mod Lines
 pub mod Keeping

@@ -1,12 +1,7 @@
 -- The remarks: their lines rise, and each line of a text is kept or has one. Assumes nothing.
 use Rattle.basis.proofs.Prelude.{_∙_, _≡_, ap, refl, _*_, _+_, _<_, _≤_, suc, ℕ, List, [], _∷_, map, cond, true, eqb, ltb, length, length-append, zero-add, arith, lt-ltb, both, by-cases, by-test}
-use Rattle.buffer.specs.Buffer.{over}
+use Rattle.repairing.proofs.Names.{over, Spell, Found, found, unreadable, readLine, rising, begun, laterLines, linesOf, verdict, keeping, keptAfter, verdictsAfter, Remark, remarksFrom, placesOf, keptOf, remarksOf}
 use Rattle.buffer.proofs.Over.{over-length}
-use Rattle.spell.specs.declared.Spell.{Spell}
-use Rattle.fields.specs.Fields.{Found, found, unreadable}
-use Rattle.register.specs.Text.{readLine}
-use Rattle.model.specs.Questions.{rising}
-use Rattle.repairing.specs.Repair.{begun, laterLines, linesOf, verdict, keeping, keptAfter, verdictsAfter, Remark, remarksFrom, placesOf, keptOf, remarksOf}
 
 -- ---- The lines rise
 
@@ -41,8 +36,7 @@ keeping-length kept (found s rest) = by-test (eqb (verdict kept (found s rest)) 
 all-lines : (n : ℕ) (kept : List Spell) (lines : List (List ℕ)) → length (keptAfter kept lines) + length (remarksFrom n (verdictsAfter kept lines)) ≡ length kept + length lines
 unfolding keptAfter verdictsAfter remarksFrom
 all-lines n kept [] = refl
-all-lines n kept (t ∷ lines) =
-    let f = readLine t in
+all-lines n kept (t ∷ lines) = let f = readLine t in
     let h = all-lines (suc n) (keeping kept f) lines in
     by-cases (λ (l : List Remark). length (keptAfter (keeping kept f) lines) + length l ≡ length kept + suc (length lines)) (eqb (verdict kept f) 0)
     (λ e. let k : length (keeping kept f) ≡ 1 + length kept = rw e at (keeping-length kept f) in omega arith)
