@@ -1,11 +1,8 @@
 -- Every list of calls has words, so that the contract of `run` speaks of every list. Assumes nothing.
 use Rattle.basis.proofs.Prelude.{_*_, _≤_, ℕ, List, Bool, length}
 use Rattle.model.specs.Model.{Request, run}
-use Rattle.coding.specs.Coded.{resultWidth}
-use Rattle.coding.specs.Coding.{Coding}
-use Rattle.coding.proofs.Claims.{daysOf, numbersOf, textOf}
-use Rattle.replay.specs.declared.Ran.{Ran}
-use Rattle.replay.specs.Replayed.{Holds, beginning, Replayed}
+use Rattle.coding.{specs.Coded.resultWidth, specs.Coding.Coding, proofs.Claims.{daysOf, numbersOf, textOf}}
+use Rattle.replay.specs.{declared.Ran.Ran, Replayed.{Holds, beginning, Replayed}}
 
 -- THE CLAIM is one about every list: run on its coding, its answers are those of the account's own run of it
 pub every-run : {qs : List Request} (k : Coding qs) (new : Bool) (register results results′ numbers′ text′ : List ℕ) (r : Ran)

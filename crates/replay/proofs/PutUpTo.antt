@@ -25,8 +25,7 @@ module _ (l l′ u : List ℕ) (k m : ℕ) (room : k + m ≤ length l) (long : l
   put-length = rw put (omega (arith, length-append (take k l ++ u) (drop (k + m) l), head-length, length-drop (k + m) l))
 
   put-over : (v : List ℕ) → take (k + m) l′ ++ over v (drop (k + m) l′) ≡ take k l ++ over (u ++ v) (drop k l)
-  put-over v =
-      let e : length (u ++ v) ≡ m + length v = omega (arith, length-append u v) in
+  put-over v = let e : length (u ++ v) ≡ m + length v = omega (arith, length-append u v) in
       rw (put-take, put-drop, e) (simp (append-assoc, drop-drop, add-assoc))
 
   pub upto-more : (l₀ v all : List ℕ) → PutUpTo l₀ l k (u ++ v) all → PutUpTo l₀ l′ (k + m) v all

@@ -1,17 +1,11 @@
 -- The loop of `calls`: what is still to come, and what a turn does to it. Assumes nothing.
 use Rattle.basis.proofs.Prelude.{_∙_, _≡_, ap, refl, sym, _*_, _+_, _-_, _/_, _<_, _≤_, min, suc, ℕ, List, [], _++_, _∷_, Bool, false, true, drop, length, length-drop, take, drop-drop, add-one, arith}
-use Rattle.service.specs.declared.Service.{Service}
-use Rattle.model.specs.declared.Call.{Call}
+use Rattle.service.{specs.declared.Service.Service, specs.declared.Stepped.Stepped, specs.Service.{Blocks, Represents, Given, Met}}
+use Rattle.model.{specs.declared.Call.Call, specs.Model.{State, fresh, begun, refusalIn, lineIn, Request, Answer, step, run}}
 use Rattle.register.specs.Text.{readText}
-use Rattle.model.specs.Model.{State, fresh, begun, refusalIn, lineIn, Request, Answer, step, run}
 use Rattle.packing.specs.Blocks.{written}
-use Rattle.service.specs.declared.Stepped.{Stepped}
 use Rattle.outcomes.specs.Outcomes.{answerOf}
-use Rattle.service.specs.Service.{Blocks, Represents, Given, Met}
-use Rattle.coding.specs.declared.Code.{Code}
-use Rattle.coding.specs.declared.Next.the-variants.{Stop, Go}
-use Rattle.coding.specs.Coded.{codeWidth, resultWidth, codeAt, nextOf, decodeFrom, decode, told, resultsOf, numbersOf, textsOf}
-use Rattle.coding.proofs.Decoding.{Room, next-room, decode-stop, decode-go}
+use Rattle.coding.{specs.declared.Code.Code, specs.declared.Next.the-variants.{Stop, Go}, specs.Coded.{codeWidth, resultWidth, codeAt, nextOf, decodeFrom, decode, told, resultsOf, numbersOf, textsOf}, proofs.Decoding.{Room, next-room, decode-stop, decode-go}}
 use Rattle.replay.specs.Replayed.{tellAt, Holds, Replayed}
 use Rattle.replay.proofs.PutUpTo.{PutUpTo, upto-done, upto-more, put-drop, put-length, part-back, part-length}
 
@@ -64,11 +58,8 @@ module _ (sv₀ : Service) (bs₀ : Blocks) (codes days results₀ numbers₀ te
     -- nothing is still to come
     ended : decodeFrom codes (whole - made) made (drop d days) (drop n numbers) (drop t text) ≡ []
         → (m₀ : State) → Represents sv₀ bs₀ m₀ → Holds (answers m₀) results₀ numbers₀ text₀ made results numbers text
-    unfolding run written
-    ended e m₀ r =
-        let f = g .so-far m₀ r in
-        let none : f .more ≡ [] = sym (f .to-come) ∙ ap (run (f .state)) e in
-        record {
+    ended e m₀ r = unfold run written in let f = g .so-far m₀ r in
+        let none : f .more ≡ [] = sym (f .to-come) ∙ ap (run (f .state)) e in record {
           count = omega (arith, rw none at (f .count));
           told = upto-done results₀ results (resultsOf (answers m₀)) (resultWidth * made) (rw none at (f .told));
           listed = upto-done numbers₀ numbers (numbersOf (answers m₀)) n (rw none at (f .listed));
@@ -76,8 +67,7 @@ module _ (sv₀ : Service) (bs₀ : Blocks) (codes days results₀ numbers₀ te
         }
 
     pub ended-all : whole ≤ made → (m₀ : State) → Represents sv₀ bs₀ m₀ → Holds (answers m₀) results₀ numbers₀ text₀ made results numbers text
-    unfolding decodeFrom
-    ended-all h = let z : whole - made ≡ 0 = omega arith in ended (rw z)
+    ended-all h = unfold decodeFrom in let z : whole - made ≡ 0 = omega arith in ended (rw z)
 
     pub ended-stop : (c : Code) → c ≡ codeAt codes made
         → nextOf c (length days - d) (length numbers - n) (length text - t) ≡ Stop
@@ -111,24 +101,19 @@ module _ (sv₀ : Service) (bs₀ : Blocks) (codes days results₀ numbers₀ te
       -- what is still coded is this call, and what is still coded after it
       coming : decodeFrom codes (whole - made) made (drop d days) (drop n numbers) (drop t text)
           ≡ asked ∷ decodeFrom codes (whole - (made + 1)) (made + 1) (drop (d + c .days) days) (drop (n + c .numbers) numbers′) (drop (t + c .text) text′)
-      coming =
-          let z : whole - made ≡ suc (whole - (made + 1)) = omega arith in
+      coming = let z : whole - made ≡ suc (whole - (made + 1)) = omega arith in
           rw (z, put-drop numbers numbers′ ns n (c .numbers) numbers-room ln en, put-drop text text′ ts t (c .text) text-room lt et, ← drop-drop (c .days) d days)
-          (decode-go codes (drop d days) (drop n numbers) (drop t text) made (whole - (made + 1)) c q ec (simp length-drop e)
-          ∙ rw add-one)
+          (decode-go codes (drop d days) (drop n numbers) (drop t text) made (whole - (made + 1)) c q ec (simp length-drop e) ∙ rw add-one)
 
       turn-reached : Met sv bs asked r bs′ ns ts → (m₀ : State) → Represents sv₀ bs₀ m₀
           → Reached m₀ (r .service) bs′ results′ numbers′ text′ (made + 1) (d + c .days) (n + c .numbers) (t + c .text)
-      unfolding run written
-      turn-reached met m₀ rp =
-          let f = g .so-far m₀ rp in
+      turn-reached met m₀ rp = unfold run written in let f = g .so-far m₀ rp in
           let m = f .state in
           let after : State = step m asked .state in
           let more : List Answer = run after (decodeFrom codes (whole - (made + 1)) (made + 1) (drop (d + c .days) days) (drop (n + c .numbers) numbers′) (drop (t + c .text) text′)) in
           let key : f .more ≡ answerOf (r .outcome) ns ts ∷ more =
           sym (f .to-come) ∙ ap (run m) coming ∙ ap (λ (a : Answer). a ∷ more) (sym (met .answer m (f .represents))) in
-          let next : resultWidth * (made + 1) ≡ resultWidth * made + resultWidth = omega arith in
-          record {
+          let next : resultWidth * (made + 1) ≡ resultWidth * made + resultWidth = omega arith in record {
             state = after;
             represents = met .after m (f .represents);
             more = more;
@@ -140,11 +125,9 @@ module _ (sv₀ : Service) (bs₀ : Blocks) (codes days results₀ numbers₀ te
           }
 
       pub turn : Met sv bs asked r bs′ ns ts → Going (r .service) bs′ results′ numbers′ text′ (made + 1) (d + c .days) (n + c .numbers) (t + c .text)
-      turn met =
-          let lr = put-length results results′ (told (answerOf (r .outcome) ns ts)) (resultWidth * made) resultWidth room refl er in
+      turn met = let lr = put-length results results′ (told (answerOf (r .outcome) ns ts)) (resultWidth * made) resultWidth room refl er in
           let ln′ = put-length numbers numbers′ ns n (c .numbers) numbers-room ln en in
-          let lt′ = put-length text text′ ts t (c .text) text-room lt et in
-          record {
+          let lt′ = put-length text text′ ts t (c .text) text-room lt et in record {
             given = met .given;
             made-in = omega arith;
             d-in = omega (arith, fit .for-days, g .d-in);

@@ -2,8 +2,7 @@
 use Rattle.basis.proofs.Prelude.{_≡_, refl, ℕ, List, Bool}
 use contract.Lifetimes.{Lfts}
 use denote.Ref.{RefT, now}
-use Rattle.replay.specs.declared.Ran.{Ran}
-use Rattle.replay.specs.Replayed.{Replayed}
+use Rattle.replay.specs.{declared.Ran.Ran, Replayed.Replayed}
 use Rattle.replay.proofs.run.Reads as run-reads
 
 pub run-asks : (κs : Lfts 6) (new : Bool) (register codes days results numbers text : RefT (List ℕ))

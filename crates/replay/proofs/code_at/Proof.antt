@@ -1,17 +1,14 @@
 -- `replay::code_at` meets its contract: a word for each field. Assumes nothing.
 use Rattle.coding.specs.Coded.{codeAt}
 use Rattle.basis.proofs.Prelude.{needs}
-use Rattle.replay.proofs.code_at.Statement.{statement}
-use Rattle.replay.proofs.code_at.Tie as tie
+use Rattle.replay.proofs.code_at.{Statement.statement, Tie.Need-returns, Tie.close, Tie.spec}
 
-returns : tie.Need-returns
+returns : Need-returns
 unfolding codeAt
 returns c = cc
 
 pub code-at-spec : {M : Type 1} → statement M
-code-at-spec =
-    tie.close
-    (tie.spec
+code-at-spec = close (spec
     (λ c κs. search needs) (λ c κs. search needs) (λ c κs. search needs) (λ c κs. search needs) (λ c κs. search needs) (λ c κs. search needs)
     (λ c κs. search needs) (λ c κs. search needs) (λ c κs. search needs) (λ c κs. search needs) (λ c κs. search needs) (λ c κs. search needs)
     (λ c κs. search needs) (λ c κs. search needs) returns)

@@ -1,25 +1,15 @@
 -- `replay::run` meets its contract: by its two beginnings. Assumes nothing.
 use Rattle.basis.proofs.Prelude.{needs}
 use Rattle.service.proofs.Represented.{represented}
-use Rattle.replay.proofs.Runs.{replayed-fresh, replayed-read}
-use Rattle.replay.proofs.run.Statement.{statement}
-use Rattle.replay.proofs.run.Tie as tie
-
-returns : tie.Need-returns
-returns c =
-    replayed-fresh _ _ _ _ _ _ _ _ _ _ _ (c .before .before .before .before .before .before .before .before .before .before .before .before .before .if1 .taken) (c .before .before .before .before .before .before .calls .ensures _ (c .before .before .before .before .before .before .before .before .before .before .before .fresh .ensures .0))
-
-returns-2 : tie.Need-returns-2
-returns-2 c =
-    let r = c .before .before .before .before .before .before .before .before .before .before .before .before .read .ensures in
-    replayed-read _ _ _ _ _ _ _ _ _ _ _ _ _ (c .before .before .before .before .before .before .before .before .before .before .before .before .before .before .if1 .left) (r .refusal) (r .line) (c .before .before .before .before .before .before .calls2 .ensures _ (r .represents))
+use Rattle.replay.proofs.{Runs.{replayed-fresh, replayed-read}, run.{Statement.statement, Tie.close, Tie.spec}}
 
 pub run-spec : {M : Type 1} → statement M
-run-spec =
-    tie.close
-    (tie.spec
+run-spec = close (spec
     (λ c κs. search needs)
     (λ c κs. represented (c .before .before .before .before .fresh .ensures .0))  -- calls(..)
-    (λ c. search needs) (λ c. search needs) (λ c. search needs) returns (λ c κs. search needs)
+    (λ c. search needs) (λ c. search needs) (λ c. search needs)
+    (λ c. replayed-fresh _ _ _ _ _ _ _ _ _ _ _ (c .before .before .before .before .before .before .before .before .before .before .before .before .before .if1 .taken) (c .before .before .before .before .before .before .calls .ensures _ (c .before .before .before .before .before .before .before .before .before .before .before .fresh .ensures .0))) (λ c κs. search needs)
     (λ c κs. represented (c .before .before .before .before .before .read .ensures .represents))  -- the second calls(..)
-    (λ c. search needs) (λ c. search needs) (λ c. search needs) returns-2)
+    (λ c. search needs) (λ c. search needs) (λ c. search needs)
+    (λ c. let r = c .before .before .before .before .before .before .before .before .before .before .before .before .read .ensures in
+    replayed-read _ _ _ _ _ _ _ _ _ _ _ _ _ (c .before .before .before .before .before .before .before .before .before .before .before .before .before .before .if1 .left) (r .refusal) (r .line) (c .before .before .before .before .before .before .calls2 .ensures _ (r .represents))))

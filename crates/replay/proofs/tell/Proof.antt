@@ -2,13 +2,10 @@
 use Rattle.basis.proofs.Prelude.{[], _*_, length-set, sets-eq, add-one, add-two, add-three, add-four, arith, needs}
 use Rattle.outcomes.specs.Outcomes.{answerOf}
 use Rattle.coding.specs.Coded.{resultWidth, told}
-use Rattle.replay.proofs.tell.Statement.{statement}
-use Rattle.replay.proofs.tell.Tie as tie
+use Rattle.replay.proofs.tell.{Statement.statement, Tie.close, Tie.spec}
 
 pub tell-spec : {M : Type 1} → statement M
-tell-spec =
-    tie.close
-    (tie.spec
+tell-spec = close (spec
     (λ c. search needs) (λ c. search needs) (λ c. search needs)
     -- results[at + 1] to results[at + 4]
     (λ c. search needs) (λ c. search needs) (λ c. search needs) (λ c. simp length-set (omega arith)) (λ c. search needs) (λ c. search needs)
