@@ -1,34 +1,12 @@
 -- Service and blocks at the beginning, after publish, and beside a written text. Assumes nothing.
 use Rattle.basis.proofs.Prelude.{_∙_, _≡_, ap, refl, subst, sym, ℕ, List, [], true, by-test, false, eqb, false≢true}
-use Rattle.spell.specs.declared.Spell.{Spell}
-use Rattle.spell.specs.Listing.{Sound}
-use Rattle.spell.proofs.Order.{answer-order}
-use Rattle.model.proofs.Edits.{orderly-none}
-use Rattle.register.specs.declared.Written.{Written}
-use Rattle.register.specs.declared.Reading.{Reading}
-use Rattle.register.specs.Text.{Register, good, bad, readText, writeAll}
-use Rattle.register.specs.Answers.{readingOf, Writes}
-use Rattle.standing.specs.declared.Standing.{Standing}
-use Rattle.standing.specs.Places.{loadedOf}
-use Rattle.standing.specs.Standing.{listOf, Fresh}
-use Rattle.standing.proofs.Loading.{Loads, loads}
-use Rattle.model.specs.declared.Call.the-variants.{Publish, Write}
-use Rattle.model.specs.Publishing.{publishedOf}
-use Rattle.model.proofs.Publishing.{published-orderly}
-use Rattle.refusal.specs.Table.{accepted}
-use Rattle.rules.specs.Rules.{isRule}
-use Rattle.rules.proofs.Rules.{cut-sound}
-use Rattle.model.specs.Effects.{writes, settle}
-use Rattle.model.specs.Model.{fresh, begun, refusalIn, lineIn, effectOf}
-use Rattle.model.proofs.Claims.{reads-keep}
-use Rattle.outcomes.specs.declared.Outcome.{Outcome}
-use Rattle.outcomes.specs.Outcomes.{wroteOf, asking}
+use Rattle.service.proofs.Names.{Spell, Register, good, bad, readText, writeAll, loadedOf, listOf, Fresh, Publish, Write, accepted, writes, settle, fresh, begun, refusalIn, lineIn, effectOf, reads-keep, Outcome, wroteOf, asking, indexOf, Service, Stepped, serviceOf, Blocks, blocks, Valid, Represents, Given, Met, Publishes, Wrote, Begins}
+use Rattle.spell.{specs.Listing.Sound, proofs.Order.answer-order}
+use Rattle.model.{proofs.Edits.orderly-none, specs.Publishing.publishedOf, proofs.Publishing.published-orderly}
+use Rattle.register.{specs.declared.Written.Written, specs.declared.Reading.Reading, specs.Answers.{readingOf, Writes}}
+use Rattle.standing.{specs.declared.Standing.Standing, proofs.Loading.{Loads, loads}}
+use Rattle.rules.{specs.Rules.isRule, proofs.Rules.cut-sound}
 use Rattle.outcomes.proofs.Answers.{write-told}
-use Rattle.published_index.specs.Index.{indexOf}
-use Rattle.service.specs.declared.Service.{Service}
-use Rattle.service.specs.declared.Stepped.{Stepped}
-use Rattle.service.specs.Places.{serviceOf}
-use Rattle.service.specs.Service.{Blocks, blocks, Valid, Represents, Given, Met, Publishes, Wrote, Begins}
 
 -- ---- The beginning: nothing is published
 
@@ -63,8 +41,7 @@ told-in (bad n line) = (refl, refl)
 
 pub begins-read : (text : List ℕ) {got : Reading} {st : Standing} {ix : List ℕ} → got ≡ readingOf (readText text) → st ≡ loadedOf got → ix ≡ indexOf []
     → Begins (readText text) (record { service = serviceOf st; refusal = got .refusal; line = got .line }) (blocks ix)
-begins-read text r l e =
-    let t = told-in (readText text) in
+begins-read text r l e = let t = told-in (readText text) in
     rw (l, r) (begins (readText text) (loads text (readText text) refl) (t .0) (t .1) e)
 
 -- ---- Publish
@@ -85,8 +62,7 @@ module _ {sv : Service} {rule : ℕ} {bs : Blocks} {r : Stepped} {bs′ : Blocks
 
   -- PUBLISH is the account's
   pub publishes-met : (days numbers text : List ℕ) → Given sv bs → Met sv bs (asking (Publish rule) days numbers text) r bs′ numbers text
-  unfolding effectOf settle
-  publishes-met days numbers text g = by-test (isRule rule)
+  publishes-met days numbers text g = unfold effectOf settle in by-test (isRule rule)
       (λ e. record {
         given = publishes-given e (g .valid);
         answer = λ m h. rw (p .outcome, e);
@@ -108,8 +84,7 @@ module _ {sv : Service} {rule : ℕ} {bs : Blocks} {r : Stepped} {bs′ : Blocks
 
 -- ---- Writing
 pub wrote : {sv : Service} {t t′ : List ℕ} {wr : Written} → Writes (writeAll (listOf (sv .standing))) t wr t′ → Wrote sv t (wroteOf wr) t′
-unfolding effectOf
-wrote {sv} {t} w = record {
+wrote {sv} {t} w = unfold effectOf in record {
   met = λ bs days numbers g. record {
     given = g;
     answer = λ m h. write-told m (asking Write days numbers t) _ w ∙ ap (λ (l : List Spell). settle (writes (writeAll l)) m (asking Write days numbers t) .answer) (h .standing);

@@ -1,24 +1,14 @@
 -- Demand 3 with no driver: whoever makes the calls, the answers are the account's. Assumes nothing.
 use Rattle.basis.proofs.Prelude.{_≡_, refl, ℕ, List, true}
-use Rattle.spell.specs.declared.Spell.{Spell}
-use Rattle.register.specs.Text.{readText}
-use Rattle.model.specs.declared.Call.the-variants.{Amend}
-use Rattle.model.specs.Edits.{idle}
-use Rattle.model.specs.Model.{State, fresh, begun, Request, Answer, step, run}
-use Rattle.service.specs.declared.Service.{Service}
-use Rattle.service.specs.declared.Started.{Started}
-use Rattle.service.specs.Places.{leavesOf, leaves}
-use Rattle.service.specs.Service.{Blocks, Represents, Given, Begins}
-use Rattle.service.proofs.Represented.{represented}
-use Rattle.service.specs.History.{Made, none, then}
+use Rattle.service.proofs.{Names.{Spell, readText, Amend, idle, fresh, begun, Request, Answer, step, run, Service, Started, leavesOf, leaves, Blocks, Represents, Given, Begins, Made, none, then}, Represented.represented}
+use Rattle.model.specs.Model.{State}
 
 -- A WHOLE LIST OF CALLS on a service and blocks that stand for m has the answers of the account's own run from m
 pub made-run : {sv sv′ : Service} {bs bs′ : Blocks} {qs : List Request} {answers : List Answer} (m : State)
     → Represents sv bs m → Made sv bs qs answers sv′ bs′ → answers ≡ run m qs
 unfolding run
 made-run m s none = refl
-made-run m s (then {q = q} r left numbers text met more) =
-    let k = met (represented s) in
+made-run m s (then {q = q} r left numbers text met more) = let k = met (represented s) in
     rw (made-run (step m q .state) (k .after m s) more, k .answer m s)
 
 -- and the `requires` of every call is met
@@ -39,5 +29,4 @@ made-read register r b = made-run (begun (readText register)) (b .represents)
 
 -- AN IDLE AMEND leaves the whole service as it was
 pub idle-left : {sv : Service} {bs : Blocks} {m : State} (s : Spell) → Represents sv bs m → idle (m .standing) s ≡ true → leaves sv (Amend s) ≡ sv
-unfolding leavesOf
-idle-left s h same = rw (h .standing, same)
+idle-left s h same = unfold leavesOf in rw (h .standing, same)

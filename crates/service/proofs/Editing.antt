@@ -1,21 +1,8 @@
 -- From an edit of the standing list to the postcondition of the call. Assumes nothing.
 use Rattle.basis.proofs.Prelude.{_∙_, _≡_, ap, refl, subst, sym, ℕ, List, [], _∷_, Bool, cond, false, false≢true, true, eqb, eqb-true, by-cases}
-use Rattle.refusal.specs.Table.{accepted}
-use Rattle.spell.specs.declared.Spell.{Spell}
+use Rattle.service.proofs.Names.{accepted, Spell, entering, replacing, Wf, listOf, pasts, makes, afterEdit, Edits, TakesBack, Does, Call, Enter, Amend, Strike, TakeBack, Publish, Write, Ask, insert, remove, replace, idle, enterRefusal, amendRefusal, strikeRefusal, takeBackRefusal, remember, frontOr, restOf, State, withStanding, Effect, refused, done, settle, become, edit, takeBack, effectOf, toldOf, asking, answerOf, Service, Stepped, serviceOf, leavesOf, Blocks, Represents, Changed, Changes}
 use Rattle.standing.specs.declared.Edited.{Edited}
 use Rattle.journal.specs.declared.Undo.{Undo}
-use Rattle.standing.specs.Places.{entering, replacing}
-use Rattle.standing.specs.Standing.{Wf, listOf, pasts, makes, afterEdit, Edits, TakesBack, Does}
-use Rattle.model.specs.declared.Call.{Call}
-use Rattle.model.specs.declared.Call.the-variants.{Enter, Amend, Strike, TakeBack, Publish, Write, Ask}
-use Rattle.model.specs.Edits.{insert, remove, replace, idle, enterRefusal, amendRefusal, strikeRefusal, takeBackRefusal, remember, frontOr, restOf}
-use Rattle.model.specs.Effects.{State, withStanding, Effect, refused, done, settle}
-use Rattle.model.specs.Model.{become, edit, takeBack, effectOf}
-use Rattle.outcomes.specs.Outcomes.{toldOf, asking, answerOf}
-use Rattle.service.specs.declared.Service.{Service}
-use Rattle.service.specs.declared.Stepped.{Stepped}
-use Rattle.service.specs.Places.{serviceOf, leavesOf}
-use Rattle.service.specs.Service.{Blocks, Represents, Changed, Changes}
 
 -- the call's result
 abbrev pub steppedOf : Edited → Stepped
@@ -69,8 +56,7 @@ module _ (sv : Service) (c : Call) (e : Edited) (i : List Spell → Bool) (n : L
   }
 
   edit-changed : Changed sv c (steppedOf e)
-  unfolding settle
-  edit-changed = changed sv c e (d .wf) (d .whole ∙ sym left) (λ t. d .kept (unmade (i l) (n l) (rw (d .refusal) at t))) (λ m bs days h.
+  edit-changed = unfold settle in changed sv c e (d .wf) (d .whole ∙ sym left) (λ t. d .kept (unmade (i l) (n l) (rw (d .refusal) at t))) (λ m bs days h.
       let k : ℕ = n l in
       let does : List Spell → Effect = λ z. cond (i z) (become (n z) (m .standing) (m .past) m) (edit (n z) (f z) m) in
       let refused : eqb k accepted ≡ false → Follows e bs m (refused k) = λ t. rw (d .refusal) (λ days numbers text c. (refl, kept (unmade (i l) k t) h)) in

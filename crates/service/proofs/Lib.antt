@@ -1,3 +1,4 @@
+pub mod Names
 pub mod Represented
 pub mod Asking
 pub mod Editing

@@ -1,9 +1,7 @@
 -- A service and its blocks are what the calls gave exactly if they stand for a state. Assumes nothing.
 use Rattle.basis.proofs.Prelude.{refl}
-use Rattle.standing.specs.Standing.{listOf, pasts}
-use Rattle.model.specs.Model.{State, withStanding, withPublished, fresh}
-use Rattle.service.specs.declared.Service.{Service}
-use Rattle.service.specs.Service.{Blocks, Represents, Given}
+use Rattle.service.proofs.Names.{listOf, pasts, withPublished, fresh, Service, Blocks, Represents, Given}
+use Rattle.model.specs.Model.{State, withStanding}
 
 pub represented : {sv : Service} {bs : Blocks} {m : State} → Represents sv bs m → Given sv bs
 represented r = record { valid = r .valid; published = record { list = _; shows = r .shows } }

@@ -1,12 +1,6 @@
 -- A call's answer beside what its edit makes of the service. Assumes nothing.
 use Rattle.basis.proofs.Prelude.{_≡_, subst, sym, ℕ, List}
-use Rattle.refusal.specs.Table.{accepted}
-use Rattle.model.specs.declared.Call.{Call}
-use Rattle.service.specs.declared.Service.{Service}
-use Rattle.outcomes.specs.declared.Outcome.{Outcome}
-use Rattle.service.specs.declared.Stepped.{Stepped}
-use Rattle.outcomes.specs.Outcomes.{toldOf, asking}
-use Rattle.service.specs.Service.{Blocks, Given, keeping, Met, Changed, Changes}
+use Rattle.service.proofs.Names.{accepted, Call, Service, Outcome, Stepped, toldOf, asking, Blocks, Given, keeping, Met, Changed, Changes}
 use Rattle.service.specs.Contracts.{Beside}
 
 module _ {sv : Service} {bs : Blocks} {days ns text : List ℕ} where

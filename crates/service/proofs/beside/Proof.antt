@@ -1,17 +1,10 @@
 -- `service::beside` meets its contract. Assumes nothing.
 use Rattle.basis.proofs.Prelude.{needs}
-use Rattle.service.specs.Service.{Changes}
-use Rattle.service.proofs.Asking.{asked-met}
-use Rattle.service.proofs.Beginning.{publishes-met}
-use Rattle.service.proofs.Stepping.{edits-beside, keeps-beside, as-beside}
-use Rattle.service.proofs.beside.Statement.{statement}
-use Rattle.service.proofs.beside.Tie as tie
+use Rattle.service.proofs.{Names.Changes, Asking.asked-met, Beginning.publishes-met, Stepping.{edits-beside, keeps-beside, as-beside}, beside.{Statement.statement, Tie.close, Tie.spec}}
 
 pub beside-spec : {M : Type 1} → statement M
 unfolding Changes
-beside-spec =
-    tie.close
-    (tie.spec
+beside-spec = close (spec
     (λ c. search needs) (λ c. search needs) (λ c. search needs) (λ c. search needs) (λ c. search needs) (λ c κs. search needs) (λ c. search needs)
     (λ c κs. search needs) (λ c. search needs) (λ c κs. search needs)
     -- enter, amend, strike, take back
