@@ -1,22 +1,13 @@
 -- A coded list of calls worked out: what it codes, and what the account's answers leave in the lists. Assumes nothing.
 use Rattle.basis.proofs.Prelude.{_≡_, refl, ℕ, List, [], _++_, _∷_, length, replicate}
 use lib.Ieee.{binary32, isNan, toBits, ofBits}
-use Rattle.spell.specs.declared.Urgency.the-variants.{Grade, Reading}
-use Rattle.spell.specs.Order.{listedBefore, earlierOf}
-use Rattle.spell.specs.Listing.{stands}
+use Rattle.spell.specs.{declared.Urgency.the-variants.{Grade, Reading}, Order.{listedBefore, earlierOf}, Listing.stands}
 use Rattle.stabbing.specs.Tree.{below, keep, count, head, next, parent, child, leftSibling, lastChild, fitsAt, start, onPath, formula}
-use Rattle.model.specs.declared.Call.{Call}
-use Rattle.model.specs.declared.Call.the-variants.{Enter, Amend, Strike, TakeBack, Publish, Write, Ask}
-use Rattle.model.specs.declared.Question.the-variants.{Day, Span, Cover, Days, Mask}
+use Rattle.model.specs.{declared.{Call.{Call, the-variants.{Enter, Amend, Strike, TakeBack, Publish, Write, Ask}}, Question.the-variants.{Day, Span, Cover, Days, Mask}}, Edits.{insertBy, enterRefusal, remember}, Publishing.publishedOf, Questions.{onAny, rising, filter, comparisonsOf}, Effects.settle, Model.{Request, Answer, fresh, ask, effectOf, run}}
 use Rattle.orders.specs.Orders.{sortedBy}
 use Rattle.rules.specs.Rules.{lastOf}
-use Rattle.model.specs.Edits.{insertBy, enterRefusal, remember}
-use Rattle.model.specs.Publishing.{publishedOf}
 use Rattle.calendar.specs.Calendar.{daysOk}
 use Rattle.masks.specs.Masks.{isSet, ticksFrom}
-use Rattle.model.specs.Questions.{onAny, rising, filter, comparisonsOf}
-use Rattle.model.specs.Effects.{settle}
-use Rattle.model.specs.Model.{Request, Answer, fresh, ask, effectOf, run}
 use Rattle.buffer.specs.Buffer.{over}
 use Rattle.packing.specs.Blocks.{written}
 use Rattle.coding.specs.Coded.{resultWidth, codeAt, callOf, nextOf, decodeFrom, decode, told, resultsOf, numbersOf, textsOf}

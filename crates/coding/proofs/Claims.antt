@@ -1,20 +1,10 @@
 -- Every list of calls has words. Assumes nothing.
 use Rattle.basis.proofs.Prelude.{_∙_, _≡_, ap, fun-ext, refl, sym, _*_, _+_, _<_, _≤_, suc, ℕ, List, [], _++_, _∷_, append-assoc, getD, length, length-append, drop-at, getD-append-add, take-at, mod-eq-of-lt, zero-add, arith, le-leb}
-use lib.Ieee.{binary32}
-use lib.Ieee.Bits.{ofBits-toBits, toBits-lt}
-use Rattle.spell.specs.declared.Urgency.{Urgency}
-use Rattle.spell.specs.declared.Urgency.the-variants.{Grade, Reading}
-use Rattle.spell.specs.declared.Spell.{Spell}
-use Rattle.packing.specs.Words.{kindOf, valueOf, Narrow}
-use Rattle.packing.specs.Blocks.{written, Every}
-use Rattle.model.specs.declared.Call.{Call}
-use Rattle.model.specs.declared.Call.the-variants.{Enter, Amend, Strike, TakeBack, Publish, Write, Ask}
-use Rattle.model.specs.declared.Question.the-variants.{Day, Span, Cover, Days, Mask}
-use Rattle.model.specs.Model.{Request}
-use Rattle.coding.specs.declared.Code.{Code}
-use Rattle.coding.specs.declared.Next.the-variants.{Go}
-use Rattle.coding.specs.Coded.{codeWidth, resultWidth, low16, urgencyOf, word, codeAt, callOf, Value, urgent, masked, Fields, spellFields, fieldsOf, opOf, nextOf, decodeFrom, wholeOf}
-use Rattle.coding.specs.Coding.{Wide, Fits, Codable, Coding}
+use lib.Ieee.{binary32, Bits.{ofBits-toBits, toBits-lt}}
+use Rattle.spell.specs.declared.{Urgency.{Urgency, the-variants.{Grade, Reading}}, Spell.Spell}
+use Rattle.packing.specs.{Words.{kindOf, valueOf, Narrow}, Blocks.{written, Every}}
+use Rattle.model.specs.{declared.{Call.{Call, the-variants.{Enter, Amend, Strike, TakeBack, Publish, Write, Ask}}, Question.the-variants.{Day, Span, Cover, Days, Mask}}, Model.Request}
+use Rattle.coding.specs.{declared.{Code.Code, Next.the-variants.Go}, Coded.{codeWidth, low16, urgencyOf, word, codeAt, callOf, Value, urgent, masked, Fields, spellFields, fieldsOf, opOf, nextOf, decodeFrom, wholeOf}, Coding.{Wide, Fits, Codable, Coding}}
 use Rattle.coding.proofs.Decoding.{decode-go}
 
 -- ---- The words of a call

@@ -1,10 +1,7 @@
 -- The calls that are still coded, at a code that is one and at one that is none. Assumes nothing.
 use Rattle.basis.proofs.Prelude.{_≡_, refl, _≤_, suc, zero, ℕ, List, [], _∷_, Bool, cond, false, true, leb, drop, length, take, leb-true}
 use Rattle.model.specs.declared.Call.{Call}
-use Rattle.coding.specs.declared.Code.{Code}
-use Rattle.coding.specs.declared.Next.{Next}
-use Rattle.coding.specs.declared.Next.the-variants.{Stop, Go}
-use Rattle.coding.specs.Coded.{codeAt, nextOf, decodeFrom}
+use Rattle.coding.specs.{declared.{Code.Code, Next.{Next, the-variants.{Stop, Go}}}, Coded.{codeAt, nextOf, decodeFrom}}
 
 -- ---- A call is found only where there is room
 

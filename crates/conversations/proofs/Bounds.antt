@@ -1,16 +1,9 @@
 -- How large the numbers of an answer are: each is one that a decimal has, and the lists are as long as it says. Assumes nothing.
 use Rattle.basis.proofs.Prelude.{_*_, _≤_, ℕ, List, _++_, Bool, length, length-append, arith}
-use Rattle.spell.specs.declared.Spell.{Spell}
-use Rattle.spell.specs.Listing.{Good}
-use Rattle.register.specs.Text.{writeAll}
-use Rattle.register.proofs.Texts.{written-width}
+use Rattle.spell.specs.{declared.Spell.Spell, Listing.Good}
+use Rattle.register.{specs.Text.writeAll, proofs.Texts.written-width}
 use Rattle.masks.proofs.Claims.{in-sheet}
-use Rattle.model.specs.Questions.{listed}
-use Rattle.model.specs.Effects.{State, Request, After, refuse, gave}
-use Rattle.model.specs.Model.{step}
-use Rattle.model.proofs.Bridge.{comparisons-le}
-use Rattle.model.proofs.Effects.{every}
-use Rattle.model.proofs.Filter.{listed-few}
+use Rattle.model.{specs.{Questions.listed, Effects.{State, Request, After, refuse, gave}, Model.step}, proofs.{Bridge.comparisons-le, Effects.every, Filter.listed-few}}
 use Rattle.replies.specs.Fitting.{Fits}
 
 module _ (m : State) (q : Request) (standing : Good (m .standing)) (published : length (m .published) ≤ 1024) where

@@ -1,14 +1,9 @@
 -- What the wire is for: whoever sends the requests, the answers are those of the conversation. Assumes nothing.
 use Rattle.basis.proofs.Prelude.{_∙_, _≡_, refl, ℕ, List, _∷_, drop, arith}
 use Rattle.model.specs.Model.{fresh}
-use Rattle.service.specs.declared.Service.{Service}
-use Rattle.service.specs.Service.{Blocks, Represents}
-use Rattle.service.proofs.Represented.{represented}
+use Rattle.service.{specs.{declared.Service.Service, Service.{Blocks, Represents}}, proofs.Represented.represented}
 use Rattle.requests.specs.Requests.{asksRead}
-use Rattle.conversations.specs.declared.Answered.{Answered}
-use Rattle.conversations.specs.Conversation.{Conv, Sent, opening, turn, turnOf, converse, converseOn}
-use Rattle.conversations.specs.Answering.{roomOf, Restarted}
-use Rattle.conversations.specs.History.{Spoken, none, then}
+use Rattle.conversations.specs.{declared.Answered.Answered, Conversation.{Conv, Sent, opening, turn, turnOf, converse, converseOn}, Answering.{roomOf, Restarted}, History.{Spoken, none, then}}
 use Rattle.replies.proofs.Sending.{sends-bytes}
 use Rattle.conversations.proofs.Serving.{room-same}
 

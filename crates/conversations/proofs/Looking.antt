@@ -1,37 +1,18 @@
 -- A look at a request: what is answered on the blocks alone is answered beside any service. Assumes nothing.
 use Rattle.basis.proofs.Prelude.{_∙_, _≡_, ap, refl, subst, _≤_, min, ℕ, List, [], _∷_, _++_, inl, inr, false, drop, length, take, take-append-drop, arith}
-use Rattle.buffer.specs.Buffer.{over}
-use Rattle.buffer.proofs.Over.{least-names}
+use Rattle.buffer.{specs.Buffer.over, proofs.Over.least-names}
 use types.Run.{OneOf}
 use denote.Enum.Declared.{tagOf}
-use Rattle.model.proofs.Call.{the-type}
-use Rattle.model.specs.declared.Call.{Call}
-use Rattle.model.specs.declared.Call.the-variants.{Enter, Amend, Strike, TakeBack, Publish, Write, Ask}
-use Rattle.model.specs.declared.Question.{Question}
+use Rattle.model.{proofs.Call.the-type, specs.declared.{Call.{Call, the-variants.{Enter, Amend, Strike, TakeBack, Publish, Write, Ask}}, Question.Question}}
 use Rattle.standing.proofs.Calls.{fresh-is}
-use Rattle.outcomes.specs.declared.Outcome.{Outcome}
-use Rattle.outcomes.specs.Outcomes.{asking, answerOf}
+use Rattle.outcomes.specs.{declared.Outcome.Outcome, Outcomes.{asking, answerOf}}
 use Rattle.published_index.specs.Index.{Published}
 use Rattle.questions.specs.Asked.{Asked}
-use Rattle.service.specs.declared.Service.{Service}
-use Rattle.service.specs.Places.{freshService}
-use Rattle.service.specs.Service.{Blocks, blocks, Given, keeping}
-use Rattle.service.proofs.Asking.{asked-met}
-use Rattle.requests.specs.declared.Request.{Request}
-use Rattle.requests.specs.declared.Request.the-variants.{Call as RequestCall, Room as RequestRoom, Malformed as RequestMalformed}
-use Rattle.requests.specs.Requests.{Demand, asksCall, asksRoom, malformed, askedOf, daysOf}
-use Rattle.requests.specs.Parsing.{requestOf, askedFrom, Parses}
-use Rattle.requests.proofs.Asking.{parsed-asked}
-use Rattle.replies.specs.Replies.{okText, malformedText, callText}
-use Rattle.replies.specs.Sending.{Sends}
-use Rattle.replies.specs.Fitting.{Fits}
-use Rattle.conversations.specs.declared.Looked.{Looked}
-use Rattle.conversations.specs.declared.Looked.the-variants.{Done}
-use Rattle.conversations.specs.declared.Wanted.the-variants.{Call as WantedCall}
-use Rattle.conversations.specs.Answering.{askedIn, beside, isQuestion, wantedIn, wantedBy, LooksAt, Looks, roomOf}
-use Rattle.conversations.specs.Contracts.{AskTurn}
-use Rattle.conversations.proofs.Replying.{fits, called}
-use Rattle.conversations.proofs.Turns.{turn-call, turn-room, turn-malformed}
+use Rattle.service.{specs.{Places.freshService, Service.{Blocks, blocks, Given, keeping}}, proofs.Asking.asked-met}
+use Rattle.requests.{specs.{declared.Request.{Request, the-variants.{Call as RequestCall, Room as RequestRoom, Malformed as RequestMalformed}}, Requests.{Demand, asksCall, asksRoom, malformed, askedOf, daysOf}, Parsing.{requestOf, askedFrom, Parses}}, proofs.Asking.parsed-asked}
+use Rattle.replies.specs.{Replies.{okText, malformedText, callText}, Sending.Sends, Fitting.Fits}
+use Rattle.conversations.specs.{declared.{Looked.{Looked, the-variants.Done}, Wanted.the-variants.Call as WantedCall}, Answering.{askedIn, beside, isQuestion, wantedIn, wantedBy, LooksAt, Looks, roomOf}, Contracts.AskTurn}
+use Rattle.conversations.proofs.{Replying.{fits, called}, Turns.{turn-call, turn-room, turn-malformed}}
 
 -- ---- a question
 

@@ -1,19 +1,11 @@
 -- A call's answer on the wire is the account's: the bytes that are put, and the state that is left. Assumes nothing.
-use Rattle.basis.proofs.Prelude.{_∙_, _≡_, ap, refl, sym, _≤_, ℕ, List, length, length-replicate, eq-eqb, ne-eqb}
-use Rattle.model.specs.declared.Call.{Call}
-use Rattle.model.specs.Model.{State, Request, Answer, step}
-use Rattle.service.specs.declared.Service.{Service}
-use Rattle.service.specs.declared.Stepped.{Stepped}
+use Rattle.basis.proofs.Prelude.{_∙_, _≡_, ap, refl, sym, _≤_, ℕ, List, length, length-replicate}
+use Rattle.model.specs.{declared.Call.Call, Model.{State, Request, Answer, step}}
+use Rattle.service.{specs.{declared.{Service.Service, Stepped.Stepped}, Service.{Blocks, Given, Met}}, proofs.Represented.{stateOf, stands}}
 use Rattle.outcomes.specs.Outcomes.{asking, answerOf}
-use Rattle.service.specs.Service.{Blocks, Given, Met}
-use Rattle.service.proofs.Represented.{stateOf, stands}
-use Rattle.replies.specs.Replies.{callText}
-use Rattle.replies.specs.Sending.{Sends}
-use Rattle.replies.specs.Fitting.{Fits}
-use Rattle.conversations.specs.Conversation.{lent, callOf}
-use Rattle.conversations.specs.Contracts.{CallTurn}
-use Rattle.conversations.proofs.Bounds.{fits-step}
-use Rattle.conversations.proofs.Shown.{Same, same-step, same-call}
+use Rattle.replies.specs.{Replies.callText, Sending.Sends, Fitting.Fits}
+use Rattle.conversations.specs.{Conversation.{lent, callOf}, Contracts.CallTurn}
+use Rattle.conversations.proofs.{Bounds.fits-step, Shown.{Same, same-step, same-call}}
 
 -- ---- the answers of a given service have the numbers that their bytes ask for
 module _ (sv : Service) (bs : Blocks) (g : Given sv bs) where

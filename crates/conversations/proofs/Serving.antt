@@ -1,13 +1,9 @@
 -- A request is served by a look, and by what is done where that tells what it wants; and a room that can be lent. Assumes nothing.
 use Rattle.basis.proofs.Prelude.{_∙_, _≡_, sym, _<_, _≤_, min, ℕ, List, decLe, arith, le-leb, lt-leb}
 use native.Mathlib.Nat.{min-eq-left, min-eq-right}
-use Rattle.service.specs.declared.Service.{Service}
-use Rattle.service.specs.Service.{Blocks, Given}
+use Rattle.service.specs.{declared.Service.Service, Service.{Blocks, Given}}
 use Rattle.requests.specs.declared.Request.{Request}
-use Rattle.conversations.specs.declared.Answered.{Answered}
-use Rattle.conversations.specs.declared.Looked.the-variants.{Done, Wants}
-use Rattle.conversations.specs.declared.Wanted.{Wanted}
-use Rattle.conversations.specs.Answering.{Answers, roomOf, Served, askedIn, beside, Looks}
+use Rattle.conversations.specs.{declared.{Answered.Answered, Looked.the-variants.{Done, Wants}, Wanted.Wanted}, Answering.{Answers, roomOf, Served, askedIn, beside, Looks}}
 
 -- ---- the room that counts
 module _ (n : ℕ) where

@@ -1,12 +1,8 @@
 -- What the lists of a call hold beforehand shows in no answer: only their lengths do. Assumes nothing.
 use Rattle.basis.proofs.Prelude.{_∙_, _≡_, ap, refl, sym, ℕ, List, _++_, Bool, cond, false, true, leb, drop, length, take, take-at}
 use Rattle.refusal.specs.Table.{accepted, shortBuffer}
-use Rattle.model.specs.declared.Call.{Call}
-use Rattle.model.specs.Effects.{State, Request, Answer, After, Effect, refused, done, gives, writes, refuse, settle}
-use Rattle.model.specs.Model.{effectOf, stepOf}
-use Rattle.replies.specs.declared.Shape.{Shape}
-use Rattle.replies.specs.declared.Shape.the-variants.{Ok, Text, Listed, Several, Ticked}
-use Rattle.replies.specs.Replies.{writtenText, listedText, severalText, tickedText, shapeOf, shapeText, callText}
+use Rattle.model.specs.{declared.Call.Call, Effects.{State, Request, Answer, After, Effect, refused, done, gives, writes, refuse, settle}, Model.{effectOf, stepOf}}
+use Rattle.replies.specs.{declared.Shape.{Shape, the-variants.{Ok, Text, Listed, Several, Ticked}}, Replies.{writtenText, listedText, severalText, tickedText, shapeOf, shapeText, callText}}
 
 -- what is shown of an answer: of its lists as many places as it counts
 abbrev shown : Answer → Answer

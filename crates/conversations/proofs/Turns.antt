@@ -1,19 +1,11 @@
 -- The turn of each kind of request. Assumes nothing.
 use Rattle.basis.proofs.Prelude.{_≡_, ap, refl, _<_, _≤_, ℕ, List, _++_, drop, eq-eqb, le-leb, lt-leb, ne-eqb}
 use Rattle.register.specs.Text.{readText}
-use Rattle.model.specs.declared.Call.{Call}
-use Rattle.model.specs.Model.{fresh, begun}
-use Rattle.service.specs.declared.Service.{Service}
-use Rattle.service.specs.declared.Started.{Started}
-use Rattle.service.specs.Service.{Blocks, Represents, Given, Begins}
-use Rattle.service.proofs.Represented.{represented}
-use Rattle.conversations.specs.declared.Answered.{Answered}
+use Rattle.model.specs.{declared.Call.Call, Model.{fresh, begun}}
+use Rattle.service.{specs.{declared.{Service.Service, Started.Started}, Service.{Blocks, Represents, Given, Begins}}, proofs.Represented.represented}
+use Rattle.conversations.specs.{declared.Answered.Answered, Conversation.{registerOf, turnOf}, Answering.{Restarted, Answers, lentOf}, Contracts.CallTurn}
 use Rattle.requests.specs.Requests.{asksCall, asksRoom, asksRead, malformed}
-use Rattle.replies.specs.Replies.{okText, malformedText, refusedLine, readingText}
-use Rattle.replies.specs.Sending.{Sends}
-use Rattle.conversations.specs.Conversation.{registerOf, turnOf}
-use Rattle.conversations.specs.Answering.{Restarted, Answers, lentOf}
-use Rattle.conversations.specs.Contracts.{CallTurn}
+use Rattle.replies.specs.{Replies.{okText, malformedText, refusedLine, readingText}, Sending.Sends}
 
 -- ---- a reading
 module _ (room n : ℕ) (payload : List ℕ) (bs : Blocks) (out out′ : List ℕ) (place : ℕ) where

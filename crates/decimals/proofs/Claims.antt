@@ -2,8 +2,7 @@
 -- is written of its value. Assumes nothing.
 use Rattle.basis.proofs.Prelude.{_≡_, _<_, _≤_, ℕ, List, arith}
 use Rattle.fields.specs.Fields.{found, readNumber, readLength, numberText, wideText}
-use Rattle.decimals.proofs.Decimals.{read-number, write-number, read-length, length-back}
-use Rattle.decimals.proofs.Puts.{word-small}
+use Rattle.decimals.proofs.{Decimals.{read-number, write-number, read-length, length-back}, Puts.word-small}
 
 -- a decimal up to 65,535, ended by a byte below the digits
 pub number-read : (e n : ℕ) (rest : List ℕ) → e < 48 → n ≤ 65535 → readNumber e (numberText n e rest) ≡ found n rest

@@ -1,8 +1,6 @@
 -- A decimal is read as it was written, and what is read is what is written. Assumes nothing.
 use Rattle.basis.proofs.Prelude.{_∙_, _≡_, refl, sym, _%_, _*_, _+_, _-_, _/_, _<_, _≤_, suc, zero, ℕ, List, [], _∷_, false, true, inl, inr, eqb, decLe, arith, eq-eqb, eqb-false, eqb-true, le-leb, le-ltb, lt-leb, lt-ltb, ne-eqb}
-use Rattle.fields.specs.Fields.{found, unreadable, passed, isDigit, readDigits, readDecimal, readLength, readNumber, digitsOf, decimalOf}
-use Rattle.fields.proofs.Bytes.{which, never, digit-is, low-not, digit-low, digit-high, ended-back}
-use Rattle.fields.proofs.Widths.{limit, more}
+use Rattle.fields.{specs.Fields.{found, unreadable, passed, isDigit, readDigits, readDecimal, readLength, readNumber, digitsOf, decimalOf}, proofs.{Bytes.{which, never, digit-is, low-not, digit-low, digit-high, ended-back}, Widths.{limit, more}}}
 
 -- ---- one more digit
 pub digits-one : (k n : ℕ) (rest : List ℕ) → n < 10 → digitsOf k n rest ≡ (48 + n) ∷ rest

@@ -1,7 +1,6 @@
 -- What a reader of decimals finds at a place of a text. Assumes nothing.
 use Rattle.basis.proofs.Prelude.{_≡_, _*_, _+_, _-_, _<_, _≤_, ℕ, List, cond, eqb, leb, drop, getD, length}
-use Rattle.fields.specs.Fields.{found, unreadable, isDigit, readDigits, readDecimal}
-use Rattle.fields.proofs.Places.{here, past-end}
+use Rattle.fields.{specs.Fields.{found, unreadable, isDigit, readDigits, readDecimal}, proofs.Places.{here, past-end}}
 
 module _ (s : List ℕ) (i top : ℕ) where
   pub digits-at : (v : ℕ) → i < length s →

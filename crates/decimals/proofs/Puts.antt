@@ -1,8 +1,6 @@
 -- The digits of a number, put into a list from the last to the first. Assumes nothing.
 use Rattle.basis.proofs.Prelude.{_∙_, _≡_, ap, sym, _%_, _+_, _-_, _/_, _<_, _≤_, ℕ, List, _∷_, drop, length, set, arith}
-use Rattle.fields.specs.Fields.{digitsOf, decimalOf, wideText, numberText}
-use Rattle.fields.proofs.Puts.{Put, put-here, put-one, put-place}
-use Rattle.fields.proofs.Widths.{limit, more-by, digits-width}
+use Rattle.fields.{specs.Fields.{digitsOf, decimalOf, wideText, numberText}, proofs.{Puts.{Put, put-here, put-one, put-place}, Widths.{limit, more-by, digits-width}}}
 use Rattle.decimals.proofs.Decimals.{digits-one, digits-more}
 
 -- a number of up to 64 bits has at most twenty digits

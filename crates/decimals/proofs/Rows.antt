@@ -1,9 +1,6 @@
 -- Decimals parted by tabs, put into a list from the last to the first. Assumes nothing.
 use Rattle.basis.proofs.Prelude.{_∙_, _≡_, _*_, _-_, _<_, _≤_, suc, ℕ, List, _∷_, drop, getD, length, length-drop, drop-cons, drop-length, arith}
-use Rattle.fields.specs.Fields.{numberText, endBefore, numbersText}
-use Rattle.fields.specs.Answers.{Puts}
-use Rattle.fields.proofs.Puts.{Put, put-none, put-on, put-place, number-put, puts-room}
-use Rattle.fields.proofs.Widths.{decimal-wide}
+use Rattle.fields.{specs.{Fields.{numberText, endBefore, numbersText}, Answers.Puts}, proofs.{Puts.{Put, put-none, put-on, put-place, number-put, puts-room}, Widths.decimal-wide}}
 
 -- the decimals from i on stand in front of what stood from `at` on, in at most six places each
 pub record Rest (ns entry : List ℕ) (at : ℕ) (buf : List ℕ) (place i : ℕ) : Type 0 where

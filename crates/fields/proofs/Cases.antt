@@ -1,7 +1,6 @@
 -- Worked examples of each field, read and written. Assumes nothing.
 use Rattle.basis.proofs.Prelude.{_≡_, refl, [], _∷_, true, false}
-use Rattle.fields.specs.Fields.{byteText, isAt, digitsOf, decimalOf, numberText, wideText, numbersText, hexDigit, hexOf, bitsText, found, unreadable, passed, readDigits, readDecimal, readLength, readNumber, hexValue, readHex, readBits, readMask}
-use Rattle.fields.specs.Answers.{putAt, putOf}
+use Rattle.fields.specs.{Fields.{byteText, isAt, digitsOf, decimalOf, numberText, wideText, numbersText, hexDigit, hexOf, bitsText, found, unreadable, passed, readDigits, readDecimal, readLength, readNumber, hexValue, readHex, readBits, readMask}, Answers.{putAt, putOf}}
 
 -- single bytes: at a place, at another, past the end; put where there is a place before, and where there is none
 single :

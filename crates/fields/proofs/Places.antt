@@ -1,11 +1,6 @@
 -- What stands at a place of a text. Assumes nothing.
 use Rattle.basis.proofs.Prelude.{_∙_, _≡_, ap, sym, _+_, _<_, _≤_, ℕ, List, [], _∷_, false, false≢true, true, drop, drop-of-length-le, getD, length, length-drop, drop-cons, add-one, decLe, arith, le-ltb, lt-ltb}
-use Rattle.fields.specs.declared.Field.{Field}
-use Rattle.fields.specs.declared.Field.the-variants.{Value as FieldValue, Malformed as FieldMalformed}
-use Rattle.fields.specs.declared.Length.{Length}
-use Rattle.fields.specs.declared.Length.the-variants.{Value as LengthValue, Malformed as LengthMalformed}
-use Rattle.fields.specs.Fields.{Found, found, unreadable, passed, isAt}
-use Rattle.fields.specs.Answers.{placeOf, fieldAt, fieldOf, lengthAt, lengthOf, Reads}
+use Rattle.fields.specs.{declared.{Field.{Field, the-variants.{Value as FieldValue, Malformed as FieldMalformed}}, Length.{Length, the-variants.{Value as LengthValue, Malformed as LengthMalformed}}}, Fields.{Found, found, unreadable, passed, isAt}, Answers.{placeOf, fieldAt, fieldOf, lengthAt, lengthOf, Reads}}
 
 module _ (s : List ℕ) (i : ℕ) where
   pub here : i < length s → drop i s ≡ getD s i 0 ∷ drop (i + 1) s

@@ -1,7 +1,6 @@
 -- A text that is put into a list before a place, byte by byte from its end to its front. Assumes nothing.
 use Rattle.basis.proofs.Prelude.{_∙_, _≡_, ap, refl, sym, _+_, _-_, _<_, _≤_, suc, ℕ, List, _++_, _∷_, drop, length, length-append, length-drop, length-set, set, take, take-append-drop, drop-at, length-take-le, set-split, take-at, take-set-le, take-take, arith, le-leb, lt-leb}
-use Rattle.fields.specs.Fields.{byteText, numberText, bitsText}
-use Rattle.fields.specs.Answers.{Puts}
+use Rattle.fields.specs.{Fields.{byteText, numberText, bitsText}, Answers.Puts}
 use Rattle.fields.proofs.Widths.{decimal-width, hex-width}
 
 -- a list with its places before r as they were and the text from r on

@@ -2,14 +2,8 @@
 use Rattle.basis.proofs.Prelude.{_∙_, _≡_, ap, refl, sym, _+_, _-_, _<_, _≤_, min, suc, zero, ℕ, List, [], _++_, _∷_, drop, drop-of-length-le, getD, length, length-append, length-set, set, take, drop-cons, drop-drop, drop-length, drop-set-lt, length-take-le, take-all, take-append-seam, take-length, take-suc-set, add-one, arith, decLe, eq-eqb, ne-eqb}
 use native.Mathlib.Nat.{min-eq-left, min-eq-right}
 use Rattle.buffer.proofs.Over.{least-in, least-names}
-use Rattle.streams.specs.declared.Frame.{Frame}
-use Rattle.streams.specs.declared.Framed.{Framed}
-use Rattle.streams.specs.declared.Framed.the-variants.{Whole, Part}
-use Rattle.framing.specs.declared.Taken.{Taken}
-use Rattle.framing.specs.declared.Taken.the-variants.{Whole as LineWhole, Part as LinePart}
-use Rattle.streams.specs.Stream.{Partial, inLine, inText, kept, wants, settled, lineFed, feed}
-use Rattle.streams.specs.Advancing.{Progress, going, through, next, after, partOf, Fits, Kept, lineIn, textIn, Advances}
-use Rattle.framing.specs.Contracts.{Puts, TakesLine, TakesText}
+use Rattle.streams.specs.{declared.{Frame.Frame, Framed.{Framed, the-variants.{Whole, Part}}}, Stream.{Partial, inLine, inText, kept, wants, settled, lineFed, feed}, Advancing.{Progress, going, through, next, after, partOf, Fits, Kept, Advances}}
+use Rattle.framing.specs.{declared.Taken.{Taken, the-variants.{Whole as LineWhole, Part as LinePart}}, Contracts.{Puts, TakesLine, TakesText}}
 
 -- ---- Places that keep what they held
 

@@ -3,9 +3,7 @@
 use Rattle.basis.proofs.Prelude.{_≡_, refl, ℕ, List}
 use contract.Lifetimes.{Lfts}
 use denote.Ref.{RefT, now}
-use Rattle.streams.specs.declared.Frame.{Frame}
-use Rattle.streams.specs.declared.Framed.{Framed}
-use Rattle.streams.specs.Advancing.{Advances}
+use Rattle.streams.specs.{declared.{Frame.Frame, Framed.Framed}, Advancing.Advances}
 use Rattle.framing.proofs.advance.Reads as advance-reads
 use Rattle.framing.proofs.phayaklit_advance.Reads as host-reads
 

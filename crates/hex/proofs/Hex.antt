@@ -1,7 +1,6 @@
 -- Eight hex digits are read as they were written, and what is read is what is written. Assumes nothing.
 use Rattle.basis.proofs.Prelude.{_∙_, _≡_, refl, sym, _%_, _*_, _+_, _-_, _/_, _<_, _≤_, suc, zero, ℕ, List, [], _∷_, inl, inr, leb, add-one, decLe, arith, eq-eqb, le-leb, le-ltb, leb-true, lt-leb, lt-ltb}
-use Rattle.fields.specs.Fields.{found, unreadable, passed, isDigit, hexDigit, hexOf, hexValue, readHex, readBits}
-use Rattle.fields.proofs.Bytes.{which, never, digit-is, digit-low, digit-high, ended-back}
+use Rattle.fields.{specs.Fields.{found, unreadable, passed, isDigit, hexDigit, hexOf, hexValue, readHex, readBits}, proofs.Bytes.{which, never, digit-is, digit-low, digit-high, ended-back}}
 
 -- ---- one digit
 value-digit : (d : ℕ) → d < 16 → hexValue (hexDigit d) ≡ d

@@ -1,7 +1,6 @@
 -- What a reader of hex digits finds at a place of a text. Assumes nothing.
 use Rattle.basis.proofs.Prelude.{_≡_, _*_, _+_, _<_, _≤_, suc, ℕ, List, cond, ltb, drop, getD, length}
-use Rattle.fields.specs.Fields.{unreadable, hexValue, readHex}
-use Rattle.fields.proofs.Places.{here, past-end}
+use Rattle.fields.{specs.Fields.{unreadable, hexValue, readHex}, proofs.Places.{here, past-end}}
 
 module _ (s : List ℕ) (i k v : ℕ) where
   pub hex-at : i < length s →

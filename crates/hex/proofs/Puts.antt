@@ -1,7 +1,6 @@
 -- Eight hex digits, put into a list from the last to the first. Assumes nothing.
 use Rattle.basis.proofs.Prelude.{_∙_, _≡_, refl, sym, _%_, _+_, _-_, _/_, _<_, _≤_, suc, ℕ, List, _∷_, drop, length, set, arith}
-use Rattle.fields.specs.Fields.{hexDigit, hexOf}
-use Rattle.fields.proofs.Puts.{Put, put-here, put-one}
+use Rattle.fields.{specs.Fields.{hexDigit, hexOf}, proofs.Puts.{Put, put-here, put-one}}
 
 -- the eight hex digits of n before rest: k of them stand from the place i on
 pub record Hexes (n : ℕ) (rest entry buf : List ℕ) (i v k : ℕ) : Type 0 where

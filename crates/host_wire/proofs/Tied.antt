@@ -2,10 +2,8 @@
 use Rattle.basis.proofs.Prelude.{_≡_, refl, ℕ, List}
 use contract.Lifetimes.{Lfts}
 use denote.Ref.{RefT, now}
-use Rattle.service.specs.Packed.{unpacked}
-use Rattle.service.specs.Service.{blocks, Given}
-use Rattle.sharing.specs.declared.Carried.{Carried}
-use Rattle.sharing.specs.Carrying.{Requested}
+use Rattle.service.specs.{Packed.unpacked, Service.{blocks, Given}}
+use Rattle.sharing.specs.{declared.Carried.Carried, Carrying.Requested}
 use Rattle.host_wire.proofs.phayaklit_request.Reads as request-reads
 
 module _ (κs : Lfts 8) (room allowed : ℕ) (r : Carried) (words words′ index index′ line payload days days′ numbers numbers′ text text′ out out′ : RefT (List ℕ)) where

@@ -3,9 +3,7 @@ use Rattle.basis.proofs.Prelude.{_≡_, refl, ℕ, List, [], _∷_, true}
 use lib.Ieee.{binary32, ofBits, toBits}
 use Rattle.spell.specs.declared.Urgency.the-variants.{Reading}
 use Rattle.packing.specs.Words.{spellWords, spellOf, urgencyOf}
-use Rattle.journal.specs.declared.Undo.{Undo}
-use Rattle.journal.specs.Journal.{blankEntry}
-use Rattle.journal.specs.Words.{entryWords, entryOf}
+use Rattle.journal.specs.{declared.Undo.Undo, Journal.blankEntry, Words.{entryWords, entryOf}}
 
 abbrev entry : Undo
 entry = record { number = 0x0102; stood = true; spell = record { number = 65535; candidate = 0x0304; first = 0x0506; last = 0x0708; urgency = Reading (ofBits binary32 0x3F80_0001) } }

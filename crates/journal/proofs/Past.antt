@@ -2,8 +2,7 @@
 use Rattle.basis.proofs.Prelude.{_∙_, _≡_, ap, refl, sym, suc, zero, ℕ, List, [], _∷_, length, take}
 use Rattle.spell.specs.declared.Spell.{Spell}
 use Rattle.model.specs.Edits.{remember}
-use Rattle.journal.specs.declared.Undo.{Undo}
-use Rattle.journal.specs.Past.{undo, pastOf, Goods}
+use Rattle.journal.specs.{declared.Undo.Undo, Past.{undo, pastOf, Goods}}
 
 pub past-take : (n : ℕ) (l : List Spell) (es : List Undo) → take n (pastOf l es) ≡ pastOf l (take n es)
 unfolding pastOf

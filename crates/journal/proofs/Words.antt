@@ -3,14 +3,9 @@ use Rattle.basis.proofs.Prelude.{_∙_, _≡_, ap, refl, sym, _+_, _<_, _≤_, 
 use mir.Val.{Val, boolByte}
 use denote.Laws.{Is}
 use Rattle.spell.specs.declared.Spell.{Spell}
-use Rattle.packing.specs.Blocks.{put}
-use Rattle.packing.specs.Words.{spellWords, spellOf}
-use Rattle.packing.proofs.Blocks.{put-sets}
-use Rattle.packing.proofs.Words.{spell-back, spell-held, spell-long, spell-reads}
-use Rattle.journal.specs.declared.Undo.{Undo}
-use Rattle.journal.specs.Journal.{blankEntry}
+use Rattle.packing.{specs.{Blocks.put, Words.{spellWords, spellOf}}, proofs.{Blocks.put-sets, Words.{spell-back, spell-held, spell-long, spell-reads}}}
+use Rattle.journal.specs.{declared.Undo.Undo, Journal.blankEntry, Words.{entryWords, entryOf}}
 use Rattle.journal.proofs.Undo.{the-row as entry-row}
-use Rattle.journal.specs.Words.{entryWords, entryOf}
 
 pub entry-long : (e : Undo) → length (entryWords e) ≡ 9
 unfolding entryWords

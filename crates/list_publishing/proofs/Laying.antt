@@ -1,21 +1,15 @@
 -- The index built of no rows, and that of a standing list's columns. Assumes nothing.
 use Rattle.basis.proofs.Prelude.{_∙_, _≡_, refl, ℕ, List, [], map, Bool, true, drop, length, length-map, take, take-all, take-at, arith, le-leb, _≤_}
-use Rattle.spell.specs.declared.Spell.{Spell}
-use Rattle.spell.specs.Listing.{Sound}
+use Rattle.spell.specs.{declared.Spell.Spell, Listing.Sound}
 use Rattle.stabbing.specs.Index.{rowsAfter}
 use Rattle.stabbing_index.specs.Build.{publishable, Builds}
 use Rattle.row_order.specs.Rows.{arrangedColumn}
 use Rattle.publishing.specs.Lays.{Lays}
-use Rattle.rules.specs.Rules.{cut}
-use Rattle.rules.proofs.Rules.{cut-sound}
-use Rattle.model.specs.Publishing.{publishedOf}
-use Rattle.model.proofs.Publishing.{each-cut, distinct-cut, published-length, published-orderly}
+use Rattle.rules.{specs.Rules.cut, proofs.Rules.cut-sound}
+use Rattle.model.{specs.Publishing.publishedOf, proofs.Publishing.{each-cut, distinct-cut, published-length, published-orderly}}
 use Rattle.spell_places.specs.List.{columnOf, LaidOut}
-use Rattle.standing.specs.declared.Standing.{Standing}
-use Rattle.standing.specs.Standing.{Wf, listOf}
-use Rattle.published_index.specs.Index.{indexOf}
-use Rattle.published_index.proofs.Rows.{rows-ok}
-use Rattle.published_index.proofs.Arranged.{Holds, holds, short-rows, column-is}
+use Rattle.standing.specs.{declared.Standing.Standing, Standing.{Wf, listOf}}
+use Rattle.published_index.{specs.Index.indexOf, proofs.{Rows.rows-ok, Arranged.{Holds, holds, short-rows, column-is}}}
 
 -- the index built of no rows
 pub no-rows : {x entry exit : List ℕ} {r : Bool} → Builds x x x 0 entry r exit → exit ≡ indexOf []

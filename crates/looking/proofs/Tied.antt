@@ -5,8 +5,7 @@ use contract.Lifetimes.{Lfts}
 use denote.Ref.{RefT, now}
 use Rattle.published_index.specs.Index.{Published}
 use Rattle.service.specs.Service.{blocks}
-use Rattle.conversations.specs.declared.Looked.{Looked}
-use Rattle.conversations.specs.Answering.{Looks}
+use Rattle.conversations.specs.{declared.Looked.Looked, Answering.Looks}
 use Rattle.looking.proofs.look.Reads as look-reads
 
 module _ (κs : Lfts 6) (room : ℕ) (r : Looked) (index line days days′ numbers numbers′ text out out′ : RefT (List ℕ)) where

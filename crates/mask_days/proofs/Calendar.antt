@@ -3,10 +3,8 @@ use Rattle.basis.proofs.Prelude.{_≡_, refl, sym, _∙_, ℕ, zero, suc, _+_, 
 use Prim.Native.Nat.{_^_}
 use native.Mathlib.Nat.{div-one}
 use lib.Count.{trailingZeros, leadingZeros, leading-top}
-use Rattle.calendar.specs.Calendar.{isDay, daysOk}
-use Rattle.calendar.proofs.Calendar.{dated}
-use Rattle.masks.specs.Masks.{ticks}
-use Rattle.masks.proofs.Bits.{highest-set, highest, none-from, Next, next, bit-of, of-bit}
+use Rattle.calendar.{specs.Calendar.{isDay, daysOk}, proofs.Calendar.dated}
+use Rattle.masks.{specs.Masks.ticks, proofs.Bits.{highest-set, highest, none-from, Next, next, bit-of, of-bit}}
 
 -- ---- A list of days
 and-false : (a : Bool) → a && false ≡ false

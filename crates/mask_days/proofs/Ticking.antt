@@ -2,15 +2,11 @@
 use Rattle.basis.proofs.Prelude.{_≡_, refl, sym, ap, _∙_, ℕ, suc, _+_, _-_, _/_, _≤_, _<_, List, _∷_, _++_, getD, length, take, drop, set, length-set, length-drop, drop-drop, getD-drop, take-all, arith}
 use Prim.Native.Nat.{_^_}
 use native.Mathlib.Nat.{div-one}
-use lib.Count.{trailingZeros}
-use lib.Pow.{shr-shr, shr-lt}
+use lib.{Count.trailingZeros, Pow.{shr-shr, shr-lt}}
 use Rattle.buffer.specs.Buffer.{over}
 use Rattle.buffer.proofs.Overlaid as buffer
-use Rattle.masks.specs.Masks.{ticksFrom, ticks}
-use Rattle.masks.specs.Answers.{Room}
-use Rattle.masks.proofs.Bits.{none-from, Next, next}
+use Rattle.masks.{specs.{Masks.{ticksFrom, ticks}, Answers.Room}, proofs.{Bits.{none-from, Next, next}, Claims.in-sheet}}
 use Rattle.mask_days.proofs.Calendar.{each-on}
-use Rattle.masks.proofs.Claims.{in-sheet}
 
 -- ---- What is still to come of a list begins with d
 module _ (l : List ℕ) (n d : ℕ) (rest : List ℕ) (e : drop n l ≡ d ∷ rest) where

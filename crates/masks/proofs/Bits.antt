@@ -2,8 +2,7 @@
 use Rattle.basis.proofs.Prelude.{_≡_, refl, sym, ap, _∙_, ℕ, zero, suc, _+_, _-_, _*_, _/_, _%_, _≤_, _<_, List, List·Memᴰ, List·Memᴰ·head, List·Memᴰ·tail, List·Memᴰ·not-nil, List·Memᴰ·cases-cons, [], _∷_, true, false, _⊎_, inl, inr, getD, length, le-trans, add-one, decLe, arith, eq-eqb, ne-eqb, eqb-true}
 use Prim.Native.Nat.{_^_}
 use native.Mathlib.Nat.{div-lt-iff-lt-mul}
-use lib.Count.{ones, ones-step, trailingZeros}
-use lib.Pow.{shr-shr, shr-lt, pow-pos, pow-mono}
+use lib.{Count.{ones, ones-step, trailingZeros}, Pow.{shr-shr, shr-lt, pow-pos, pow-mono}}
 use Rattle.masks.specs.Masks.{isSet, ticksFrom}
 
 -- ---- One bit

@@ -5,10 +5,7 @@ use native.Mathlib.Nat.{div-one}
 use lib.Count.{ones}
 use Rattle.buffer.specs.Buffer.{over}
 use Rattle.calendar.specs.Calendar.{daysOk}
-use Rattle.masks.specs.declared.Ticks.{Ticks}
-use Rattle.masks.specs.declared.Ticks.the-variants.{All, Off}
-use Rattle.masks.specs.Masks.{isSet, ticksFrom, ticks}
-use Rattle.masks.specs.Answers.{answered, Answer}
+use Rattle.masks.specs.{declared.Ticks.{Ticks, the-variants.{All, Off}}, Masks.{isSet, ticksFrom, ticks}, Answers.{answered, Answer}}
 use Rattle.masks.proofs.Bits.{none-from, few-from, count-from, rises-from, bit-of, of-bit}
 
 module _ (base mask : ℕ) where

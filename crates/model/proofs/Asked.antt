@@ -1,10 +1,7 @@
 -- The questions, each in one place: what an accepted one lists, and what its line in document 01 says of a spell that is listed. Assumes nothing.
 use Rattle.basis.proofs.Prelude.{_≡_, refl, _≤_, ℕ, List, List·Memᴰ, _++_, Bool, true, _↔_, _⊎_, inl, inr, drop, length, arith, _∙_, ap, sym, List·Memᴰ·cases-cons, List·Memᴰ·head, List·Memᴰ·not-nil, List·Memᴰ·tail, [], _∷_, map, _||_, false, false≢true, leb, length-map, le-leb, leb-true, both, either}
-use Rattle.model.proofs.Names.{accepted, Spell, listedBefore, orderedBy, distinct, ticks, Ask, onDay, onSpan, covers, onAny, filter, listed, comparisonsOf, Effect, gave, settle, several, ask, effectOf, stepOf, Question, reaches, State, Request, Answer}
+use Rattle.model.proofs.{Names.{accepted, Spell, listedBefore, orderedBy, distinct, ticks, Ask, onDay, onSpan, covers, onAny, filter, listed, comparisonsOf, Effect, gave, settle, several, ask, effectOf, stepOf, Question, reaches, State, Request, Answer}, Effects.{Comes, settles, Refusing, day-does, span-does, cover-does, several-does}, Claims.{listed-exactly, listed-ordered, listed-once}, Edits.one-spell}
 use Rattle.model.specs.declared.Question.the-variants.{Day, Span, Cover, Days, Mask}
-use Rattle.model.proofs.Effects.{Comes, settles, Refusing, day-does, span-does, cover-does, several-does}
-use Rattle.model.proofs.Claims.{listed-exactly, listed-ordered, listed-once}
-use Rattle.model.proofs.Edits.{one-spell}
 
 -- ---- The answer of a question
 

@@ -1,9 +1,8 @@
 -- Document 01's register A, M1 and M2 run through the account: what each call answers, computed. Assumes nothing.
 use Rattle.basis.proofs.Prelude.{_≡_, refl, suc, zero, ℕ, List, [], _++_, _∷_, map, false, true, replicate, take}
 use Rattle.model.proofs.Names.{binary32, isNan, toBits, ofBits, Urgency, Grade, Reading, Spell, listedBefore, earlierOf, stands, sameOf, below, keep, count, head, parent, child, leftSibling, lastChild, fitsAt, start, onPath, formula, Call, Enter, Amend, Strike, TakeBack, Publish, Ask, sortedBy, lastOf, remove, idle, enterRefusal, amendRefusal, strikeRefusal, remember, publishedOf, daysOk, isSet, ticksFrom, onAny, rising, filter, comparisonsOf, settle, fresh, takeBack, cover, ask, effectOf, run, Request, Answer}
-use Rattle.model.specs.declared.Question.the-variants.{Day, Span, Cover, Days, Mask}
+use Rattle.model.specs.{declared.Question.the-variants.{Day, Span, Cover, Days, Mask}, Edits.insertBy}
 use Rattle.stabbing.specs.Tree.{next}
-use Rattle.model.specs.Edits.{insertBy}
 
 -- ---- A call, and the part of its answer that a case names
 

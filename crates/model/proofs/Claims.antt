@@ -1,10 +1,7 @@
 -- What is claimed of every call of the account, each claim a citation. Assumes nothing.
 use Rattle.basis.proofs.Prelude.{_≡_, refl, _*_, _≤_, ℕ, List, List·Memᴰ, _∷_, _++_, Bool, true, _↔_, _⊎_, inl, inr, arith}
-use Rattle.model.proofs.Names.{accepted, Spell, listedBefore, orderedBy, answer-order, distinct, in-sheet, Publish, filter, After, Effect, refused, done, gives, writes, refuse, several, effectOf, step, reads, State, Request}
-use Rattle.model.proofs.Effects.{Comes, settles, call-does, reads-every, every}
+use Rattle.model.proofs.{Names.{accepted, Spell, listedBefore, orderedBy, answer-order, distinct, in-sheet, Publish, filter, After, Effect, refused, done, gives, writes, refuse, several, effectOf, step, reads, State, Request}, Effects.{Comes, settles, call-does, reads-every, every}, Filter.{filter-in, in-filter, filter-ordered, filter-distinct}, Bridge.comparisons-le}
 use Rattle.spell.proofs.Order.{comes-before, twins-rise}
-use Rattle.model.proofs.Filter.{filter-in, in-filter, filter-ordered, filter-distinct}
-use Rattle.model.proofs.Bridge.{comparisons-le}
 
 module _ (m : State) (q : Request) where
   -- ---- A refused call

@@ -1,13 +1,7 @@
 -- What the edits do, each claim one of every state. Assumes nothing.
 use Rattle.basis.proofs.Prelude.{_∙_, _≡_, ap, refl, sym, _≤_, ℕ, List, List·Memᴰ, _++_, _∷_, false, true, _↔_, _⊎_, inl, inr, drop, length, take, le-leb, by-cases}
-use Rattle.model.proofs.Names.{accepted, duplicateNumber, unknownNumber, full, isRule, Spell, refusalOf, earlierOf, stands, distinct, writeAll, Enter, Amend, Strike, TakeBack, Publish, Write, Ask, insert, remove, replace, idle, enterRefusal, amendRefusal, strikeRefusal, remember, onDay, listed, publishedOf, withStanding, withPublished, After, Effect, refuse, settle, over, edit, effectOf, stepOf, Passes, State, Request}
+use Rattle.model.proofs.{Names.{accepted, duplicateNumber, unknownNumber, full, isRule, Spell, refusalOf, earlierOf, stands, distinct, writeAll, Enter, Amend, Strike, TakeBack, Publish, Write, Ask, insert, remove, replace, idle, enterRefusal, amendRefusal, strikeRefusal, remember, onDay, listed, publishedOf, withStanding, withPublished, After, Effect, refuse, settle, over, edit, effectOf, stepOf, Passes, State, Request}, Checks.{stops, passes, Enters, enter-accepted, Amends, amend-accepted, strike-accepted}, Edits.{in-insert, in-remove}, Idle.idle-stands, Effects.become-does, Rules.{back-takes, write-writes}, Asked.day-lists}
 use Rattle.model.specs.declared.Question.the-variants.{Day}
-use Rattle.model.proofs.Checks.{stops, passes, Enters, enter-accepted, Amends, amend-accepted, strike-accepted}
-use Rattle.model.proofs.Edits.{in-insert, in-remove}
-use Rattle.model.proofs.Idle.{idle-stands}
-use Rattle.model.proofs.Effects.{become-does}
-use Rattle.model.proofs.Rules.{back-takes, write-writes}
-use Rattle.model.proofs.Asked.{day-lists}
 
 module _ (m : State) (q : Request) where
   -- ---- When an edit is accepted

@@ -1,9 +1,8 @@
 -- All calls of the account gone through once, for any property of what a call does, and what comes of an effect gone through
 -- once, for any property of an outcome. Assumes nothing.
 use Rattle.basis.proofs.Prelude.{_∙_, _≡_, ap, refl, sym, ℕ, List, List·Memᴰ, List·Memᴰ·head, List·Memᴰ·tail, [], _∷_, _&&_, false, false≢true, true, eqb, leb, length, arith, eqb-false, eqb-true, leb-false, leb-true, by-cases, by-test}
-use Rattle.model.proofs.Names.{accepted, offCalendar, reversed, unknownNumber, unsortedDays, shortBuffer, noSuchRule, isRule, publishedOf, Spell, isDay, daysOk, writeAll, ticks, Call, Enter, Amend, Strike, TakeBack, Publish, Write, Ask, Question, insert, remove, replace, idle, enterRefusal, amendRefusal, strikeRefusal, takeBackRefusal, remember, frontOr, restOf, onAny, rising, listed, withStanding, After, Effect, refused, done, gives, writes, refuse, gave, wrote, settle, withPublished, become, edit, amend, takeBack, reaching, several, cover, ask, effectOf, step, reads, State, Request}
+use Rattle.model.proofs.{Names.{accepted, offCalendar, reversed, unknownNumber, unsortedDays, shortBuffer, noSuchRule, isRule, publishedOf, Spell, isDay, daysOk, writeAll, ticks, Call, Enter, Amend, Strike, TakeBack, Publish, Write, Ask, Question, insert, remove, replace, idle, enterRefusal, amendRefusal, strikeRefusal, takeBackRefusal, remember, frontOr, restOf, onAny, rising, listed, withStanding, After, Effect, refused, done, gives, writes, refuse, gave, wrote, settle, withPublished, become, edit, amend, takeBack, reaching, several, cover, ask, effectOf, step, reads, State, Request}, Rules.{fits-given, short-refused, text-fits, text-short}}
 use Rattle.model.specs.declared.Question.the-variants.{Day, Span, Cover, Days, Mask}
-use Rattle.model.proofs.Rules.{fits-given, short-refused, text-fits, text-short}
 
 -- ---- What comes of an effect
 

@@ -1,8 +1,7 @@
 -- Why a journal of the accepted changes and of the readings suffices. Assumes nothing.
 use Rattle.basis.proofs.Prelude.{_∙_, _≡_, ap, refl, sym, List, [], _∷_, Bool, _&&_, cond, false, false≢true, not, true, eqb, eqb-false}
-use Rattle.model.proofs.Names.{accepted, After, step, reads, Event, call, Told, told, left, allTold, kept, journal, journalTold, State}
+use Rattle.model.proofs.{Names.{accepted, After, step, reads, Event, call, Told, told, left, allTold, kept, journal, journalTold, State}, Claims.{refused-keeps, reads-keep}}
 use Rattle.model.specs.Journal.{reading, next}
-use Rattle.model.proofs.Claims.{refused-keeps, reads-keep}
 
 -- WHAT IS LEFT OUT changes nothing: a question, a writing, a refused call
 pub left-out : (m : State) (e : Event) → kept m e ≡ false → next m e ≡ m

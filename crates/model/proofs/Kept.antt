@@ -1,12 +1,7 @@
 -- The lists of the account stay in the order, their numbers unique, through every call. Assumes nothing.
 use Rattle.basis.proofs.Prelude.{by-cases, _≡_, refl, _≤_, suc, zero, ℕ, List, List·Memᴰ, List·Memᴰ·cases-cons, List·Memᴰ·head, List·Memᴰ·not-nil, List·Memᴰ·tail, [], _∷_, inl, inr, length, length-take, take, arith}
-use Rattle.model.proofs.Names.{accepted, Spell, Sound, Good, Orderly, text-order, answer-order, each-map, Register, readText, good, bad, text-again, Call, Enter, Amend, Strike, TakeBack, Publish, Write, Ask, insert, remove, replace, enterRefusal, amendRefusal, strikeRefusal, remember, After, Effect, begun, edit, takeBack, effectOf, step, Begun, afresh, after, Kept, Brings, isRule, State, Request}
+use Rattle.model.proofs.{Names.{accepted, Spell, Sound, Good, Orderly, text-order, answer-order, each-map, Register, readText, good, bad, text-again, Call, Enter, Amend, Strike, TakeBack, Publish, Write, Ask, insert, remove, replace, enterRefusal, amendRefusal, strikeRefusal, remember, After, Effect, begun, edit, takeBack, effectOf, step, Begun, afresh, after, Kept, Brings, isRule, State, Request}, Edits.{orderly-none, orderly-insert, orderly-remove, orderly-replace}, Publishing.{Cuts, published-orderly}, Checks.{enters, amends, strike-accepted}, Effects.{Comes, settles, become-does, amend-does, asks-does}, Rules.reading-begins}
 use Rattle.model.specs.Reached.{reading}
-use Rattle.model.proofs.Edits.{orderly-none, orderly-insert, orderly-remove, orderly-replace}
-use Rattle.model.proofs.Publishing.{Cuts, published-orderly}
-use Rattle.model.proofs.Checks.{enters, amends, strike-accepted}
-use Rattle.model.proofs.Effects.{Comes, settles, become-does, amend-does, asks-does}
-use Rattle.model.proofs.Rules.{reading-begins}
 
 in-take : {A : Type 0} {x : A} (n : ℕ) (l : List A) → List·Memᴰ x (take n l) → List·Memᴰ x l
 in-take zero l i = absurd (List·Memᴰ·not-nil i)

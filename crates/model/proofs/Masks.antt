@@ -1,9 +1,8 @@
 -- The review calendar as a mask (document 02, W2): the question of a mask is the days question for its ticked days, and what refuses it.
 -- Assumes nothing.
 use Rattle.basis.proofs.Prelude.{_≡_, refl, ℕ, suc, _<_, List, [], _∷_, cond, true, false, eqb, leb, length, getD, arith, lt-ltb, by-test}
-use Rattle.model.proofs.Names.{accepted, offCalendar, Spell, daysOk, ticks, rises, empty, Ask, onAny, rising, filter, listed, gives, refuse, gave, settle, ask, effectOf, stepOf, step, State, Request, Answer}
+use Rattle.model.proofs.{Names.{accepted, offCalendar, Spell, daysOk, ticks, rises, empty, Ask, onAny, rising, filter, listed, gives, refuse, gave, settle, ask, effectOf, stepOf, step, State, Request, Answer}, Rules.fits-given}
 use Rattle.model.specs.declared.Question.the-variants.{Days, Mask}
-use Rattle.model.proofs.Rules.{fits-given}
 
 -- a list each of whose days is above the one before
 rising-of : (l : List ℕ) → ((k : ℕ) → suc k < length l → getD l k 0 < getD l (suc k) 0) → rising l ≡ true

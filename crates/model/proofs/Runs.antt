@@ -1,12 +1,9 @@
 -- What is claimed of every list of calls, begun fresh or on any text. Assumes nothing.
 use Rattle.basis.proofs.Prelude.{_≡_, ap, refl, List, List·Memᴰ, [], _++_, _∷_, true, _↔_}
-use Rattle.model.proofs.Names.{accepted, Spell, HeldUrgency, Sound, each-member, each-map, cut-passes, cut-sound, writeAll, readText, good, list-again, Amend, Ask, Question, idle, refuse, stepOf, step, run, Begun, after, Kept, Passes, Brings, State, Request, Answer}
-use Rattle.model.proofs.Asked.{Answered, answers}
-use Rattle.model.proofs.Idle.{idle-itself, idle-member}
-use Rattle.model.proofs.Editing.{idle-keeps}
-use Rattle.model.proofs.Kept.{begun-kept, after-kept}
--- A JOURNAL of the accepted changes and of the readings suffices: for the state, for every later answer, and to tell its own again
+use Rattle.model.proofs.{Names.{accepted, Spell, HeldUrgency, Sound, each-member, each-map, cut-passes, cut-sound, writeAll, readText, good, list-again, Amend, Ask, Question, idle, refuse, stepOf, step, run, Begun, after, Kept, Passes, Brings, State, Request, Answer}, Asked.{Answered, answers}, Idle.{idle-itself, idle-member}, Editing.idle-keeps, Kept.{begun-kept, after-kept}}
 pub use Rattle.model.proofs.Journal.{left-out, journal-left, journal-later, journal-told}
+
+-- A JOURNAL of the accepted changes and of the readings suffices: for the state, for every later answer, and to tell its own again
 
 -- the answer of a call in a list of calls is that of a step from the state that the calls before it left
 pub run-at : (m : State) (before : List Request) (q : Request) (later : List Request)

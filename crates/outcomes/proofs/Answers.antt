@@ -1,13 +1,10 @@
 -- Every outcome with its lent lists is the account's answer. Assumes nothing.
 use Rattle.basis.proofs.Prelude.{_≡_, refl, ℕ, List, leb, eqb, length, by-test}
 use Rattle.refusal.specs.Table.{accepted}
-use Rattle.register.specs.declared.Written.{Written}
-use Rattle.register.specs.Answers.{Writes}
+use Rattle.register.specs.{declared.Written.Written, Answers.Writes}
 use Rattle.stabbing.specs.Answer as rows
-use Rattle.model.specs.Effects.{State, Request, Answer, refused, done, gives, writes, settle}
-use Rattle.model.proofs.Masks.{ticking}
-use Rattle.outcomes.specs.declared.Outcome.{Outcome}
-use Rattle.outcomes.specs.Outcomes.{toldOf, foundOf, wroteOf, tickingOf, answerOf}
+use Rattle.model.{specs.Effects.{State, Request, Answer, refused, done, gives, writes, settle}, proofs.Masks.ticking}
+use Rattle.outcomes.specs.{declared.Outcome.Outcome, Outcomes.{toldOf, foundOf, wroteOf, tickingOf, answerOf}}
 
 -- what a question over the rows found, beside a list lent for a text
 abbrev pub told : rows.Reported → List ℕ → Answer

@@ -1,7 +1,6 @@
 -- Values written one after the other, and read back: how a loop writes and reads them, and that reading gives back what was written. Assumes nothing.
 use Rattle.basis.proofs.Prelude.{_∙_, _≡_, ap, refl, sym, _*_, _+_, _<_, _≤_, suc, zero, ℕ, List, [], _++_, _∷_, append-assoc, append-nil, drop, drop-of-length-le, getD, length, length-append, set, take, append-snoc, drop-append-add, drop-at, drop-cons, drop-drop, length-sets, length-take-le, set-at, sets, sets-eq, take-all, take-at, take-suc, le-trans, mul-le-mul-right, suc-mul, zero-mul, add-one, decLe, arith, le-leb, lt-leb}
-use Rattle.buffer.specs.Buffer.{over}
-use Rattle.buffer.proofs.Over.{over-length}
+use Rattle.buffer.{specs.Buffer.over, proofs.Over.over-length}
 use Rattle.packing.specs.Blocks.{put, written, parts, Every, Put, PutAll}
 
 -- ---- Words put into a list

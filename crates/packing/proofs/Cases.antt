@@ -1,10 +1,7 @@
 -- Worked examples: a spell's words at the edges of its numbers, and the urgency of a kind and a value. Assumes nothing.
 use Rattle.basis.proofs.Prelude.{_≡_, refl, ℕ, List, [], _∷_}
 use lib.Ieee.{binary32, ofBits, toBits}
-use Rattle.spell.specs.declared.Urgency.{Urgency}
-use Rattle.spell.specs.declared.Urgency.the-variants.{Grade, Reading}
-use Rattle.spell.specs.declared.Spell.{Spell}
-use Rattle.spell.specs.Blank.{blank}
+use Rattle.spell.specs.{declared.{Urgency.{Urgency, the-variants.{Grade, Reading}}, Spell.Spell}, Blank.blank}
 use Rattle.packing.specs.Words.{urgencyOf, spellWords, spellOf}
 
 -- five fields that differ, each of more than 8 bits

@@ -1,7 +1,6 @@
 -- What packing is for: a spell that can stand is the same after it went into words and back. Assumes nothing.
 use Rattle.basis.proofs.Prelude.{_≡_}
-use Rattle.spell.specs.declared.Spell.{Spell}
-use Rattle.spell.specs.Listing.{Sound}
+use Rattle.spell.specs.{declared.Spell.Spell, Listing.Sound}
 use Rattle.packing.specs.Words.{spellWords, spellOf}
 use Rattle.packing.proofs.Words.{spell-back, sound-narrow}
 

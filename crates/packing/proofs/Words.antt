@@ -1,20 +1,10 @@
 -- A spell's words read back as the spell. Assumes nothing.
 use Rattle.basis.proofs.Prelude.{_≡_, ap, refl, _+_, _<_, _≤_, ℕ, List, _++_, true, leb, drop, getD, length, length-append, length-drop, set, getD-drop, add-zero, div-add-mod', add-five, add-four, add-one, add-six, add-three, add-two, arith, le-leb, leb-true, lt-leb, both}
-use lib.Ieee.{binary32}
-use lib.Ieee.Bits.{ofBits-toBits}
+use lib.Ieee.{binary32, Bits.ofBits-toBits}
 use mir.Val.{Val}
 use denote.Laws.{Is}
-use Rattle.spell.specs.declared.Urgency.{Urgency}
-use Rattle.spell.specs.declared.Urgency.the-variants.{Grade, Reading}
-use Rattle.spell.specs.declared.Spell.{Spell}
-use Rattle.spell.specs.Entry.{urgencyOk}
-use Rattle.spell.specs.Listing.{HeldUrgency, Sound}
-use Rattle.spell.proofs.Entered.{entered}
-use Rattle.spell.proofs.Urgency.{the-row as urgency-row}
-use Rattle.spell.proofs.Spell.{the-row as spell-row}
-use Rattle.spell.specs.Blank.{blank}
-use Rattle.packing.specs.Words.{kindOf, valueOf, urgencyOf, Narrow, low, high, joined, spellWords, spellOf}
-use Rattle.packing.specs.Blocks.{put}
+use Rattle.spell.{specs.{declared.{Urgency.{Urgency, the-variants.{Grade, Reading}}, Spell.Spell}, Entry.urgencyOk, Listing.{HeldUrgency, Sound}, Blank.blank}, proofs.{Entered.entered, Urgency.the-row as urgency-row, Spell.the-row as spell-row}}
+use Rattle.packing.specs.{Words.{kindOf, valueOf, urgencyOf, Narrow, low, high, joined, spellWords, spellOf}, Blocks.put}
 use Rattle.packing.proofs.Blocks.{put-sets}
 
 pub spell-long : (s : Spell) → length (spellWords s) ≡ 7

@@ -4,26 +4,12 @@ use Rattle.basis.proofs.Prelude.{_∙_, _≡_, ap, refl, sym, ℕ, List, false,
 use Rattle.spell.specs.declared.Spell.{Spell}
 use Rattle.refusal.specs.Table.{accepted}
 use Rattle.register.specs.Text.{readText}
-use Rattle.model.specs.Model.{State, fresh, begun, Request, Answer, run}
-use Rattle.packing.specs.Blocks.{Every}
-use Rattle.packing.specs.Words.{Narrow}
+use Rattle.model.specs.{Model.{State, fresh, begun, Request, Answer, run}, declared.Call.{Call, the-variants.Amend}, Edits.idle}
+use Rattle.packing.specs.{Blocks.Every, Words.Narrow}
 use Rattle.standing.proofs.Claims.{packing-identity}
-use Rattle.model.specs.declared.Call.{Call}
-use Rattle.model.specs.declared.Call.the-variants.{Amend}
-use Rattle.model.specs.Edits.{idle}
-use Rattle.service.specs.declared.Service.{Service}
-use Rattle.service.specs.Places.{serviceOf, readService, leaves}
-use Rattle.service.specs.Packed.{packed, unpacked}
-use Rattle.service.specs.Service.{Blocks, Valid, Represents, Given, Met, Changed, Begins}
-use Rattle.service.proofs.Represented.{represented}
-use Rattle.service.proofs.Asking.{asked-met}
-use Rattle.service.proofs.Beginning.{publishes-met, publishes-refused}
+use Rattle.service.{specs.{declared.Service.Service, Places.{serviceOf, readService, leaves}, Packed.{packed, unpacked}, Service.{Blocks, Valid, Represents, Given, Met, Changed, Begins}}, proofs.{Represented.represented, Asking.asked-met, Beginning.{publishes-met, publishes-refused}, Claims.{made-run, made-given, idle-left}}}
 use Rattle.service.specs.History as history
-use Rattle.service.proofs.Claims.{made-run, made-given, idle-left}
-use Rattle.phayaklit.specs.declared.Reply.{Reply}
-use Rattle.phayaklit.specs.declared.Opened.{Opened}
-use Rattle.phayaklit.specs.Host.{Laid, steppedOf, startedOf}
-use Rattle.phayaklit.specs.History.{Opens, Called, edited, published, wrote, asked, Hosted, none, then}
+use Rattle.phayaklit.specs.{declared.{Reply.Reply, Opened.Opened}, Host.{Laid, steppedOf, startedOf}, History.{Opens, Called, edited, published, wrote, asked, Hosted, none, then}}
 
 -- PACKING IS THE IDENTITY: the words of a service read back as it. `pack` ensures it of every one that it is given.
 pub packed-back : (sv : Service) → Valid sv → Every (λ s. Narrow (s .urgency)) (sv .standing .spells)

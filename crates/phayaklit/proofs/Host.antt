@@ -1,22 +1,13 @@
 -- A call on the service of a block of words is a call on the block. Assumes nothing.
 use Rattle.basis.proofs.Prelude.{_∙_, _≡_, ap, refl, sym, ℕ, List, cond}
-use Rattle.model.specs.declared.Call.{Call}
-use Rattle.model.specs.Model.{fresh}
+use Rattle.model.specs.{declared.Call.Call, Model.fresh, Publishing.publishedOf}
 use Rattle.standing.specs.Standing.{listOf}
-use Rattle.service.specs.declared.Service.{Service}
-use Rattle.service.specs.declared.Stepped.{Stepped}
-use Rattle.service.specs.Places.{freshService}
-use Rattle.service.specs.Packed.{packed, unpacked, Packs}
+use Rattle.service.{specs.{declared.{Service.Service, Stepped.Stepped}, Places.freshService, Packed.{packed, unpacked, Packs}, Service.{Blocks, Valid, Represents, Changes, Publishes}}, proofs.Editing.changes}
 use Rattle.rules.specs.Rules.{isRule}
-use Rattle.model.specs.Publishing.{publishedOf}
 use Rattle.published_index.specs.Index.{indexOf}
 use Rattle.standing_words.specs.Edits.{EditedIn}
-use Rattle.outcomes.specs.declared.Outcome.{Outcome}
-use Rattle.outcomes.specs.Outcomes.{toldOf}
-use Rattle.service.specs.Service.{Blocks, Valid, Represents, Changes, Publishes}
-use Rattle.service.proofs.Editing.{changes}
-use Rattle.phayaklit.specs.declared.Reply.{Reply}
-use Rattle.phayaklit.specs.Host.{Held, Laid, outcomeOf, steppedOf}
+use Rattle.outcomes.specs.{declared.Outcome.Outcome, Outcomes.toldOf}
+use Rattle.phayaklit.specs.{declared.Reply.Reply, Host.{Held, Laid, outcomeOf, steppedOf}}
 
 -- the service of words that the calls gave is one that they gave
 pub held : (words : List ℕ) (sv : Service) → sv ≡ unpacked words → Held words → Valid sv

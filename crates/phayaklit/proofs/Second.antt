@@ -1,16 +1,11 @@
 -- A second index beside a service: what `phayaklit_fresh_index` ensures is enough for every list of calls with it. Assumes nothing.
 use Rattle.basis.proofs.Prelude.{_≡_, refl, ℕ, List, []}
-use Rattle.model.specs.Model.{State, withStanding, fresh, Request, Answer, run}
+use Rattle.model.{specs.Model.{State, withStanding, fresh, Request, Answer, run}, proofs.Edits.orderly-none}
 use Rattle.standing.specs.Standing.{listOf, pasts}
-use Rattle.spell.specs.Listing.{Sound}
-use Rattle.spell.proofs.Order.{answer-order}
-use Rattle.model.proofs.Edits.{orderly-none}
-use Rattle.service.specs.Packed.{unpacked}
+use Rattle.spell.{specs.Listing.Sound, proofs.Order.answer-order}
+use Rattle.service.{specs.{Packed.unpacked, Service.{Blocks, Represents}}, proofs.Claims.made-run}
 use Rattle.published_index.specs.Index.{indexOf}
-use Rattle.service.specs.Service.{Blocks, Represents}
-use Rattle.service.proofs.Claims.{made-run}
-use Rattle.phayaklit.specs.Host.{Held}
-use Rattle.phayaklit.specs.History.{Hosted}
+use Rattle.phayaklit.specs.{Host.Held, History.Hosted}
 use Rattle.phayaklit.proofs.Claims.{hosted-made}
 
 -- the state of a service with an index of nobody: its standing list and its past are its own

@@ -4,19 +4,11 @@ use Rattle.basis.proofs.Prelude.{_≡_, refl, ℕ, List, []}
 use contract.Lifetimes.{Lfts}
 use denote.Ref.{RefT, now}
 use Rattle.register.specs.Text.{readText}
-use Rattle.model.specs.declared.Call.the-variants.{Enter, Amend, Strike, TakeBack, Publish, Write, Ask}
-use Rattle.model.specs.declared.Question.the-variants.{Day, Span, Cover, Days, Mask}
-use Rattle.model.specs.Model.{fresh, begun}
-use Rattle.service.specs.Places.{freshService}
-use Rattle.service.specs.Packed.{packed, unpacked}
+use Rattle.model.specs.{declared.{Call.the-variants.{Enter, Amend, Strike, TakeBack, Publish, Write, Ask}, Question.the-variants.{Day, Span, Cover, Days, Mask}}, Model.{fresh, begun}}
+use Rattle.service.specs.{Places.freshService, Packed.{packed, unpacked}, Service.{Blocks, blocks, Represents, Begins}}
 use Rattle.outcomes.specs.Outcomes.{asking}
 use Rattle.published_index.specs.Index.{indexOf, Published}
-use Rattle.service.specs.Service.{Blocks, blocks, Represents, Begins}
-use Rattle.phayaklit.specs.declared.Entry.{Entry}
-use Rattle.phayaklit.specs.declared.Reply.{Reply}
-use Rattle.phayaklit.specs.declared.Opened.{Opened}
-use Rattle.phayaklit.specs.Host.{version, Held, Laid, spellIn, startedOf}
-use Rattle.phayaklit.specs.History.{Opens, Called, edited, published, wrote, asked}
+use Rattle.phayaklit.specs.{declared.{Entry.Entry, Reply.Reply, Opened.Opened}, Host.{version, Held, Laid, spellIn, startedOf}, History.{Opens, Called, edited, published, wrote, asked}}
 use Rattle.phayaklit.proofs.phayaklit_fresh.Reads as fresh-reads
 use Rattle.phayaklit.proofs.phayaklit_read.Reads as read-reads
 use Rattle.phayaklit.proofs.phayaklit_enter.Reads as enter-reads

@@ -1,9 +1,7 @@
 -- Worked examples: the number that a call is about, and the depth of a journal. Assumes nothing.
 use Rattle.basis.proofs.Prelude.{_≡_, refl, ℕ, List, [], _∷_, map, false, true}
-use Rattle.spell.specs.declared.Spell.{Spell}
-use Rattle.spell.specs.declared.Urgency.the-variants.{Grade}
-use Rattle.model.specs.declared.Call.{Call}
-use Rattle.model.specs.declared.Call.the-variants.{Enter, Amend, Strike, TakeBack, Publish, Write}
+use Rattle.spell.specs.declared.{Spell.Spell, Urgency.the-variants.Grade}
+use Rattle.model.specs.declared.Call.{Call, the-variants.{Enter, Amend, Strike, TakeBack, Publish, Write}}
 use Rattle.plans.specs.Plans.{numberOf, deeperBy}
 
 abbrev spell : ℕ → Spell

@@ -1,12 +1,9 @@
 -- The order of the checks: what an entry and an amend are planned by is the refusal of the account. Assumes nothing.
 use Rattle.basis.proofs.Prelude.{_∙_, _≡_, ap, refl, sym, _<_, _≤_, ℕ, List, Bool, cond, false, true, leb, ltb, length, le-leb, lt-leb, ltb-false, ltb-true, by-test}
 use Rattle.refusal.specs.Table.{accepted, duplicateNumber, unknownNumber, full}
-use Rattle.spell.specs.declared.Spell.{Spell}
-use Rattle.spell.specs.Entry.{refusalOf}
-use Rattle.spell.specs.Listing.{stands}
+use Rattle.spell.specs.{declared.Spell.Spell, Entry.refusalOf, Listing.stands}
 use Rattle.model.specs.Edits.{orElse, enterRefusal, amendRefusal}
-use Rattle.spell_places.specs.Search.{standsAt}
-use Rattle.spell_places.proofs.Found.{stands-index}
+use Rattle.spell_places.{specs.Search.standsAt, proofs.Found.stands-index}
 use Rattle.plans.specs.Plans.{enterCheck, amendCheck}
 
 -- ---- A number is looked for in the list l of n spells: p is where it stands, or n

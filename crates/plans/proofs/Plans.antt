@@ -1,21 +1,11 @@
 -- A plan is what the account says of its call, on the list l of n spells where its number stands at p. Assumes nothing.
 use Rattle.basis.proofs.Prelude.{_∙_, _≡_, ap, refl, sym, _+_, _-_, _<_, _≤_, suc, ℕ, List, _∷_, Bool, cond, false, true, leb, drop, getD, length, length-append, length-drop, length-take, take, arith, eq-eqb, le-leb, leb-false, leb-true, lt-leb, ne-eqb, by-cases}
 use Rattle.refusal.specs.Table.{accepted, unknownNumber, noHistory}
-use Rattle.spell.specs.declared.Spell.{Spell}
-use Rattle.spell.specs.Blank.{blank}
-use Rattle.spell.specs.Listing.{stands}
-use Rattle.spell.specs.Same.{sameOf}
-use Rattle.model.specs.Edits.{insert, remove, replace, idle, enterRefusal, amendRefusal}
-use Rattle.model.proofs.Checks.{enters, amends}
-use Rattle.spell_places.specs.Search.{standsAt}
-use Rattle.spell_places.specs.List.{putting, without}
-use Rattle.spell_places.proofs.Found.{idle-index}
-use Rattle.spell_places.proofs.Changing.{put-in, removed-is, without-none}
-use Rattle.journal.specs.declared.Undo.{Undo}
-use Rattle.journal.specs.Journal.{noted}
-use Rattle.journal.specs.Past.{undo, entering, replacing}
-use Rattle.plans.specs.declared.Plan.{Plan}
-use Rattle.plans.specs.Plans.{noPlan, enterCheck, planEnter, amendCheck, planAmend, planStrike, planBack, deeperBy}
+use Rattle.spell.specs.{declared.Spell.Spell, Blank.blank, Listing.stands, Same.sameOf}
+use Rattle.model.{specs.Edits.{insert, remove, replace, idle, enterRefusal, amendRefusal}, proofs.Checks.{enters, amends}}
+use Rattle.spell_places.{specs.{Search.standsAt, List.{putting, without}}, proofs.{Found.idle-index, Changing.{put-in, removed-is, without-none}}}
+use Rattle.journal.specs.{declared.Undo.Undo, Journal.noted, Past.{undo, entering, replacing}}
+use Rattle.plans.specs.{declared.Plan.Plan, Plans.{noPlan, enterCheck, planEnter, amendCheck, planAmend, planStrike, planBack, deeperBy}}
 use Rattle.plans.proofs.Checks.{place-in, place-out, enter-refusal, amend-refusal}
 
 -- a plan by which no check refuses, the list l becomes l′, and the entry e is noted in a journal of the depth d

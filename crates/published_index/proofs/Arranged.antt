@@ -1,20 +1,9 @@
 -- Rows that hold the fields of spells, put in the order, are the rows of the sorted list. Assumes nothing.
 use Rattle.basis.proofs.Prelude.{_∙_, _≡_, ap, sym, _<_, zero, suc, ℕ, List, [], _∷_, map, cond, false, true, eqb, ltb, getD, getD-take, zero-add, length, take, take-all, decLe, arith, eqb-true, le-ltb, by-test}
-use Rattle.columns.specs.Columns.{positions}
-use Rattle.columns.proofs.Filling.{positions-at, positions-length, positions-below, reads}
-use Rattle.orders.specs.Orders.{lexical, sortedBy}
-use Rattle.orders.proofs.Each.{Each, map-same, map-map, map-at}
-use Rattle.orders.proofs.Sorting.{each-sorted, sorted-map, sorted-same}
-use Rattle.row_order.specs.Arranged.{byMinor, byBoth, arranged}
-use Rattle.row_order.proofs.Orders.{by-major, by-place}
-use Rattle.row_order.proofs.Keys.{key-decides}
-use Rattle.row_order.specs.Rows.{rowKey, keyAt, rowKeys, rowOrder, arrangedColumn}
-use Rattle.spell.specs.declared.Spell.{Spell}
-use Rattle.spell.specs.Blank.{blank}
-use Rattle.spell.specs.Order.{listedBefore}
-use Rattle.spell.specs.Listing.{distinct, Sound}
-use Rattle.spell.specs.Listing.{Each as Every}
-use Rattle.spell.proofs.Entered.{entered}
+use Rattle.columns.{specs.Columns.positions, proofs.Filling.{positions-at, positions-length, positions-below, reads}}
+use Rattle.orders.{specs.Orders.{lexical, sortedBy}, proofs.{Each.{Each, map-same, map-map, map-at}, Sorting.{each-sorted, sorted-map, sorted-same}}}
+use Rattle.row_order.{specs.{Arranged.{byMinor, byBoth, arranged}, Rows.{rowKey, keyAt, rowKeys, rowOrder, arrangedColumn}}, proofs.{Orders.{by-major, by-place}, Keys.key-decides}}
+use Rattle.spell.{specs.{declared.Spell.Spell, Blank.blank, Order.listedBefore, Listing.{distinct, Sound, Each as Every}}, proofs.Entered.entered}
 use Rattle.published_index.proofs.Numbers.{differ}
 
 -- a spell of the list, by position

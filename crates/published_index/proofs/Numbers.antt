@@ -1,10 +1,7 @@
 -- Each number of a list with unique numbers leads to its own row. Assumes nothing.
 use Rattle.basis.proofs.Prelude.{_∙_, _≡_, refl, sym, _<_, suc, zero, ℕ, List, [], _∷_, map, not, true, eqb, List·getD-map, getD, length, length-map, arith, eq-eqb, not-true, both, clash}
-use Rattle.spell.specs.declared.Spell.{Spell}
-use Rattle.spell.specs.Blank.{blank}
-use Rattle.spell.specs.Listing.{stands, distinct}
-use Rattle.stabbing.specs.Index.{named}
-use Rattle.stabbing.proofs.Marks.{below-own}
+use Rattle.spell.specs.{declared.Spell.Spell, Blank.blank, Listing.{stands, distinct}}
+use Rattle.stabbing.{specs.Index.named, proofs.Marks.below-own}
 use Rattle.model.specs.Questions.{firstsOf, lastsOf}
 use Rattle.published_index.proofs.Rows.{or-true}
 

@@ -1,10 +1,6 @@
 -- The columns of a list in the order of the answers can be published. Assumes nothing.
 use Rattle.basis.proofs.Prelude.{_≡_, refl, _<_, _≤_, ℕ, List, [], _∷_, Bool, _||_, false, true, _⊎_, inl, inr, ltb, eq-eqb, le-leb, lt-ltb, both}
-use Rattle.spell.specs.declared.Spell.{Spell}
-use Rattle.spell.specs.Order.{listedBefore, orderedBy}
-use Rattle.spell.specs.Listing.{Each, Sound, OrderlyBy}
-use Rattle.spell.proofs.Entered.{entered}
-use Rattle.spell.proofs.Order.{listed-days}
+use Rattle.spell.{specs.{declared.Spell.Spell, Order.{listedBefore, orderedBy}, Listing.{Each, Sound, OrderlyBy}}, proofs.{Entered.entered, Order.listed-days}}
 use Rattle.stabbing.specs.Index.{rowOk, mayFollow, rowsAfter, rowsOk}
 use Rattle.model.specs.Questions.{firstsOf, lastsOf}
 

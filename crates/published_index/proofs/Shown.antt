@@ -5,8 +5,7 @@ use Rattle.stabbing.specs.Index.{numbers, firsts, lasts, Built}
 use Rattle.stabbing.proofs.Block as block
 use Rattle.model.specs.Questions.{firstsOf, lastsOf}
 use Rattle.published_index.specs.Index.{Shows, Published}
-use Rattle.published_index.proofs.Numbers.{numbersOf, own}
-use Rattle.published_index.proofs.Rows.{rows-ok}
+use Rattle.published_index.proofs.{Numbers.{numbersOf, own}, Rows.rows-ok}
 
 module _ {ix : List ℕ} {p : List Spell} (s : Shows ix p) where
   same : length (numbersOf p) ≡ length (firstsOf p)

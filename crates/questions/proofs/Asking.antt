@@ -1,23 +1,11 @@
 -- What the proofs of the questions share: from what the rows tell to the account's answer and a question's postcondition. Assumes nothing.
 use Rattle.basis.proofs.Prelude.{_∙_, _≡_, subst, sym, ℕ, List, map, Bool, true, getD, length, length-map}
-use Rattle.spell.specs.declared.Spell.{Spell}
-use Rattle.spell.specs.Listing.{distinct}
-use Rattle.stabbing.specs.declared.Listed.{Listed}
-use Rattle.stabbing.specs.Tree.{keep, fitsAt, start, formula}
-use Rattle.stabbing.specs.Index.{numbers, firsts, lasts}
+use Rattle.spell.specs.{declared.Spell.Spell, Listing.distinct}
+use Rattle.stabbing.specs.{declared.Listed.Listed, Tree.{keep, fitsAt, start, formula}, Index.{numbers, firsts, lasts}, Answer.{Gave, give, question}}
 use Rattle.stabbing.specs.Answer as rows
-use Rattle.stabbing.specs.Answer.{Gave, give, question}
-use Rattle.model.specs.declared.Call.the-variants.{Ask}
-use Rattle.model.specs.declared.Question.{Question}
-use Rattle.model.specs.Questions.{reaches, listed, firstsOf, lastsOf, comparisonsOf}
-use Rattle.model.specs.Effects.{State, Request, gives, settle}
-use Rattle.model.specs.Model.{reaching, ask, effectOf}
-use Rattle.model.proofs.Bridge.{Agree, rows-kept, fits-agree}
-use Rattle.outcomes.specs.declared.Outcome.{Outcome}
-use Rattle.outcomes.specs.Outcomes.{foundOf, asking}
-use Rattle.outcomes.proofs.Answers.{told, give-told}
-use Rattle.published_index.proofs.Numbers.{numbersOf}
-use Rattle.published_index.proofs.Shown.{shows-numbers, shows-firsts, shows-lasts}
+use Rattle.model.{specs.{declared.{Call.the-variants.Ask, Question.Question}, Questions.{reaches, listed, firstsOf, lastsOf, comparisonsOf}, Effects.{State, Request, gives, settle}, Model.{reaching, ask, effectOf}}, proofs.Bridge.{Agree, rows-kept, fits-agree}}
+use Rattle.outcomes.{specs.{declared.Outcome.Outcome, Outcomes.{foundOf, asking}}, proofs.Answers.{told, give-told}}
+use Rattle.published_index.proofs.{Numbers.numbersOf, Shown.{shows-numbers, shows-firsts, shows-lasts}}
 use Rattle.questions.specs.Asked.{Asked}
 
 -- a question that is known to be another is answered as that one

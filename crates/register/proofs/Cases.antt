@@ -1,11 +1,7 @@
 -- Document 01's Register A, read and written, and single refusals. Assumes nothing.
 use Rattle.basis.proofs.Prelude.{_≡_, refl, ℕ, List, [], _∷_}
 use lib.Ieee.{binary32, isNan, ofBits, toBits}
-use Rattle.spell.specs.declared.Urgency.{Urgency}
-use Rattle.spell.specs.declared.Urgency.the-variants.{Grade, Reading}
-use Rattle.spell.specs.declared.Spell.{Spell}
-use Rattle.spell.specs.Order.{earlierOf}
-use Rattle.spell.specs.Listing.{stands}
+use Rattle.spell.specs.{declared.{Urgency.{Urgency, the-variants.{Grade, Reading}}, Spell.Spell}, Order.earlierOf, Listing.stands}
 use Rattle.fields.specs.Fields.{digitsOf, decimalOf, hexDigit, hexOf, passed, readDigits, readDecimal, hexValue, readHex}
 use Rattle.register.specs.Text.{lineText, textOnto, writeAll, readLetter, readValue, readUrgency, readLine, follows, lineRefusal, good, bad, lineAnswer, nextLine, readLines, readText}
 

@@ -1,12 +1,9 @@
 -- What the register text is for: the round trip of reading and writing, and the length of a text. Assumes nothing.
 use Rattle.basis.proofs.Prelude.{_≡_, _≤_, ℕ, List, length}
-use Rattle.spell.specs.declared.Spell.{Spell}
-use Rattle.spell.specs.Entry.{refusalOf}
-use Rattle.spell.specs.Listing.{Sound, Good}
+use Rattle.spell.specs.{declared.Spell.Spell, Entry.refusalOf, Listing.{Sound, Good}}
 use Rattle.fields.specs.Fields.{found}
 use Rattle.register.specs.Text.{readLine, lineText, writeAll, readText, good}
-use Rattle.register.proofs.Lines.{read-line, write-line}
-use Rattle.register.proofs.Texts.{read-written, written-read, written-width}
+use Rattle.register.proofs.{Lines.{read-line, write-line}, Texts.{read-written, written-read, written-width}}
 
 -- every good list is read back from its text
 pub list-again : (l : List Spell) → Good l → readText (writeAll l) ≡ good l

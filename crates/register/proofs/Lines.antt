@@ -1,16 +1,9 @@
 -- A line is read as it was written, and what is read is what is written. Assumes nothing.
 use Rattle.basis.proofs.Prelude.{_∙_, _≡_, ap, refl, subst, sym, _<_, _≤_, ℕ, List, [], _∷_, false, not, true, inl, inr, eqb, leb, arith, eqb-true, leb-true, both, by-test, clash}
-use lib.Ieee.{Float, binary32, isNan, toBits, ofBits}
-use lib.Ieee.Bits.{ofBits-toBits, toBits-ofBits, ofBits-fits}
-use Rattle.spell.specs.declared.Urgency.{Urgency}
-use Rattle.spell.specs.declared.Urgency.the-variants.{Grade, Reading}
-use Rattle.spell.specs.declared.Spell.{Spell}
-use Rattle.spell.specs.Entry.{refusalOf, urgencyOk}
-use Rattle.spell.proofs.Entered.{entered}
-use Rattle.spell.specs.Listing.{HeldUrgency, Sound}
-use Rattle.fields.specs.Fields.{Found, found, unreadable, onward, passed, readNumber, readBits, decimalOf}
+use lib.Ieee.{Float, binary32, isNan, toBits, ofBits, Bits.{ofBits-toBits, toBits-ofBits, ofBits-fits}}
+use Rattle.spell.{specs.{declared.{Urgency.{Urgency, the-variants.{Grade, Reading}}, Spell.Spell}, Entry.{refusalOf, urgencyOk}, Listing.{HeldUrgency, Sound}}, proofs.Entered.entered}
+use Rattle.fields.{specs.Fields.{Found, found, unreadable, onward, passed, readNumber, readBits, decimalOf}, proofs.Bytes.{which, never, ended-back}}
 use Rattle.register.specs.Text.{readLetter, readValue, readUrgency, readLine, urgencyText, lineText}
-use Rattle.fields.proofs.Bytes.{which, never, ended-back}
 use Rattle.decimals.proofs.Decimals.{read-number, write-number}
 use Rattle.hex.proofs.Hex.{read-bits, write-bits}
 

@@ -1,7 +1,6 @@
 -- A list in order, and one spell more at its end. Assumes nothing.
 use Rattle.basis.proofs.Prelude.{_≡_, refl, List, [], _++_, _∷_, true, both}
-use Rattle.spell.specs.declared.Spell.{Spell}
-use Rattle.spell.specs.Order.{earlierOf, ordered, orderedBy}
+use Rattle.spell.specs.{declared.Spell.Spell, Order.{earlierOf, ordered, orderedBy}}
 use Rattle.register.specs.Text.{follows}
 
 pub ordered-follows : (l : List Spell) (x : Spell) (m : List Spell) → ordered (l ++ x ∷ m) ≡ true → follows l x ≡ true

@@ -1,17 +1,9 @@
 -- A text is read as it was written, and what is read is what is written. Assumes nothing.
 use Rattle.basis.proofs.Prelude.{_∙_, _≡_, ap, refl, subst, sym, _+_, _<_, _≤_, suc, zero, ℕ, List, [], _++_, _∷_, append-nil, Bool, cond, false, false≢true, true, eqb, leb, length, append-snoc, arith, eq-eqb, eqb-true, le-leb, by-test}
-use Rattle.spell.specs.declared.Spell.{Spell}
-use Rattle.spell.specs.Entry.{refusalOf}
-use Rattle.spell.proofs.Entered.{past}
-use Rattle.spell.specs.Order.{ordered, orderedBy}
-use Rattle.spell.specs.Listing.{stands, distinct, Each, Sound, Good}
-use Rattle.spell.proofs.Listing.{distinct-fresh, distinct-more}
-use Rattle.fields.specs.Fields.{Found, found, unreadable, readDecimal}
+use Rattle.spell.{specs.{declared.Spell.Spell, Entry.refusalOf, Order.{ordered, orderedBy}, Listing.{stands, distinct, Each, Sound, Good}}, proofs.{Entered.past, Listing.{distinct-fresh, distinct-more}}}
+use Rattle.fields.{specs.Fields.{Found, found, unreadable, readDecimal}, proofs.Bytes.never}
 use Rattle.register.specs.Text.{readLine, lineText, textOnto, writeAll, follows, lineRefusal, Register, good, bad, lineAnswer, nextLine, readLines, readText}
-use Rattle.fields.proofs.Bytes.{never}
-use Rattle.register.proofs.Lines.{read-line, write-line}
-use Rattle.register.proofs.Ordered.{ordered-follows, ordered-more}
-use Rattle.register.proofs.Widths.{sound-width}
+use Rattle.register.proofs.{Lines.{read-line, write-line}, Ordered.{ordered-follows, ordered-more}, Widths.sound-width}
 
 -- ---- what the lines give, by what comes next
 -- after a line that passes, where `room` more may stand

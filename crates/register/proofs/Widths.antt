@@ -1,15 +1,8 @@
 -- How long a written text is. Assumes nothing.
 use Rattle.basis.proofs.Prelude.{_≡_, _*_, _+_, _≤_, ℕ, List, [], _∷_, length, suc-mul, arith}
 use lib.Ieee.{binary32, toBits}
-use Rattle.spell.specs.declared.Urgency.{Urgency}
-use Rattle.spell.specs.declared.Urgency.the-variants.{Grade, Reading}
-use Rattle.spell.specs.declared.Spell.{Spell}
-use Rattle.spell.specs.Entry.{refusalOf}
-use Rattle.spell.specs.Listing.{Each, Sound}
-use Rattle.spell.proofs.Entered.{entered}
-use Rattle.spell.proofs.Order.{each-map}
-use Rattle.fields.specs.Fields.{decimalOf}
-use Rattle.fields.proofs.Widths.{decimal-width, short-width, hex-width}
+use Rattle.spell.{specs.{declared.{Urgency.{Urgency, the-variants.{Grade, Reading}}, Spell.Spell}, Entry.refusalOf, Listing.{Each, Sound}}, proofs.{Entered.entered, Order.each-map}}
+use Rattle.fields.{specs.Fields.decimalOf, proofs.Widths.{decimal-width, short-width, hex-width}}
 use Rattle.register.specs.Text.{urgencyText, lineText, textOnto}
 
 -- a line takes at most w bytes

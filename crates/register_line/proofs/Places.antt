@@ -1,16 +1,9 @@
 -- The letter at a place of a text, and the next place of a value. Assumes nothing.
 use Rattle.basis.proofs.Prelude.{_∙_, _≡_, ap, refl, sym, _+_, _<_, _≤_, ℕ, List, false, true, drop, getD, length}
-use Rattle.fields.specs.Fields.{Found, found, unreadable, passed}
-use Rattle.fields.specs.Answers.{placeOf, Reads}
-use Rattle.fields.proofs.Places.{here, past-end, reads-as, said}
-use Rattle.spell.specs.declared.Urgency.{Urgency}
-use Rattle.spell.specs.declared.Spell.{Spell}
-use Rattle.register_line.specs.declared.Kind.{Kind}
-use Rattle.register_line.specs.declared.Kind.the-variants.{Value}
-use Rattle.register.specs.declared.Line.the-variants.{Value as LineValue}
-use Rattle.register.specs.Answers.{lineAt, lineOf}
-use Rattle.register_line.specs.Contracts.{kindAt, kindOf}
-use Rattle.register.specs.Text.{isLetter, readLetter}
+use Rattle.fields.{specs.{Fields.{Found, found, unreadable, passed}, Answers.{placeOf, Reads}}, proofs.Places.{here, past-end, reads-as, said}}
+use Rattle.spell.specs.declared.{Urgency.Urgency, Spell.Spell}
+use Rattle.register_line.specs.{declared.Kind.{Kind, the-variants.Value}, Contracts.{kindAt, kindOf}}
+use Rattle.register.specs.{declared.Line.the-variants.Value as LineValue, Answers.{lineAt, lineOf}, Text.{isLetter, readLetter}}
 
 module _ (s : List ℕ) (i : ℕ) where
   pub letter-past : length s ≤ i → readLetter (drop i s) ≡ unreadable

@@ -1,19 +1,8 @@
 -- The state of a reading after some lines, one line more, and the answer at each way out. Assumes nothing.
 use Rattle.basis.proofs.Prelude.{_∙_, _≡_, ap, refl, sym, _+_, _-_, _<_, _≤_, suc, ℕ, List, [], _++_, _∷_, Bool, _||_, false, true, inl, inr, eqb, drop, drop-of-length-le, getD, length, length-drop, length-replicate, length-set, replicate, set, take, take-append-drop, drop-drop, drop-set-lt, getD-set-other, getD-set-same, length-take-le, take-suc-set, add-one, arith, eqb-false, eqb-true, le-leb, lt-leb, lt-ltb, ne-eqb}
-use Rattle.spell.specs.declared.Spell.{Spell}
-use Rattle.spell.specs.Entry.{refusalOf}
-use Rattle.spell.specs.Order.{earlierOf}
-use Rattle.spell.proofs.Entered.{entered}
-use Rattle.register.specs.declared.Reading.{Reading}
-use Rattle.spell.specs.Listing.{stands}
-use Rattle.spell.proofs.Listing.{stands-more}
-use Rattle.fields.specs.Fields.{found, unreadable}
-use Rattle.register.specs.Text.{readLine, follows, lineRefusal, good, bad, readLines, readText}
-use Rattle.spell.specs.Blank.{blank}
-use Rattle.register.specs.Answers.{readingOf}
-use Rattle.fields.proofs.Bytes.{which}
-use Rattle.register.proofs.Ordered.{follows-more}
-use Rattle.register.proofs.Texts.{not-refused, lines-end, lines-malformed, lines-refused, lines-full, lines-on}
+use Rattle.spell.{specs.{declared.Spell.Spell, Entry.refusalOf, Order.earlierOf, Listing.stands, Blank.blank}, proofs.{Entered.entered, Listing.stands-more}}
+use Rattle.register.{specs.{declared.Reading.Reading, Text.{readLine, follows, lineRefusal, good, bad, readLines, readText}, Answers.readingOf}, proofs.{Ordered.follows-more, Texts.{not-refused, lines-end, lines-malformed, lines-refused, lines-full, lines-on}}}
+use Rattle.fields.{specs.Fields.{found, unreadable}, proofs.Bytes.which}
 
 pub record State (text : List ℕ) (spells : List Spell) (seen : List Bool) (before : Spell) (count at : ℕ) : Type 0 where
   pub few : count ≤ 1024

@@ -4,7 +4,7 @@ use Rattle.buffer.specs.Buffer.{over}
 use Rattle.orders.{specs.Orders.sortedBy, proofs.Sorting.sorted-length}
 use Rattle.spell.{specs.declared.Spell.Spell, specs.Blank.blank, specs.Order.earlierOf}
 use Rattle.register.{specs.declared.Written.Written, specs.Text.writeAll, specs.Answers.Writes}
-use Rattle.repairing.{specs.declared.Repaired.Repaired, specs.Repair.{linesOf, verdictsAfter, keptOf, putOf, repairedText, remarksFrom, placesOf, remarksOf, displacedIn}, specs.Answers.{fitting, repairRefusal, repairRefused, Repairs}, proofs.Remarks.{each-line, lines-few, verdicts-length, places-length, put-sized}}
+use Rattle.repairing.{specs.declared.Repaired.Repaired, specs.{Repair.{linesOf, verdictsAfter, keptOf, putOf, repairedText, remarksFrom, placesOf, remarksOf, displacedIn}, Answers.{fitting, repairRefusal, repairRefused, Repairs}}, proofs.Remarks.{each-line, lines-few, verdicts-length, places-length, put-sized}}
 use Rattle.register_sift.{specs.declared.Sifted.Sifted, specs.Sifting.Sifts}
 
 -- ---- What a refusal leaves, and what is given

@@ -1,14 +1,9 @@
 -- A list's text, put into the scratch list line by line from the last spell to the first, and copied out. Assumes nothing.
 use Rattle.basis.proofs.Prelude.{_∙_, _≡_, ap, sym, _*_, _+_, _-_, _<_, _≤_, min, suc, ℕ, List, [], _++_, _∷_, drop, drop-of-length-le, getD, length, length-append, length-drop, length-take, take, drop-cons, drop-length, take-all, min-le-right, arith, le-leb, lt-leb}
-use Rattle.fields.proofs.Puts.{Put, byte-put, number-put}
-use Rattle.fields.specs.Fields.{byteText, numberText}
-use Rattle.fields.specs.Answers.{Puts}
-use Rattle.spell.specs.declared.Spell.{Spell}
-use Rattle.register.specs.Text.{lineText, textOnto}
-use Rattle.spell.specs.Blank.{blank}
-use Rattle.register.specs.Answers.{Writes}
+use Rattle.fields.{proofs.Puts.{Put, byte-put, number-put}, specs.{Fields.{byteText, numberText}, Answers.Puts}}
+use Rattle.spell.specs.{declared.Spell.Spell, Blank.blank}
+use Rattle.register.{specs.{Text.{lineText, textOnto}, Answers.Writes}, proofs.Widths.text-width}
 use Rattle.register_write.specs.Contracts.{Room, Ends}
-use Rattle.register.proofs.Widths.{text-width}
 
 -- ---- the scratch list
 pub ends-place : {buf : List ℕ} {r : ℕ} {text : List ℕ} → Ends buf r text → r + length text ≡ 35840

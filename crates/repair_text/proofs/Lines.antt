@@ -1,9 +1,6 @@
 -- A word put into the first places of a buffer, and after it the numbers that end another. Assumes nothing.
 use Rattle.basis.proofs.Prelude.{_∙_, _≡_, ap, sym, _*_, _+_, _<_, _≤_, suc, ℕ, List, [], _++_, _∷_, append-assoc, drop, drop-of-length-le, length, length-append, length-drop, drop-append-add, drop-drop, take-at, arith, le-leb}
-use Rattle.fields.specs.Fields.{wideText}
-use Rattle.fields.specs.Answers.{Puts}
-use Rattle.fields.proofs.Puts.{room-puts, put-place}
-use Rattle.fields.proofs.Widths.{digits-width}
+use Rattle.fields.{specs.{Fields.wideText, Answers.Puts}, proofs.{Puts.{room-puts, put-place}, Widths.digits-width}}
 use Rattle.gathering.specs.Gathering.{Appends, Appended}
 use Rattle.repair_text.specs.Lines.{Says}
 

@@ -5,7 +5,7 @@ use Rattle.model.{specs.declared.Call.Call, specs.Model.{State, fresh, begun, r
 use Rattle.register.specs.Text.{readText}
 use Rattle.packing.specs.Blocks.{written}
 use Rattle.outcomes.specs.Outcomes.{answerOf}
-use Rattle.coding.{specs.declared.Code.Code, specs.declared.Next.the-variants.{Stop, Go}, specs.Coded.{codeWidth, resultWidth, codeAt, nextOf, decodeFrom, decode, told, resultsOf, numbersOf, textsOf}, proofs.Decoding.{Room, next-room, decode-stop, decode-go}}
+use Rattle.coding.{specs.declared.Code.Code, specs.{declared.Next.the-variants.{Stop, Go}, Coded.{codeWidth, resultWidth, codeAt, nextOf, decodeFrom, decode, told, resultsOf, numbersOf, textsOf}}, proofs.Decoding.{Room, next-room, decode-stop, decode-go}}
 use Rattle.replay.specs.Replayed.{tellAt, Holds, Replayed}
 use Rattle.replay.proofs.PutUpTo.{PutUpTo, upto-done, upto-more, put-drop, put-length, part-back, part-length}
 

@@ -2,17 +2,12 @@
 use Rattle.basis.proofs.Prelude.{_≡_, ap, refl, ℕ, List, [], _++_, _∷_, true, eqb, getD, length, replicate, eq-eqb}
 use lib.Ieee.{isNan, toBits, ofBits}
 use Rattle.fields.specs.Fields.{digitsOf, decimalOf}
-use Rattle.spell.specs.Order.{listedBefore, earlierOf}
-use Rattle.spell.specs.Listing.{stands}
+use Rattle.spell.specs.{Order.{listedBefore, earlierOf}, Listing.stands}
 use Rattle.register.specs.Text.{lineText, textOnto}
 use Rattle.stabbing.specs.Tree.{below, keep, count, head, next, parent, child, leftSibling, lastChild, fitsAt, start, onPath, formula}
 use Rattle.orders.specs.Orders.{sortedBy}
 use Rattle.rules.specs.Rules.{lastOf}
-use Rattle.model.specs.Edits.{insertBy, enterRefusal, remember}
-use Rattle.model.specs.Publishing.{publishedOf}
-use Rattle.model.specs.Questions.{filter, comparisonsOf}
-use Rattle.model.specs.Effects.{settle}
-use Rattle.model.specs.Model.{Answer, fresh, takeBack, ask, effectOf, run}
+use Rattle.model.specs.{Edits.{insertBy, enterRefusal, remember}, Publishing.publishedOf, Questions.{filter, comparisonsOf}, Effects.settle, Model.{Answer, fresh, takeBack, ask, effectOf, run}}
 use Rattle.buffer.specs.Buffer.{over}
 use Rattle.packing.specs.Blocks.{written}
 use Rattle.coding.specs.Coded.{codeAt, callOf, nextOf, decodeFrom, decode, resultsOf, numbersOf, textsOf}

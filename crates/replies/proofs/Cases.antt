@@ -2,14 +2,9 @@
 use Rattle.basis.proofs.Prelude.{_≡_, refl, ℕ, List, [], _++_, _∷_, map}
 use Rattle.fields.specs.Fields.{digitsOf, decimalOf, numbersText}
 use Rattle.register.specs.Text.Register.{bad}
-use Rattle.model.specs.declared.Call.the-variants.{Write, Ask}
-use Rattle.model.specs.declared.Question.the-variants.{Days}
-use Rattle.model.specs.Model.{Answer}
+use Rattle.model.specs.{declared.{Call.the-variants.{Write, Ask}, Question.the-variants.Days}, Model.Answer}
 use Rattle.outcomes.specs.declared.Outcome.{Outcome}
-use Rattle.replies.specs.declared.Shape.{Shape}
-use Rattle.replies.specs.declared.Shape.the-variants.{Ok, Text, Listed, Several, Ticked}
-use Rattle.replies.specs.Replies.{okText, refusedWord, listedWord, tickedWord, textWord, dash, refusedText, refusedLine, listedText, dashedText, severalText, tickedText, writtenText, shapeText, callText, readingText}
-use Rattle.replies.specs.Sending.{fitsIn, replyText}
+use Rattle.replies.specs.{declared.Shape.{Shape, the-variants.{Ok, Text, Listed, Several, Ticked}}, Replies.{okText, refusedWord, listedWord, tickedWord, textWord, dash, refusedText, refusedLine, listedText, dashedText, severalText, tickedText, writtenText, shapeText, callText, readingText}, Sending.{fitsIn, replyText}}
 
 -- two numbers with one comparison and six days ticked, and a text of three bytes, each in a longer list
 abbrev answer : Answer

@@ -1,11 +1,8 @@
 -- An outcome that fits its lists is put whole, and of another nothing. Assumes nothing.
 use Rattle.basis.proofs.Prelude.{_≡_, ℕ, List, [], false, length, true, both, le-leb, leb-true}
 use Rattle.model.specs.declared.Call.{Call}
-use Rattle.outcomes.specs.declared.Outcome.{Outcome}
-use Rattle.outcomes.specs.Outcomes.{answerOf}
-use Rattle.replies.specs.Replies.{callText}
-use Rattle.replies.specs.Sending.{Sends, fitsIn, replyText}
-use Rattle.replies.specs.Fitting.{Fits}
+use Rattle.outcomes.specs.{declared.Outcome.Outcome, Outcomes.answerOf}
+use Rattle.replies.specs.{Replies.callText, Sending.{Sends, fitsIn, replyText}, Fitting.Fits}
 
 module _ {o : Outcome} {ns ts : List ℕ} where
   fitting : Fits (answerOf o ns ts) → fitsIn o (length ns) (length ts) ≡ true

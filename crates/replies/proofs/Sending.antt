@@ -1,12 +1,8 @@
 -- An answer put into a list from its end to its front, field by field. Assumes nothing.
 use Rattle.basis.proofs.Prelude.{_∙_, _≡_, refl, sym, _*_, _+_, _-_, _≤_, ℕ, List, [], _++_, _∷_, append-nil, drop, drop-of-length-le, length, length-append, length-drop, length-take, take, take-append-drop, drop-at, take-at, length-take-le, take-all, min-le-left, arith, le-leb}
 use borrow.Rule.Slice.PartMut.{putMid, midOf, post-is}
-use Rattle.fields.specs.Fields.{byteText, numberText, numbersText}
-use Rattle.fields.specs.Answers.{Puts}
-use Rattle.fields.proofs.Puts.{Put, put-on, put-place, byte-put, number-put, room-puts}
-use Rattle.fields.proofs.Widths.{decimal-wide, numbers-width, numbers-wide}
-use Rattle.replies.specs.Replies.{bytesText}
-use Rattle.replies.specs.Sending.{Sends}
+use Rattle.fields.{specs.{Fields.{byteText, numberText, numbersText}, Answers.Puts}, proofs.{Puts.{Put, put-on, put-place, byte-put, number-put, room-puts}, Widths.{decimal-wide, numbers-width, numbers-wide}}}
+use Rattle.replies.specs.{Replies.bytesText, Sending.Sends}
 
 -- nothing is put yet at a list's end
 pub put-end : (l : List ℕ) (n : ℕ) → length l ≡ n → Put l l n []

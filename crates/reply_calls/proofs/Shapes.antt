@@ -1,11 +1,8 @@
 -- The bytes of an outcome, by the shape of its answer. Assumes nothing.
 use Rattle.basis.proofs.Prelude.{_∙_, _≡_, sym, ℕ, List, eq-eqb, ne-eqb}
 use Rattle.model.specs.declared.Call.{Call}
-use Rattle.outcomes.specs.declared.Outcome.{Outcome}
-use Rattle.outcomes.specs.Outcomes.{answerOf}
-use Rattle.replies.specs.declared.Shape.{Shape}
-use Rattle.replies.specs.Replies.{refusedText, shapeOf, shapeText, callText}
-use Rattle.replies.specs.Sending.{Sends}
+use Rattle.outcomes.specs.{declared.Outcome.Outcome, Outcomes.answerOf}
+use Rattle.replies.specs.{declared.Shape.Shape, Replies.{refusedText, shapeOf, shapeText, callText}, Sending.Sends}
 
 module _ (call : Call) (o : Outcome) (ns ts : List ℕ) {out exit : List ℕ} {r : ℕ} where
   pub sends-refused : (o .refusal ≡ 0 → ⊥) → Sends (refusedText (o .refusal)) out r exit → Sends (callText call (answerOf o ns ts)) out r exit

@@ -1,8 +1,6 @@
 -- What fields ask, as the program finds it: where a field can't be read, and where the line ends after it or does not. Assumes nothing.
 use Rattle.basis.proofs.Prelude.{_∙_, _≡_, refl, _<_, _≤_, ℕ, List, [], _∷_, drop, length}
-use Rattle.requests.proofs.Names.{Found, found, unreadable, here, past-end, Demand, asking, ended, requestOf, ifEnded}
-use Rattle.requests.specs.declared.Request.the-variants.{Malformed}
-use Rattle.requests.specs.declared.Request.{Request}
+use Rattle.requests.{proofs.Names.{Found, found, unreadable, here, past-end, Demand, asking, ended, requestOf, ifEnded}, specs.declared.Request.{the-variants.Malformed, Request}}
 
 -- ---- what comes after the place i
 module _ (q : Request) (s : List ℕ) (i : ℕ) where

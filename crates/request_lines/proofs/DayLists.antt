@@ -1,8 +1,6 @@
 -- The days of a line, read one after another into their places. Assumes nothing.
 use Rattle.basis.proofs.Prelude.{_∙_, _≡_, ap, refl, sym, _+_, _-_, _<_, _≤_, suc, ℕ, List, [], _++_, _∷_, append-assoc, append-nil, false, drop, drop-of-length-le, length, length-append, length-set, set, take, take-append-drop, drop-drop, drop-set-lt, length-take-le, set-split, take-all, take-suc-set, add-one, arith}
-use Rattle.requests.proofs.Names.{Found, found, unreadable, readNumber, Ask, DayList, lastDay, readDays, over}
-use Rattle.requests.specs.declared.Request.the-variants.{Call as RequestCall, Malformed as RequestMalformed}
-use Rattle.requests.specs.declared.Request.{Request}
+use Rattle.requests.{proofs.Names.{Found, found, unreadable, readNumber, Ask, DayList, lastDay, readDays, over}, specs.declared.Request.{the-variants.{Call as RequestCall, Malformed as RequestMalformed}, Request}}
 use Rattle.request_lines.specs.Contracts.{after, ReadsDays}
 use Rattle.model.specs.declared.Question.the-variants.{Days}
 

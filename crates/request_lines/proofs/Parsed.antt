@@ -1,12 +1,7 @@
 -- A whole line, by the layout of its fields. Assumes nothing.
 use Rattle.basis.proofs.Prelude.{_≡_, refl, _<_, _≤_, ℕ, List, [], drop, length, le-leb, lt-leb}
-use Rattle.requests.proofs.Names.{table, headOf, readDays, askedBy, daysBy, askedOf, daysOf, Parses, Asks}
-use Rattle.requests.specs.declared.Head.{Head}
-use Rattle.requests.specs.declared.Layout.{Layout}
-use Rattle.requests.specs.declared.Request.the-variants.{Malformed}
-use Rattle.requests.specs.declared.Request.{Request}
+use Rattle.requests.{proofs.Names.{table, headOf, readDays, askedBy, daysBy, askedOf, daysOf, Parses, Asks}, specs.declared.{Head.Head, Layout.{Layout, the-variants.Days}, Request.{the-variants.Malformed, Request}}}
 use Rattle.request_lines.specs.Contracts.{ReadsDays}
-use Rattle.requests.specs.declared.Layout.the-variants.{Days}
 
 module _ (line days : List ℕ) where
   pub parses-long : 65536 < length line → Parses line days Malformed days

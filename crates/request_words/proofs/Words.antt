@@ -1,10 +1,6 @@
 -- The word that a line begins with: byte by byte, and by the table. Assumes nothing.
-use Rattle.requests.proofs.Names.{String, isAt, here, past-end, at-inside, begins, bytesOf, headOr, headOf, table, questionWords, callWords}
-use Rattle.requests.specs.declared.Head.{Head}
-use Rattle.requests.specs.declared.Layout.the-variants.{Length, Unknown}
-use Rattle.requests.specs.declared.LengthWord.the-variants.{Read, Room}
+use Rattle.requests.{proofs.Names.{String, isAt, here, past-end, at-inside, begins, bytesOf, headOr, headOf, table, questionWords, callWords}, specs.declared.{Head.Head, Layout.{the-variants.{Length, Unknown}, Layout}, LengthWord.the-variants.{Read, Room}}}
 use Rattle.request_words.specs.Contracts.{headFrom}
-use Rattle.requests.specs.declared.Layout.{Layout}
 use Rattle.basis.proofs.Prelude.{_≡_, refl, _+_, _<_, _≤_, ℕ, List, [], _∷_, false, true, drop, getD, length, decLe, arith, lt-ltb}
 
 module _ (w s : List ℕ) (i : ℕ) where

@@ -1,8 +1,7 @@
 -- What a line asks, in the words of the protocol. Assumes nothing.
 use Rattle.basis.proofs.Prelude.{_≡_, refl, _+_, ℕ, List}
-use Rattle.requests.proofs.Names.{readLine, Enter, EnterWord, asks, asking, ended, askedBy, askedOf}
+use Rattle.requests.proofs.{Names.{readLine, Enter, EnterWord, asks, asking, ended, askedBy, askedOf}, Enough.days-room}
 use Rattle.requests.specs.declared.Layout.the-variants.{Spell}
-use Rattle.requests.proofs.Enough.{days-room}
 
 -- THE FIELDS OF `enter` are read exactly as those of a register line, with nothing after its LF
 pub enter-line : (room : ℕ) (s : List ℕ) → askedBy (Spell EnterWord) room s ≡ asking (readLine s) (λ x. ended (asks (Enter x)))

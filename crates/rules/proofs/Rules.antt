@@ -1,11 +1,6 @@
 -- What the rules do to a spell: rule 1 nothing, rule 2 cuts a reading within its own days. Assumes nothing.
 use Rattle.basis.proofs.Prelude.{_≡_, refl, _+_, _≤_, ℕ, leb, eqb, arith, le-leb, le-ltb, leb-false, by-cases}
-use Rattle.spell.specs.declared.Urgency.{Urgency}
-use Rattle.spell.specs.declared.Urgency.the-variants.{Grade, Reading}
-use Rattle.spell.specs.declared.Spell.{Spell}
-use Rattle.spell.specs.Entry.{refusalOf}
-use Rattle.spell.specs.Listing.{Sound}
-use Rattle.spell.proofs.Entered.{past, entered}
+use Rattle.spell.{specs.{declared.{Urgency.{Urgency, the-variants.{Grade, Reading}}, Spell.Spell}, Entry.refusalOf, Listing.Sound}, proofs.Entered.{past, entered}}
 use Rattle.rules.specs.Rules.{lapsed, lapsedLast, lastOf, cut}
 
 -- RULE 1 publishes each spell as entered

@@ -1,5 +1,5 @@
 -- A question over the index is a call that leaves service and blocks as they were. Assumes nothing.
-use Rattle.basis.proofs.Prelude.{_≡_, refl, subst, sym, List, ℕ}
+use Rattle.basis.proofs.Prelude.{refl, subst, sym, List, ℕ}
 use Rattle.service.proofs.Names.{Ask, Question, reads-keep, Outcome, asking, Service, Blocks, Represents, Given, keeping, Met}
 use Rattle.questions.specs.Asked.{Asked}
 

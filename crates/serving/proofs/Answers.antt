@@ -1,16 +1,9 @@
 -- An answer gathered, and a request seen and served. Assumes nothing.
-use Rattle.basis.proofs.Prelude.{_≡_, _<_, ℕ, List, inl, inr, true, ltb, false≢true, ltb-true, take}
-use Rattle.gathering.specs.Gathering.{Appended}
-use Rattle.gathering.proofs.Gathering.{grown}
-use Rattle.service.specs.declared.Service.{Service}
-use Rattle.service.specs.Service.{Blocks}
-use Rattle.conversations.specs.declared.Answered.{Answered}
-use Rattle.conversations.specs.declared.Looked.{Looked}
-use Rattle.conversations.specs.declared.Wanted.{Wanted}
-use Rattle.conversations.specs.Answering.{Answers, Looks, askedIn, roomOf}
-use Rattle.conversations.proofs.Serving.{carried-served}
-use Rattle.serving.specs.declared.Incoming.{Incoming}
-use Rattle.serving.specs.Serving.{Gathers, Takes, Sees, Finishes}
+use Rattle.basis.proofs.Prelude.{_≡_, _<_, ℕ, List, inl, inr, true, ltb, ltb-true, take}
+use Rattle.gathering.{specs.Gathering.Appended, proofs.Gathering.grown}
+use Rattle.service.specs.{declared.Service.Service, Service.Blocks}
+use Rattle.conversations.{specs.{declared.{Answered.Answered, Looked.Looked, Wanted.Wanted}, Answering.{Answers, Looks, askedIn, roomOf}}, proofs.Serving.carried-served}
+use Rattle.serving.specs.{declared.Incoming.Incoming, Serving.{Gathers, Takes, Sees, Finishes}}
 
 -- ---- Answers gathered
 module _ (answer gathered : List ℕ) (held : ℕ) where

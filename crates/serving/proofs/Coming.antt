@@ -1,11 +1,6 @@
 -- A request that is coming in pieces: what has come of it is what the bytes read so far make. Assumes nothing.
-use Rattle.basis.proofs.Prelude.{_∙_, _≡_, _≤_, ℕ, List, [], _++_, append-assoc, append-nil, true, drop, take}
-use Rattle.streams.specs.declared.Frame.{Frame}
-use Rattle.streams.specs.declared.Framed.the-variants.{Whole, Part}
-use Rattle.streams.specs.Stream.{begun}
-use Rattle.streams.specs.Advancing.{next, partOf, partialOf, Advances}
-use Rattle.streams.specs.History.{opened}
-use Rattle.streams.proofs.Cutting.{goOn, next-append}
+use Rattle.basis.proofs.Prelude.{_∙_, _≡_, _≤_, ℕ, List, [], _++_, append-assoc, append-nil, true, take}
+use Rattle.streams.{specs.{declared.{Frame.Frame, Framed.the-variants.{Whole, Part}}, Stream.begun, Advancing.{next, partOf, partialOf, Advances}, History.opened}, proofs.Cutting.{goOn, next-append}}
 use Rattle.serving.specs.Serving.{between, Takes}
 
 -- what is kept of it, and the bytes from `at` to `to`, make what the bytes s and those read since make

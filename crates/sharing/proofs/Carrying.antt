@@ -1,24 +1,11 @@
 -- A request carried out on the service of a host's words is carried out on the words. Assumes nothing.
 use Rattle.basis.proofs.Prelude.{_∙_, _≡_, ap, refl, sym, _<_, _≤_, ℕ, List, Bool, cond, false, true, leb, length, arith, le-leb, lt-leb}
-use Rattle.buffer.specs.Buffer.{over}
-use Rattle.model.specs.Model.{State}
-use Rattle.model.specs.Journal.{journal}
-use Rattle.requests.specs.declared.Request.{Request}
-use Rattle.requests.specs.Requests.{Demand, askedOf, daysOf}
-use Rattle.service.specs.declared.Service.{Service}
-use Rattle.service.specs.Packed.{unpacked}
-use Rattle.service.specs.Service.{Blocks, Represents, Given}
-use Rattle.conversations.specs.declared.Answered.{Answered}
-use Rattle.conversations.specs.declared.Looked.the-variants.{Done, Wants}
-use Rattle.conversations.specs.declared.Wanted.{Wanted}
-use Rattle.conversations.specs.Conversation.{turnOf}
-use Rattle.conversations.specs.Answering.{conv, roomOf, Answers, askedIn, Looks}
-use Rattle.conversations.proofs.Serving.{looked-served, carried-served}
+use Rattle.model.specs.{Model.State, Journal.journal}
+use Rattle.requests.specs.{declared.Request.Request, Requests.{Demand, askedOf}}
+use Rattle.service.specs.{declared.Service.Service, Packed.unpacked, Service.{Blocks, Represents, Given}}
+use Rattle.conversations.{specs.{declared.{Answered.Answered, Looked.the-variants.{Done, Wants}, Wanted.Wanted}, Conversation.turnOf, Answering.{conv, roomOf, Answers, askedIn, Looks}}, proofs.Serving.{looked-served, carried-served}}
 use Rattle.phayaklit.specs.Host.{Laid}
-use Rattle.sharing.specs.declared.Carried.{Carried}
-use Rattle.sharing.specs.Words.{wordOf, wordIn, powerOf, changedAt}
-use Rattle.sharing.specs.Carrying.{eventsOf, answeredOf, heldAt, Carries, HeldBack, Requested}
-use Rattle.sharing.specs.Contracts.{CarriesOf, HeldOf, RequestedOf}
+use Rattle.sharing.specs.{declared.Carried.Carried, Words.{wordOf, wordIn, powerOf, changedAt}, Carrying.{eventsOf, answeredOf, Carries, HeldBack, Requested}, Contracts.{CarriesOf, HeldOf, RequestedOf}}
 use Rattle.sharing.proofs.Words.{word-parsed, power-none, power-keeps, power-onlyReads, length-none, unkept, changed-journal}
 
 -- ---- What leaves the service as it is

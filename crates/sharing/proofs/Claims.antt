@@ -1,20 +1,13 @@
 -- What the host's request is for: whoever sends them, in however many conversations, the answers are the account's, and a journal of
 -- those that changed the state suffices. Assumes nothing.
-use Rattle.basis.proofs.Prelude.{_∙_, _≡_, refl, sym, subst, ℕ, List, [], _++_, _∷_}
-use Rattle.model.specs.Model.{State, fresh}
-use Rattle.model.specs.Journal.{Event, next, left, journal}
-use Rattle.model.proofs.Journal.{journal-left}
+use Rattle.basis.proofs.Prelude.{_≡_, refl, ℕ, List, [], _++_, _∷_}
+use Rattle.model.{specs.{Model.State, Journal.{Event, next, left, journal}}, proofs.Journal.journal-left}
 use Rattle.requests.specs.Requests.{askedOf}
-use Rattle.service.specs.Packed.{unpacked}
-use Rattle.service.specs.Service.{Blocks, Represents}
-use Rattle.service.proofs.Represented.{represented}
+use Rattle.service.{specs.{Packed.unpacked, Service.{Blocks, Represents}}, proofs.Represented.represented}
 use Rattle.conversations.specs.Answering.{roomOf}
 use Rattle.replies.proofs.Sending.{sends-bytes}
-use Rattle.phayaklit.specs.Host.{Laid}
 use Rattle.phayaklit.specs.History.{Opens}
-use Rattle.sharing.specs.declared.Carried.{Carried}
-use Rattle.sharing.specs.Carrying.{Carries}
-use Rattle.sharing.specs.History.{Posted, eventsIn, replyTo, allEvents, replies, Shared, none, carried, held}
+use Rattle.sharing.specs.{declared.Carried.Carried, Carrying.Carries, History.{Posted, eventsIn, allEvents, replies, Shared, none, carried, held}}
 use Rattle.sharing.proofs.Words.{turn-left}
 
 left-append : (m : State) (es fs : List Event) → left m (es ++ fs) ≡ left (left m es) fs

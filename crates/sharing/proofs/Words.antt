@@ -1,22 +1,13 @@
 -- What a request's word may do is what its event does. Assumes nothing.
-use Rattle.basis.proofs.Prelude.{_∙_, _≡_, ap, refl, sym, _+_, _-_, _≤_, _<_, ℕ, List, [], _++_, _∷_, Bool, _&&_, cond, false, false≢true, not, true, eqb, ltb, getD, length, length-append, take, getD-at, length-take-le, arith, le-ltb, lt-ltb, ne-eqb}
+use Rattle.basis.proofs.Prelude.{_∙_, _≡_, ap, refl, sym, _+_, _-_, ℕ, List, [], _∷_, Bool, _&&_, cond, false, false≢true, not, true, eqb, ltb, getD, length, length-append, take, getD-at, length-take-le, arith, le-ltb, lt-ltb, ne-eqb}
 use Rattle.refusal.specs.Table.{accepted}
 use Rattle.fields.specs.Fields.{isAt}
-use Rattle.model.specs.declared.Call.{Call}
-use Rattle.model.specs.declared.Call.the-variants.{Enter, Amend, Strike, TakeBack, Publish, Write, Ask}
-use Rattle.model.specs.declared.Question.{Question}
+use Rattle.model.{specs.{declared.{Call.{Call, the-variants.{Enter, Amend, Strike, TakeBack, Publish, Write, Ask}}, Question.Question}, Model.{State, Answer, step}, Journal.{reads, call, left, journal}}, proofs.Journal.journal-left}
 use Rattle.coding.specs.Coded.{questionNumber}
-use Rattle.model.specs.Model.{State, Answer, step}
-use Rattle.model.specs.Journal.{reads, Event, call, reading, left, journal}
-use Rattle.model.proofs.Journal.{journal-left}
-use Rattle.requests.specs.Requests.{Demand, asksCall, asksRoom, asksRead, malformed}
-use Rattle.requests.specs.Parsing.{requestOf}
-use Rattle.replies.specs.Replies.{okText, refusedText, shapeOf, shapeText, callText}
-use Rattle.conversations.specs.Conversation.{turnOf, callOf, registerOf}
-use Rattle.replies.specs.Sending.{Sends}
-use Rattle.conversations.specs.Answering.{conv, onlyReads}
-use Rattle.sharing.specs.Words.{questionWord, callWord, wordOf, wordIn, powerOf, changedAt}
-use Rattle.sharing.specs.Carrying.{eventsOf}
+use Rattle.requests.specs.{Requests.{Demand, asksCall, asksRoom, asksRead, malformed}, Parsing.requestOf}
+use Rattle.replies.specs.{Replies.{okText, refusedText, shapeOf, shapeText, callText}, Sending.Sends}
+use Rattle.conversations.specs.{Conversation.{turnOf, callOf}, Answering.{conv, onlyReads}}
+use Rattle.sharing.specs.{Words.{questionWord, callWord, wordOf, wordIn, powerOf, changedAt}, Carrying.eventsOf}
 
 -- the word of the program's form of what is asked
 pub word-parsed : (q : Demand) → wordIn (requestOf q) ≡ wordOf q

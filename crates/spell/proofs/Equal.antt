@@ -1,13 +1,7 @@
 -- `sameOf` says that two spells are equal. Assumes nothing.
 use Rattle.basis.proofs.Prelude.{_∙_, _≡_, ap, sym, ℕ, _&&_, T, eqb, eqb→eq}
-use lib.Ieee.{binary32, toBits, ofBits}
-use lib.Ieee.Bits.{ofBits-toBits}
-use lib.Ieee.Fits.{and-l, and-r}
-use Rattle.spell.specs.declared.Urgency.{Urgency}
-use Rattle.spell.specs.declared.Urgency.the-variants.{Grade, Reading}
-use Rattle.spell.specs.declared.Spell.{Spell}
-use Rattle.spell.specs.Same.{sameUrgency, sameOf}
-use Rattle.spell.specs.Listing.{HeldUrgency}
+use lib.Ieee.{binary32, toBits, ofBits, Bits.ofBits-toBits, Fits.{and-l, and-r}}
+use Rattle.spell.specs.{declared.{Urgency.{Urgency, the-variants.{Grade, Reading}}, Spell.Spell}, Same.{sameUrgency, sameOf}, Listing.HeldUrgency}
 
 pub urgency-same : (u v : Urgency) → HeldUrgency u → HeldUrgency v → T (sameUrgency u v) → u ≡ v
 urgency-same (Grade g) (Grade h) a b t = ap Grade (eqb→eq g h t)

@@ -1,7 +1,6 @@
 -- Numbers that stand in a list, and a list of unique numbers with one spell more at its end. Assumes nothing.
 use Rattle.basis.proofs.Prelude.{_∙_, _≡_, ap, refl, sym, ℕ, List, [], _++_, _∷_, Bool, _||_, false, not, true, true≢false, eqb, eqb-false, ne-eqb, not-true, both}
-use Rattle.spell.specs.declared.Spell.{Spell}
-use Rattle.spell.specs.Listing.{stands, distinct}
+use Rattle.spell.specs.{declared.Spell.Spell, Listing.{stands, distinct}}
 
 pub neither : (a b : Bool) → a || b ≡ false → (a ≡ false) × (b ≡ false)
 neither true b e = absurd (true≢false e)

@@ -2,9 +2,7 @@
 -- says of its spells. Assumes nothing.
 use Rattle.basis.proofs.Prelude.{_≡_, refl, sym, _<_, _≤_, ℕ, List, List·Memᴰ, List·Memᴰ·cases-cons, List·Memᴰ·not-nil, [], _++_, _∷_, Bool, false, true, _⊎_, inl, inr, arith, eq-eqb, both, by-eq, clash, untrue}
 use Rattle.orders.proofs.Keys.{key-is, key-says, key-denies}
-use Rattle.spell.specs.declared.Spell.{Spell}
-use Rattle.spell.specs.Order.{lexical, earlierOf, listedBefore, orderedBy}
-use Rattle.spell.specs.Listing.{Each}
+use Rattle.spell.specs.{declared.Spell.Spell, Order.{lexical, earlierOf, listedBefore, orderedBy}, Listing.Each}
 
 -- ---- Orders by keys
 

@@ -2,8 +2,7 @@
 use Rattle.basis.proofs.Prelude.{_∙_, _≡_, refl, sym, _+_, _<_, _≤_, suc, ℕ, List, [], _++_, _∷_, map, map-append, drop, getD, length, length-map, length-set, set, take, append-snoc, drop-cons, length-take-le, set-at, take-suc, add-one, arith}
 use Rattle.orders.proofs.Each.{map-map}
 use Rattle.rules.specs.Rules.{cut, lastOf}
-use Rattle.spell.specs.declared.Spell.{Spell}
-use Rattle.spell.specs.Blank.{blank}
+use Rattle.spell.specs.{declared.Spell.Spell, Blank.blank}
 use Rattle.spell_places.specs.List.{columnOf, LaidOut}
 
 -- ---- A column is laid out place by place

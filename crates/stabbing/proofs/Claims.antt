@@ -1,7 +1,7 @@
 -- What the crate is for: the listing and the comparisons, shown once for any two days h and l, and cited for day, span and cover; and the
 -- links that publish stores. Assumes nothing.
 use Rattle.basis.proofs.Prelude.{_≡_, _*_, _<_, _≤_, ℕ, List, [], length}
-use Rattle.stabbing.specs.{Tree.{keep, dayAt, fitsAt, start, formula}, Walk.walk, Stored.{Sorted, latest, spanStart}, Index.Built}
+use Rattle.stabbing.specs.{Tree.{keep, dayAt, fitsAt, start, formula}, Walk.walk, Index.Built, Stored.{Sorted, latest, spanStart}}
 use Rattle.stabbing.proofs.Walk as Walk
 use Rattle.stabbing.proofs.Starts as Starts
 use Rattle.stabbing.proofs.{Listing.{Lists, lists}, StoredLinks.{StoredLinks, stored-links}}

@@ -1,7 +1,6 @@
 -- Where the builder answers true, what it leaves is the block of its rows. Assumes nothing.
 use Rattle.basis.proofs.Prelude.{_∙_, _≡_, ap, subst, sym, _≤_, ℕ, List, Bool, cond, true, leb, length, take, length-take-le, arith, leb-true, both}
-use Rattle.stabbing.specs.Index.{rowsOk, blockOf, Block}
-use Rattle.stabbing.proofs.Block.{block-of}
+use Rattle.stabbing.{specs.Index.{rowsOk, blockOf, Block}, proofs.Block.block-of}
 use Rattle.stabbing_index.specs.Build.{publishable, Builds}
 
 pub block : (number first last : List ℕ) (n : ℕ) (entry exit : List ℕ) (r : Bool) → Builds number first last n entry r exit → r ≡ true

@@ -1,7 +1,6 @@
 -- Row after row is seen to have a number of its own. Assumes nothing.
 use Rattle.basis.proofs.Prelude.{_∙_, _≡_, ap, sym, _+_, _<_, _≤_, suc, zero-le, ℕ, List, getD, arith, by-eq}
-use Rattle.stabbing.specs.Index.{rows, numbers, markIn, Block, Built}
-use Rattle.stabbing.proofs.Block.{fs-rows, block-holds}
+use Rattle.stabbing.{specs.Index.{rows, numbers, markIn, Block, Built}, proofs.Block.{fs-rows, block-holds}}
 
 -- the numbers of the first k rows lead to them
 pub record Owning (ix : List ℕ) (k : ℕ) : Type 0 where

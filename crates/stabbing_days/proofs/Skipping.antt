@@ -1,6 +1,6 @@
 -- The rows of a list that lie past the first m, found by halving: the steps of `skip`, apart from the code. Assumes nothing.
 use Rattle.basis.proofs.Prelude.{_∙_, _≡_, ap, refl, sym, _+_, _-_, _<_, _≤_, suc, zero, zero-le, ℕ, List, [], _++_, _∷_, map, Bool, _&&_, _≢_, leb, ltb, List·getD-append, drop, getD, length, length-append, length-map, drop-at, getD-append-add, le-refl, arith, le-ltb, leb-true, lt-ltb, ltb-false, ltb-true, both, by-eq, by-test}
-use Rattle.stabbing.{specs.Tree.keep, specs.Index.{Built, numbers, firsts, markIn}, specs.Contracts.from, proofs.Block.{built-holds, leads-back}, proofs.Days.keep-parts, proofs.Listing.lists}
+use Rattle.stabbing.{specs.Tree.keep, specs.Contracts.from, proofs.Days.keep-parts, proofs.Listing.lists, specs.Index.{Built, numbers, firsts, markIn}, proofs.Block.{built-holds, leads-back}}
 use Rattle.stabbing_query.specs.Contracts.{numbered}
 use Rattle.stabbing_days.specs.Contracts.{InRows, Parted, Skips}
 

@@ -1,5 +1,5 @@
 -- The steps of the builder over what it reads and has written, apart from the code. Assumes nothing.
-use Rattle.basis.proofs.Prelude.{_∙_, _≡_, refl, sym, _+_, _-_, _<_, _≤_, suc, zero, zero-le, ℕ, List, Bool, false, true, _≢_, eqb, leb, ltb, List·getD-eq-default, getD, getD-replicate, length, length-replicate, length-set, replicate, set, getD-set-other, getD-set-same, le-refl, add-one, arith, eq-eqb, eqb-false, eqb-true, le-leb, lt-leb, lt-ltb, ltb-false, ltb-true, ne-eqb, by-eq, by-mark, by-test, clash}
+use Rattle.basis.proofs.Prelude.{_∙_, _≡_, refl, sym, _+_, _-_, _<_, _≤_, suc, zero, zero-le, ℕ, List, Bool, false, true, _≢_, eqb, leb, ltb, List·getD-eq-default, getD, getD-replicate, length, length-replicate, length-set, replicate, set, getD-set-other, getD-set-same, le-refl, add-one, arith, eqb-false, eqb-true, le-leb, lt-leb, lt-ltb, ltb-false, ltb-true, by-eq, by-mark, by-test, clash}
 use Rattle.stabbing_index.proofs.{Names.{Way, below, dayAt, head, next, parent, child, leftSibling, nearest, headLink, rowLink, Head, bottom, below-hit, below-miss, head-link, bottom-is, parent-is, child-is, left-is, head-false, next-none, next-some, passed, Columns, FilledTo, Linked, Chained, headAt, ClimbAt, Climbed, HeadAt}, Parents.{parent-nearest, left-passed, child-next, child-same}}
 
 -- a head by its column

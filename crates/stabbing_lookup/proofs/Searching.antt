@@ -1,9 +1,6 @@
 -- Going down a bucket to a number: the steps of `find`, apart from the code. Assumes nothing.
 use Rattle.basis.proofs.Prelude.{_∙_, _≡_, ap, refl, sym, _%_, _+_, _-_, _<_, _≤_, suc, ℕ, List, Bool, _≢_, eqb, getD, length, le-refl, arith, eq-eqb, eqb-true, ne-eqb}
-use Rattle.stabbing.specs.Tree.{below}
-use Rattle.stabbing.specs.Index.{bucketCount, bucketTable, lowerColumn, bucketOf, inBucket, named, numbers, firsts, lasts, markIn, Block}
-use Rattle.stabbing.proofs.Marks.{Below, below-is, below-hit, below-miss, below-skip}
-use Rattle.stabbing.proofs.Block.{number-word, bucket-word, lower-word, fs-few, word-is}
+use Rattle.stabbing.{specs.{Tree.below, Index.{bucketCount, bucketTable, lowerColumn, bucketOf, inBucket, named, numbers, firsts, lasts, markIn, Block}}, proofs.{Marks.{Below, below-is, below-hit, below-miss, below-skip}, Block.{number-word, bucket-word, lower-word, fs-few, word-is}}}
 
 -- the row p has the number x, and the bucket of x
 abbrev sought : List ℕ → ℕ → ℕ → Bool

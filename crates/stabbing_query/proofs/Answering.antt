@@ -1,7 +1,7 @@
 -- From the walk to the answers of day, span and cover: what is written, the theorems on listing and comparisons, the starts. Assumes nothing.
 use Rattle.basis.proofs.Prelude.{_∙_, _≡_, ap, refl, sym, _%_, _+_, _-_, _/_, _<_, _≤_, suc, zero, zero-le, ℕ, List, [], _++_, _∷_, map, map-append, Bool, _&&_, false, true, _≢_, drop, drop-of-length-le, getD, length, length-map, take, take-all, le-refl, arith, le-leb, lt-leb, by-test}
 use Rattle.buffer.{specs.Buffer.overlaid, proofs.Overlaid.overlaid-all}
-use Rattle.stabbing.{specs.declared.Listed.Listed, proofs.Marks.{below-is, keep-hit, keep-miss}, proofs.Starts.{latest-is, start-span, cover-latest}, proofs.Block.built-holds, specs.Answer.{Reported, refused, give, question, dayOf, dayIn, Gave, spanOf, spanIn, covering, coverOf, coverIn}}
+use Rattle.stabbing.{specs.declared.Listed.Listed, proofs.Block.built-holds, proofs.{Marks.{below-is, keep-hit, keep-miss}, Starts.{latest-is, start-span, cover-latest}}, specs.Answer.{Reported, refused, give, question, dayOf, dayIn, Gave, spanOf, spanIn, covering, coverOf, coverIn}}
 use Rattle.stabbing_query.proofs.{Names.{keep, dayAt, fitsAt, start, Progress, nothing, walk, climb, latest, spanStart, start-is, listing, comparisons-formula, firstColumn, lastColumn, startTable, latestTable, Built, named, numbers, firsts, lasts, markIn, isDay, Holds, Now, Does, ClimbAt, WalkAsks, SpanAsks, numbered, decoded, listedOf}, Keeping.{now-place, comparisons-is}}
 pub use Rattle.calendar.proofs.Calendar.{dated}
 

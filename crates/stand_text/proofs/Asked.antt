@@ -1,19 +1,9 @@
 -- What the answer to a day says of the published list that an index shows. Assumes nothing.
 use Rattle.basis.proofs.Prelude.{_≡_, ap, refl, subst, sym, _≤_, ℕ, List, [], _∷_, map, Bool, cond, false, true, leb, drop, length, take, take-append-seam, arith, le-leb, leb-true, both, by-cases, clash}
-use Rattle.spell.specs.declared.Spell.{Spell}
+use Rattle.spell.{specs.{declared.Spell.Spell, Listing.{Each, Sound, OrderlyBy}, Order.listedBefore}, proofs.Entered.entered}
 use Rattle.calendar.specs.Calendar.{isDay}
-use Rattle.spell.specs.Listing.{Each, Sound, OrderlyBy}
-use Rattle.spell.specs.Order.{listedBefore}
-use Rattle.spell.proofs.Entered.{entered}
-use Rattle.model.specs.declared.Call.the-variants.{Ask}
-use Rattle.model.specs.declared.Question.the-variants.{Day}
-use Rattle.model.specs.Questions.{onDay, filter, listed, comparisonsOf}
-use Rattle.model.specs.Effects.{State, withPublished, Request, Answer, After, Effect, gives, settle}
-use Rattle.model.specs.Model.{fresh, ask, effectOf}
-use Rattle.model.proofs.Filter.{listed-few}
-use Rattle.model.proofs.Bridge.{comparisons-le}
-use Rattle.outcomes.specs.declared.Outcome.{Outcome}
-use Rattle.outcomes.specs.Outcomes.{asking}
+use Rattle.model.{specs.{declared.{Call.the-variants.Ask, Question.the-variants.Day}, Questions.{onDay, filter, listed, comparisonsOf}, Effects.{State, withPublished, Request, Answer, After, Effect, gives, settle}, Model.{fresh, ask, effectOf}}, proofs.{Filter.listed-few, Bridge.comparisons-le}}
+use Rattle.outcomes.specs.{declared.Outcome.Outcome, Outcomes.asking}
 use Rattle.published_index.specs.Index.{Shows}
 use Rattle.questions.specs.Asked.{Asked}
 

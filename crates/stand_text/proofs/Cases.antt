@@ -1,9 +1,7 @@
 -- Document 01's example: register A, and the text that the program `stand` prints of it, computed. Assumes nothing.
 use Rattle.basis.proofs.Prelude.{_≡_, refl, ℕ, List, [], _∷_}
 use lib.Ieee.{binary32, ofBits}
-use Rattle.spell.specs.declared.Urgency.{Urgency}
-use Rattle.spell.specs.declared.Urgency.the-variants.{Grade, Reading}
-use Rattle.spell.specs.declared.Spell.{Spell}
+use Rattle.spell.specs.declared.{Urgency.{Urgency, the-variants.{Grade, Reading}}, Spell.Spell}
 use Rattle.stabbing.specs.Tree.{below, keep, count, head, next, parent, child, leftSibling, lastChild, fitsAt, start, onPath, formula}
 use Rattle.fields.specs.Fields.{digitsOf, decimalOf, numbersText}
 use Rattle.model.specs.Questions.{filter, comparisonsOf}

@@ -1,12 +1,10 @@
 -- A day's line put into a buffer, from its last number to the day. Assumes nothing.
 use Rattle.basis.proofs.Prelude.{_∙_, _≡_, ap, refl, sym, _*_, _<_, ℕ, List, [], _∷_, length, take, arith}
-use Rattle.fields.specs.Fields.{numberText, numbersText}
-use Rattle.fields.specs.Answers.{Puts}
+use Rattle.fields.specs.{Fields.{numberText, numbersText}, Answers.Puts}
 use Rattle.model.specs.Questions.{onDay, listed, comparisonsOf}
 use Rattle.published_index.specs.Index.{Shows, Published}
 use Rattle.spell.specs.declared.Spell.{Spell}
-use Rattle.replies.specs.Sending.{Sends}
-use Rattle.replies.proofs.Sending.{put-end, put-sends, on-number, on-numbers}
+use Rattle.replies.{specs.Sending.Sends, proofs.Sending.{put-end, put-sends, on-number, on-numbers}}
 use Rattle.stand_text.specs.Report.{lineOf, dayLine, DayEnds}
 use Rattle.stand_text.proofs.Asked.{DayAnswer}
 

@@ -2,17 +2,12 @@
 use Rattle.basis.proofs.Prelude.{_∙_, _≡_, ap, refl, sym, _+_, _-_, _<_, _≤_, suc, zero, ℕ, List, [], _++_, append-assoc, append-nil, Bool, cond, false, true, _⊎_, ⊎-elim, leb, drop, length, length-append, take, drop-append-add, drop-drop, take-at, add-one, arith, le-leb, lt-leb, clash}
 use Rattle.spell.specs.declared.Spell.{Spell}
 use Rattle.register.specs.Text.{readText}
-use Rattle.model.specs.declared.Call.the-variants.{Publish}
-use Rattle.model.specs.Effects.{settle}
-use Rattle.model.specs.Publishing.{publishedOf}
-use Rattle.model.specs.Model.{begun, refusalIn, effectOf, step}
+use Rattle.model.specs.{declared.Call.the-variants.Publish, Effects.settle, Publishing.publishedOf, Model.{begun, refusalIn, effectOf, step}}
 use Rattle.outcomes.specs.Outcomes.{asking}
 use Rattle.published_index.specs.Index.{Shows, Published}
 use Rattle.replies.proofs.Sending.{sends-bytes, sends-put}
-use Rattle.gathering.specs.Gathering.{Appends, Appended}
-use Rattle.gathering.proofs.Gathering.{appended-room}
-use Rattle.stand_text.specs.declared.Part.{Part}
-use Rattle.stand_text.specs.Report.{dayLine, linesOf, textOf, taken, partDays, partOf, nextOf, Come, none, more, Reached, Printed, PrintedOn, PrintedOf, DayEnds, Stands, PartStands}
+use Rattle.gathering.{specs.Gathering.{Appends, Appended}, proofs.Gathering.appended-room}
+use Rattle.stand_text.specs.{declared.Part.Part, Report.{dayLine, linesOf, textOf, taken, partDays, partOf, nextOf, Come, none, more, Reached, Printed, PrintedOn, PrintedOf, DayEnds, Stands, PartStands}}
 
 -- ---- Lines
 

@@ -1,8 +1,6 @@
 -- What each call's result is, in terms of the account: pure facts, no code. Assumes nothing.
 use Rattle.basis.proofs.Prelude.{_∙_, _≡_, ap, refl, sym, _-_, _<_, _≤_, ℕ, List, [], _∷_, reverse-reverse, false, true, drop, length, length-replicate, length-reverse, length-take, take, length-take-le, arith}
-use Rattle.standing.proofs.Names.{over, own-over, accepted, unknownNumber, noHistory, Spell, earlierOf, stands, Sound, Good, text-order, blank, insert, remove, replace, idle, enterRefusal, amendRefusal, strikeRefusal, takeBackRefusal, frontOr, restOf, Undo, Standing, listOf, entries, undo, pastOf, pasts, Goods, Wf, Fresh, Edits, afterTakeBack, TakesBack, relisted, holding, freshStanding, entering, replacing, noted, newestOf, blankEntry, insert-remove, length-insert, removed-gone, orderly-none, orderly-insert, orderly-remove, orderly-replace, remove-none, remove-insert, enters, amends, pop}
-use Rattle.standing.proofs.Places.{same, over-same, list-over, past-over, wf-over}
-use Rattle.standing.proofs.Past.{refused, edited}
+use Rattle.standing.proofs.{Names.{over, own-over, accepted, unknownNumber, noHistory, Spell, earlierOf, stands, Sound, Good, text-order, blank, insert, remove, replace, idle, enterRefusal, amendRefusal, strikeRefusal, takeBackRefusal, frontOr, restOf, Undo, Standing, listOf, entries, undo, pastOf, pasts, Goods, Wf, Fresh, Edits, afterTakeBack, TakesBack, relisted, holding, freshStanding, entering, replacing, noted, newestOf, blankEntry, insert-remove, length-insert, removed-gone, orderly-none, orderly-insert, orderly-remove, orderly-replace, remove-none, remove-insert, enters, amends, pop}, Places.{same, over-same, list-over, past-over, wf-over}, Past.{refused, edited}}
 
 pub list-length : {st : Standing} → Wf st → length (listOf st) ≡ st .count
 list-length {st} w = length-take-le (st .count) (st .spells) (omega (arith, w .places, w .count-in))

@@ -1,7 +1,6 @@
 -- What the calls are for, as their contracts give it. Assumes nothing.
 use Rattle.basis.proofs.Prelude.{_∙_, _≡_, refl, Bool, false, false≢true, true, _⊎_, inl, inr, _≤_, ℕ, List, _∷_, length, length-reverse, length-take, take, arith, eq-eqb, ne-eqb}
-use Rattle.standing.proofs.Names.{accepted, Spell, remember, takeBackRefusal, frontOr, restOf, Every, Narrow, spellWords, spellOf, every-map, spell-back, Undo, Standing, Edited, listOf, entries, pasts, Wf, Edits, TakesBack, entryWords, entryOf, entry-back, length-past, packed, unpacked}
-use Rattle.standing.proofs.Packed.{unpacked-packed}
+use Rattle.standing.proofs.{Names.{accepted, Spell, remember, takeBackRefusal, frontOr, restOf, Every, Narrow, spellWords, spellOf, every-map, spell-back, Undo, Standing, Edited, listOf, entries, pasts, Wf, Edits, TakesBack, entryWords, entryOf, entry-back, length-past, packed, unpacked}, Packed.unpacked-packed}
 
 -- the past is at most 64 lists
 pub past-short : (st : Standing) → Wf st → length (pasts st) ≤ 64

@@ -1,8 +1,6 @@
 -- The standing list of a register text. Assumes nothing.
 use Rattle.basis.proofs.Prelude.{_≡_, refl, ℕ, List, []}
-use Rattle.standing.proofs.Names.{over-blank, Good, Register, good, bad, readText, blank, readingOf, written-read, begun, Standing, freshStanding, loadedOf, Wf, listOf, pasts, afterReading}
-use Rattle.standing.proofs.Places.{list-over}
-use Rattle.standing.proofs.Calls.{begun-wf, begun-past, good-none}
+use Rattle.standing.proofs.{Names.{over-blank, Good, Register, good, bad, readText, blank, readingOf, written-read, begun, Standing, freshStanding, loadedOf, Wf, listOf, pasts, afterReading}, Places.list-over, Calls.{begun-wf, begun-past, good-none}}
 
 -- the standing list and the past with which the account begins
 pub record Loads (g : Register) (st : Standing) : Type 0 where

@@ -1,7 +1,6 @@
 -- An edit that is made, and one that is not, as the journal has them. Assumes nothing.
 use Rattle.basis.proofs.Prelude.{_∙_, _≡_, refl, sym, ℕ, List, _∷_, Bool, false, true, eqb, length-take, arith, eqb-false, ne-eqb}
-use Rattle.standing.proofs.Names.{accepted, Spell, Good, remember, Undo, Standing, listOf, entries, undo, pastOf, pasts, Goods, Wf, makes, Edits, holding, noted, goods-take, past-pushed}
-use Rattle.standing.proofs.Places.{list-over, past-over, wf-over}
+use Rattle.standing.proofs.{Names.{accepted, Spell, Good, remember, Undo, Standing, listOf, entries, undo, pastOf, pasts, Goods, Wf, makes, Edits, holding, noted, goods-take, past-pushed}, Places.{list-over, past-over, wf-over}}
 
 -- an edit that is not made
 pub unmade : {st : Standing} {k n : ℕ} {idle : Bool} {l′ : List Spell} {e : Undo} → Wf st → makes idle n ≡ false → n ≡ k

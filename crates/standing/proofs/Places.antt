@@ -1,6 +1,6 @@
 -- What stands in the places of an array whose first ones were written, and of a standing list so made. Assumes nothing.
-use Rattle.basis.proofs.Prelude.{_∙_, _≡_, ap, refl, _≤_, ℕ, List, reverse, reverse-reverse, drop, length, length-reverse, take, length-take-le, take-append-seam, take-at, arith}
-use Rattle.standing.proofs.Names.{over, own-over, over-length, over-twice, Spell, Good, Undo, Standing, relisted, holding, listOf, entries, pastOf, pasts, Goods, Wf}
+use Rattle.basis.proofs.Prelude.{_∙_, _≡_, ap, _≤_, ℕ, List, reverse, reverse-reverse, drop, length, length-reverse, take, length-take-le, take-append-seam, take-at, arith}
+use Rattle.standing.proofs.Names.{over, own-over, over-length, Spell, Good, Undo, Standing, holding, listOf, entries, pastOf, pasts, Goods, Wf}
 
 -- ---- A standing list
 

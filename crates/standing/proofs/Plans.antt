@@ -1,9 +1,6 @@
 -- A plan carried out is what the account says of its call: pure facts, no code. Assumes nothing.
 use Rattle.basis.proofs.Prelude.{_∙_, _≡_, ap, refl, sym, ℕ, List, Bool, cond, false, true, eqb, getD, length, length-reverse, take, length-take-le, arith, eqb-false, eqb-true, by-test}
-use Rattle.standing.proofs.Names.{own-over, accepted, Spell, Sound, stands, blank, idle, enterRefusal, amendRefusal, Call, Enter, Amend, Strike, TakeBack, Publish, Write, Ask, Undo, noting, Standing, Edited, Plan, listOf, entries, Wf, Keeps, Does, standsAt, changing, countedOf, counted-is, putting, without, Located, foundIn, relisted, holding, noted, deeperBy, newestOf, noPlan, planAmend, planBack, planEnter, planStrike, planOf, numberOf, Takes, Makes, Undoes, none-keeps, enter-leaves, enter-makes, amend-leaves, amend-idles, amend-makes, strike-leaves, strike-makes, back-leaves, back-undoes, deeper-noted}
-use Rattle.standing.proofs.Places.{same}
-use Rattle.standing.proofs.Past.{unmade, refused}
-use Rattle.standing.proofs.Calls.{list-length, enter-made, strike-made, strike-unknown, amend-made, takes-none, takes-back, lowered, undo-room}
+use Rattle.standing.proofs.{Names.{own-over, accepted, Spell, Sound, stands, blank, idle, enterRefusal, amendRefusal, Call, Enter, Amend, Strike, TakeBack, Publish, Write, Ask, Undo, noting, Standing, Edited, Plan, listOf, entries, Wf, Keeps, Does, standsAt, changing, countedOf, counted-is, putting, without, Located, foundIn, relisted, holding, noted, deeperBy, newestOf, noPlan, planAmend, planBack, planEnter, planStrike, planOf, numberOf, Takes, Makes, Undoes, none-keeps, enter-leaves, enter-makes, amend-leaves, amend-idles, amend-makes, strike-leaves, strike-makes, back-leaves, back-undoes, deeper-noted}, Places.same, Past.{unmade, refused}, Calls.{list-length, enter-made, strike-made, strike-unknown, amend-made, takes-none, takes-back, lowered, undo-room}}
 
 -- all places after a plan is carried out
 abbrev pub applied : Standing → Plan → Standing

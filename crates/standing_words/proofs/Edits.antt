@@ -3,7 +3,7 @@ use Rattle.basis.proofs.Prelude.{_∙_, _≡_, ap, refl, sym, _*_, _+_, _-_, _�
 use Rattle.model.specs.declared.Call.{Call, the-variants.{Enter, Amend, Strike, TakeBack, Publish, Write, Ask}}
 use Rattle.packing.specs.{Blocks.parts, Words.spellOf}
 use Rattle.spell_places.specs.{List.{changing, countedOf}, Search.foundIn, declared.Located.Located}
-use Rattle.journal.specs.{declared.Undo.Undo, Journal.{blankEntry, noting}, Words.entryOf}
+use Rattle.journal.specs.{declared.Undo.Undo, Words.entryOf, Journal.{blankEntry, noting}}
 use Rattle.plans.specs.{declared.Plan.Plan, Plans.{planOf, Takes, numberOf, deeperBy}}
 use Rattle.standing.{specs.{declared.{Standing.Standing, Edited.Edited}, Standing.{Wf, Does}, Packed.unpacked}, proofs.Plans.carried}
 use Rattle.standing_words.specs.{Edits.{EditedIn, Laid}, Contracts.{spellsOf, entriesOf, Changes, Notes}}

@@ -1,8 +1,7 @@
 -- A stream, computed. Assumes nothing.
 use Rattle.basis.proofs.Prelude.{_≡_, refl, ℕ, List, [], _++_, _∷_}
 use Rattle.fields.specs.Fields.{passed, readDigits, readDecimal}
-use Rattle.requests.specs.Words.{table, begins, headOf}
-use Rattle.requests.specs.Requests.{askedBy, askedOf, following}
+use Rattle.requests.specs.{Words.{table, begins, headOf}, Requests.{askedBy, askedOf, following}}
 use Rattle.streams.specs.Stream.{begun, kept, wants, settled, lineFed, feed, onward, cutFrom, cut, leftBy, left, cutPieces}
 
 -- `publish`

@@ -2,17 +2,9 @@
 use mathlib.Core.List.{flatten}
 use Rattle.basis.proofs.Prelude.{_∙_, _≡_, ap, ℕ, List, _++_, _∷_, drop}
 use Rattle.model.specs.Model.{fresh}
-use Rattle.service.specs.declared.Service.{Service}
-use Rattle.service.specs.Service.{Blocks, Represents}
-use Rattle.conversations.specs.declared.Answered.{Answered}
-use Rattle.conversations.specs.Conversation.{Sent, Conv, opening, converse, converseOn}
-use Rattle.conversations.specs.Answering.{roomOf, Restarted}
-use Rattle.conversations.specs.History.{Spoken}
-use Rattle.conversations.proofs.Claims.{spoken-converse, spoken-fresh, spoken-begun}
-use Rattle.streams.specs.declared.Frame.{Frame}
-use Rattle.streams.specs.Stream.{cutFrom, cut}
-use Rattle.streams.specs.Advancing.{partialOf, partOf}
-use Rattle.streams.specs.History.{opened, Heard, request, more, ended}
+use Rattle.service.specs.{declared.Service.Service, Service.{Blocks, Represents}}
+use Rattle.conversations.{specs.{declared.Answered.Answered, Conversation.{Sent, Conv, opening, converse, converseOn}, Answering.{roomOf, Restarted}, History.Spoken}, proofs.Claims.{spoken-converse, spoken-fresh, spoken-begun}}
+use Rattle.streams.specs.{declared.Frame.Frame, Stream.{cutFrom, cut}, Advancing.{partialOf, partOf}, History.{opened, Heard, request, more, ended}}
 use Rattle.streams.proofs.Cutting.{cutAfter, cut-piece}
 
 -- THE PIECES DO NOT MATTER: what is heard of a stream in pieces are the requests of the whole stream

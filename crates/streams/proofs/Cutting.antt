@@ -2,10 +2,7 @@
 use mathlib.Core.List.{flatten}
 use Rattle.basis.proofs.Prelude.{_≡_, ap, refl, _<_, suc, ℕ, List, [], _++_, _∷_, drop, length, length-drop, arith}
 use Rattle.conversations.specs.Conversation.{Sent}
-use Rattle.streams.specs.declared.Frame.{Frame}
-use Rattle.streams.specs.declared.Framed.the-variants.{Whole}
-use Rattle.streams.specs.Stream.{Partial, begun, Step, whole, part, feed, onward, cutFrom, leftBy, left, cutPieces}
-use Rattle.streams.specs.Advancing.{Progress, done, going, through, next, partialOf, Advances}
+use Rattle.streams.specs.{declared.{Frame.Frame, Framed.the-variants.Whole}, Stream.{Partial, begun, Step, whole, part, feed, onward, cutFrom, leftBy, left, cutPieces}, Advancing.{Progress, done, going, through, next, partialOf, Advances}}
 
 -- ---- All requests of a piece
 

@@ -1,9 +1,6 @@
 -- What a host is told suffices to go on, and a frame that the calls give is taken. Assumes nothing.
-use Rattle.basis.proofs.Prelude.{_≡_, refl, _≤_, suc, zero, ℕ, Bool, _&&_, _||_, true, leb, ltb, eqb, arith, eq-eqb, le-leb, lt-ltb}
-use Rattle.streams.specs.declared.Advanced.{Advanced}
-use Rattle.streams.specs.declared.Frame.{Frame}
-use Rattle.streams.specs.declared.Framed.the-variants.{Part}
-use Rattle.streams.specs.Advancing.{Sound, ready, advancedOf}
+use Rattle.basis.proofs.Prelude.{_≡_, refl, _≤_, suc, zero, ℕ, Bool, _&&_, _||_, true, ltb, eqb, arith, eq-eqb, le-leb, lt-ltb}
+use Rattle.streams.specs.{declared.{Advanced.Advanced, Frame.Frame, Framed.the-variants.Part}, Advancing.{Sound, ready, advancedOf}}
 
 -- the frame that a host goes on with, from what it is told
 abbrev pub frameIn : Advanced → Frame

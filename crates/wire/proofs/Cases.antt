@@ -2,23 +2,16 @@
 use Prim.Native.String.{String}
 use Rattle.basis.proofs.Prelude.{_≡_, refl, List, [], _∷_, map}
 use lib.Ieee.{isNan, toBits, ofBits}
-use Rattle.spell.specs.Order.{listedBefore, earlierOf}
-use Rattle.spell.specs.Listing.{stands}
+use Rattle.spell.specs.{Order.{listedBefore, earlierOf}, Listing.stands}
 use Rattle.stabbing.specs.Tree.{below, keep, count, head, next, parent, child, leftSibling, lastChild, fitsAt, start, onPath, formula}
 use Rattle.fields.specs.Fields.{digitsOf, decimalOf, hexDigit, hexOf, numbersText, passed, readDigits, readDecimal, hexValue, readHex}
 use Rattle.register.specs.Text.{lineText, textOnto, readLetter, readValue, readUrgency, readLine, follows, lineRefusal, lineAnswer, nextLine, readLines, readText}
 use Rattle.orders.specs.Orders.{sortedBy}
 use Rattle.rules.specs.Rules.{lastOf}
-use Rattle.model.specs.Edits.{insertBy, enterRefusal, strikeRefusal, remember}
-use Rattle.model.specs.Publishing.{publishedOf}
+use Rattle.model.specs.{Edits.{insertBy, enterRefusal, strikeRefusal, remember}, Publishing.publishedOf, Questions.{onAny, rising, filter, comparisonsOf}, Effects.settle, Model.{takeBack, cover, ask, effectOf}}
 use Rattle.calendar.specs.Calendar.{daysOk}
 use Rattle.masks.specs.Masks.{isSet, ticksFrom}
-use Rattle.model.specs.Questions.{onAny, rising, filter, comparisonsOf}
-use Rattle.model.specs.Effects.{settle}
-use Rattle.model.specs.Model.{takeBack, cover, ask, effectOf}
-use Rattle.requests.specs.Words.{table, begins, headOf}
-use Rattle.requests.specs.Requests.{readDays, askedBy, askedOf}
-use Rattle.requests.proofs.Cases.{spelled}
+use Rattle.requests.{specs.{Words.{table, begins, headOf}, Requests.{readDays, askedBy, askedOf}}, proofs.Cases.spelled}
 use Rattle.replies.specs.Replies.{refusedText, refusedLine, listedText, dashedText, severalText, tickedText, writtenText, shapeText, callText, readingText}
 use Rattle.conversations.specs.Conversation.{Sent, opening, registerOf, turnOf, converse}
 

@@ -3,11 +3,8 @@
 use Rattle.basis.proofs.Prelude.{_≡_, refl, ℕ, List}
 use contract.Lifetimes.{Lfts}
 use denote.Ref.{RefT, now}
-use Rattle.service.specs.declared.Service.{Service}
-use Rattle.service.specs.Service.{blocks, Given}
-use Rattle.conversations.specs.declared.Answered.{Answered}
-use Rattle.conversations.specs.declared.Wanted.{Wanted}
-use Rattle.conversations.specs.Answering.{Restarted, Answers, askedIn, roomOf}
+use Rattle.service.specs.{declared.Service.Service, Service.{blocks, Given}}
+use Rattle.conversations.specs.{declared.{Answered.Answered, Wanted.Wanted}, Answering.{Restarted, Answers, askedIn, roomOf}}
 use Rattle.wire.proofs.carry.Reads as carry-reads
 use Rattle.wire.proofs.restart.Reads as restart-reads
 

@@ -1,13 +1,12 @@
 -- `calendar::is_day` meets its contract. Assumes nothing.
 use Rattle.basis.proofs.Prelude.{le-leb, lt-leb}
-use Rattle.calendar.proofs.is_day.Statement.{statement}
-use Rattle.calendar.proofs.is_day.Tie as tie
+use Rattle.calendar.proofs.is_day.{Statement.statement, Tie.{Need-returns, Need-returns-2, close, spec}}
 
-returns : tie.Need-returns
+returns : Need-returns
 returns c = simp (lt-leb _ _ (c .if1 .taken))
 
-returns-2 : tie.Need-returns-2
+returns-2 : Need-returns-2
 returns-2 c = simp (le-leb _ _ (c .if1 .left))
 
 pub is-day-spec : {M : Type 1} → statement M
-is-day-spec = tie.close (tie.spec returns returns-2)
+is-day-spec = close (spec returns returns-2)

@@ -1,16 +1,10 @@
 -- `decimals::put_number` meets its contract. Assumes nothing.
 use Rattle.basis.proofs.Prelude.{_∷_, drop, length-drop, arith, needs}
-use Rattle.fields.specs.Fields.{wideText, numberText}
-use Rattle.fields.proofs.Puts.{puts-before, puts-past, puts-as}
-use Rattle.fields.proofs.Widths.{decimal-width}
-use Rattle.decimals.proofs.Puts.{wide-number}
-use Rattle.decimals.proofs.put_number.Statement.{statement}
-use Rattle.decimals.proofs.put_number.Tie as tie
+use Rattle.fields.{specs.Fields.{wideText, numberText}, proofs.{Puts.{puts-before, puts-past, puts-as}, Widths.decimal-width}}
+use Rattle.decimals.proofs.{Puts.wide-number, put_number.{Statement.statement, Tie.{close, spec}}}
 
 pub put-number-spec : {M : Type 1} → statement M
-put-number-spec =
-    tie.close
-    (tie.spec
+put-number-spec = close (spec
     (λ c. let a = c .before .before .args in puts-before 6 (numberText (a .n) (a .end)) (a .buf .now) (a .at) (c .if1 .taken))
     (λ c. let a = c .before .before .before .args in puts-past 6 (numberText (a .n) (a .end)) (a .buf .now) (a .at) (c .before .if1 .left) (c .if2 .taken))
     (λ c κs.

@@ -1,25 +1,20 @@
 -- `decimals::put_numbers` meets its contract. The loop's invariant: the decimals from i on stand in front of the text that
 -- follows. The measure is i. Assumes nothing.
 use Rattle.basis.proofs.Prelude.{_≡_, _*_, _≤_, length, arith, needs}
-use Rattle.fields.specs.Fields.{numbersText}
-use Rattle.fields.proofs.Puts.{puts-before, puts-past}
-use Rattle.decimals.proofs.Rows.{Rest, rest-none, rest-one, rest-all}
-use Rattle.decimals.proofs.put_numbers.Statement.{statement}
-use Rattle.decimals.proofs.put_numbers.Tie as tie
+use Rattle.fields.{specs.Fields.numbersText, proofs.Puts.{puts-before, puts-past}}
+use Rattle.decimals.proofs.{Rows.{Rest, rest-none, rest-one, rest-all}, put_numbers.{Statement.statement, Tie.{InvT-loop, MeasureT-loop, Else1, close, spec}}}
 
-abbrev Inv-loop : tie.InvT-loop
+abbrev Inv-loop : InvT-loop
 Inv-loop buf₀ at numbers n place₀ i₀ buf place i = Rest numbers buf₀ at buf place i
 
-abbrev μ-loop : tie.MeasureT-loop
+abbrev μ-loop : MeasureT-loop
 μ-loop buf₀ at numbers n place₀ i₀ buf place i = i
 
-roomy : (c : tie.Else1 Inv-loop μ-loop) → let a = c .before .before .before .args in 6 * length (a .numbers .now) ≤ a .at
+roomy : (c : Else1 Inv-loop μ-loop) → let a = c .before .before .before .args in 6 * length (a .numbers .now) ≤ a .at
 roomy c = omega arith
 
 pub put-numbers-spec : {M : Type 1} → statement M
-put-numbers-spec =
-    tie.close
-    (tie.spec
+put-numbers-spec = close (spec
     Inv-loop μ-loop
     (λ c. let a = c .before .before .before .args in puts-before _ (numbersText (a .numbers .now)) (a .buf .now) (a .at) (omega arith))
     (λ c. let a = c .before .before .before .before .args in puts-past _ (numbersText (a .numbers .now)) (a .buf .now) (a .at) (roomy (c .before)) (c .if2 .taken))

@@ -1,15 +1,10 @@
 -- `decimals::put_wide` meets its contract. Assumes nothing.
 use Rattle.basis.proofs.Prelude.{_∷_, refl, drop, length-drop, arith, needs}
-use Rattle.fields.specs.Fields.{wideText}
-use Rattle.fields.proofs.Puts.{puts-before, puts-past, puts-as}
-use Rattle.fields.proofs.Widths.{digits-width}
-use Rattle.decimals.proofs.put_wide.Statement.{statement}
-use Rattle.decimals.proofs.put_wide.Tie as tie
+use Rattle.fields.{specs.Fields.wideText, proofs.{Puts.{puts-before, puts-past, puts-as}, Widths.digits-width}}
+use Rattle.decimals.proofs.put_wide.{Statement.statement, Tie.{close, spec}}
 
 pub put-wide-spec : {M : Type 1} → statement M
-put-wide-spec =
-    tie.close
-    (tie.spec
+put-wide-spec = close (spec
     (λ c. let a = c .before .before .args in puts-before 21 (wideText (a .n) (a .end)) (a .buf .now) (a .at) (c .if1 .taken))
     (λ c. let a = c .before .before .before .args in puts-past 21 (wideText (a .n) (a .end)) (a .buf .now) (a .at) (c .before .if1 .left) (c .if2 .taken))
     (λ c κs.

@@ -1,13 +1,9 @@
 -- `decimals::read_decimal` meets its contract. Assumes nothing.
 use Rattle.basis.proofs.Prelude.{_∙_, sym, arith, needs, eq-eqb, ne-eqb, not-false, not-true}
-use Rattle.decimals.proofs.Places.{decimal-past, decimal-at}
-use Rattle.decimals.proofs.read_decimal.Statement.{statement}
-use Rattle.decimals.proofs.read_decimal.Tie as tie
+use Rattle.decimals.proofs.{Places.{decimal-past, decimal-at}, read_decimal.{Statement.statement, Tie.{close, spec}}}
 
 pub read-decimal-spec : {M : Type 1} → statement M
-read-decimal-spec =
-    tie.close
-    (tie.spec
+read-decimal-spec = close (spec
     (λ c. let a = c .before .before .args in sym (decimal-past (a .text .now) (a .at) (a .limit) (omega arith))) (λ c. search needs)
     (λ c. search needs)
     -- a zero

@@ -1,14 +1,10 @@
 -- `decimals::read_number` meets its contract: a length that is read is at most the limit. Assumes nothing.
 use Rattle.basis.proofs.Prelude.{arith, needs}
 use Rattle.fields.proofs.Places.{said, none-narrowed, narrowed}
-use Rattle.decimals.proofs.Decimals.{length-within}
-use Rattle.decimals.proofs.read_number.Statement.{statement}
-use Rattle.decimals.proofs.read_number.Tie as tie
+use Rattle.decimals.proofs.{Decimals.length-within, read_number.{Statement.statement, Tie.{close, spec}}}
 
 pub read-number-spec : {M : Type 1} → statement M
-read-number-spec =
-    tie.close
-    (tie.spec
+read-number-spec = close (spec
     (λ c κs. search needs) (λ c. search needs) (λ c. search needs)
     (λ c. none-narrowed (c .before .before .read-length .ensures) (c .enum-told .given .1))
     -- v as u16

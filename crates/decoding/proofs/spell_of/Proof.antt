@@ -1,10 +1,9 @@
 -- `decoding::spell_of` meets its contract: field by field. Assumes nothing.
 use Rattle.basis.proofs.Prelude.{needs}
-use Rattle.decoding.proofs.spell_of.Statement.{statement}
-use Rattle.decoding.proofs.spell_of.Tie as tie
+use Rattle.decoding.proofs.spell_of.{Statement.statement, Tie.{Need-returns, close, spec}}
 
-returns : tie.Need-returns
+returns : Need-returns
 returns c = simp (c .urgency-of .ensures)
 
 pub spell-of-spec : {M : Type 1} → statement M
-spell-of-spec = tie.close (tie.spec (λ c κs. search needs) returns)
+spell-of-spec = close (spec (λ c κs. search needs) returns)

@@ -1,15 +1,11 @@
 -- `hex::hex_value` meets its contract. Assumes nothing.
 use Rattle.basis.proofs.Prelude.{_∙_, sym, arith, needs, le-leb, lt-leb}
-use Rattle.fields.specs.Fields.{hexValue}
-use Rattle.fields.proofs.Bytes.{digit-low}
-use Rattle.hex.proofs.hex_value.Statement.{statement}
-use Rattle.hex.proofs.hex_value.Tie as tie
+use Rattle.fields.{specs.Fields.hexValue, proofs.Bytes.digit-low}
+use Rattle.hex.proofs.hex_value.{Statement.statement, Tie.{close, spec}}
 
 pub hex-value-spec : {M : Type 1} → statement M
 unfolding hexValue
-hex-value-spec =
-    tie.close
-    (tie.spec
+hex-value-spec = close (spec
     (λ c κs. search needs)
     (λ c. digit-low _ (sym (c .before .is-digit .ensures) ∙ c .if1 .taken))  -- b - ZERO
     (λ c. search needs) (λ c. rw (sym (c .before .is-digit .ensures) ∙ c .if1 .taken))

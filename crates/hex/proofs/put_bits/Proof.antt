@@ -1,24 +1,21 @@
 -- `hex::put_bits` meets its contract. The invariant: the digits left of v put before the place i make the whole field. Assumes nothing.
 use Rattle.basis.proofs.Prelude.{ap, refl, _-_, _≤_, _∷_, drop, length, set, arith}
-use Rattle.fields.specs.Fields.{bitsText}
-use Rattle.fields.proofs.Puts.{Put, put-none, put-one, put-on, put-place, puts-before, puts-past, puts-room}
-use Rattle.hex.proofs.Puts.{Hexes, hexes-room, hexes-step, hexes-last}
-use Rattle.hex.proofs.put_bits.Statement.{statement}
-use Rattle.hex.proofs.put_bits.Tie as tie
+use Rattle.fields.{specs.Fields.bitsText, proofs.Puts.{Put, put-none, put-one, put-on, put-place, puts-before, puts-past, puts-room}}
+use Rattle.hex.proofs.{Puts.{Hexes, hexes-room, hexes-step, hexes-last}, put_bits.{Statement.statement, Tie.{InvT-loop, MeasureT-loop, Else2, Need-loop-holds, After-loop, close, spec}}}
 
-abbrev Inv-loop : tie.InvT-loop
+abbrev Inv-loop : InvT-loop
 Inv-loop buf₀ at n end i₀ v₀ k₀ buf i v k = Hexes n (drop i₀ buf₀) buf₀ buf i v k × (i ≤ i₀)
 
-abbrev μ-loop : tie.MeasureT-loop
+abbrev μ-loop : MeasureT-loop
 μ-loop buf₀ at n end i₀ v₀ k₀ buf i v k = 8 - k
 
 -- the byte that ends the field
-ended : (c : tie.Else2 Inv-loop μ-loop) →
+ended : (c : Else2 Inv-loop μ-loop) →
     let a = c .before .before .before .args in
     Put (a .buf .now) (set (a .buf .now) (a .at - 1) (a .end)) (a .at - 1) (a .end ∷ drop (a .at) (a .buf .now))
 ended c = let a = c .before .before .before .args in put-one (a .end) (put-none (a .buf .now) (a .at) (omega arith)) (omega arith)
 
-loop-holds : tie.Need-loop-holds Inv-loop μ-loop
+loop-holds : Need-loop-holds Inv-loop μ-loop
 loop-holds c =
     let p = ended c in (
       record {
@@ -32,7 +29,7 @@ loop-holds c =
     )
 
 -- the whole field
-whole : (c : tie.After-loop Inv-loop μ-loop) →
+whole : (c : After-loop Inv-loop μ-loop) →
     let l = c .before in
     let a = l .before .before .before .before .args in
     Put (a .buf .now) (l .loop .buf) (l .loop .i) (bitsText (a .n) (a .end) (drop (a .at) (a .buf .now)))
@@ -41,9 +38,7 @@ whole c =
     put-on p (rw (p .written) at (hexes-last (c .before .loop .inv .0) (omega arith))) (omega arith)
 
 pub put-bits-spec : {M : Type 1} → statement M
-put-bits-spec =
-    tie.close
-    (tie.spec
+put-bits-spec = close (spec
     Inv-loop μ-loop (λ c. let a = c .before .before .args in puts-before 9 (bitsText (a .n) (a .end)) (a .buf .now) (a .at) (c .if1 .taken))
     (λ c. let a = c .before .before .before .args in puts-past 9 (bitsText (a .n) (a .end)) (a .buf .now) (a .at) (c .before .if1 .left) (c .if2 .taken))
     (λ c. omega arith) (λ c. omega arith) loop-holds

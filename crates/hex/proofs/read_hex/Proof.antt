@@ -1,19 +1,16 @@
 -- `hex::read_hex` meets its contract. The invariant: reading the digits left from the place i with the value v gives what was to be read. Assumes nothing.
 use Rattle.basis.proofs.Prelude.{_∙_, _≡_, sym, _*_, _+_, _-_, _<_, _≤_, suc, drop, getD, arith, le-ltb, lt-ltb}
 use Rattle.fields.specs.Fields.{hexValue, readHex}
-use Rattle.hex.proofs.Hex.{no-more, limit, digit-fits, none-read}
-use Rattle.hex.proofs.Places.{hex-at, hex-past}
-use Rattle.hex.proofs.read_hex.Statement.{statement}
-use Rattle.hex.proofs.read_hex.Tie as tie
+use Rattle.hex.proofs.{Hex.{no-more, limit, digit-fits, none-read}, Places.{hex-at, hex-past}, read_hex.{Statement.statement, Tie.{InvT-loop, MeasureT-loop, Else2, close, spec}}}
 
-abbrev Inv-loop : tie.InvT-loop
+abbrev Inv-loop : InvT-loop
 Inv-loop text start digits v₀ i₀ k₀ v i k = (k ≤ digits) × (v < limit k) × (readHex digits 0 (drop start text) ≡ readHex (digits - k) v (drop i text))
 
-abbrev μ-loop : tie.MeasureT-loop
+abbrev μ-loop : MeasureT-loop
 μ-loop text start digits v₀ i₀ k₀ v i k = digits - k
 
 -- a digit more fits, in 64 bits and in k + 1 digits
-fitting : (c : tie.Else2 Inv-loop μ-loop) →
+fitting : (c : Else2 Inv-loop μ-loop) →
     let l = c .before .before .before .before .before .loop in
     (16 * l .v + c .before .hex-value .result < 18446744073709551616) × (16 * l .v + c .before .hex-value .result < limit (l .k + 1))
 fitting c =
@@ -21,9 +18,7 @@ fitting c =
     digit-fits (l .loop .k) (l .loop .v) _ (omega (arith, l .before .before .pre)) (l .loop .inv .1) (omega arith)
 
 pub read-hex-spec : {M : Type 1} → statement M
-read-hex-spec =
-    tie.close
-    (tie.spec
+read-hex-spec = close (spec
     Inv-loop μ-loop (λ c. let all : c .before .args .digits - 0 ≡ c .before .args .digits = omega arith in (omega arith, none-read, rw all))
     -- the text's end
     (λ c.

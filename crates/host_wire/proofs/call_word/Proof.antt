@@ -1,12 +1,9 @@
 -- `host_wire::call_word` meets its contract: a line for each call. Assumes nothing.
 use Rattle.basis.proofs.Prelude.{needs}
-use Rattle.host_wire.proofs.call_word.Statement.{statement}
-use Rattle.host_wire.proofs.call_word.Tie as tie
+use Rattle.host_wire.proofs.call_word.{Statement.statement, Tie.{close, spec}}
 
 pub call-word-spec : {M : Type 1} → statement M
-call-word-spec =
-    tie.close
-    (tie.spec
+call-word-spec = close (spec
     (λ c. search needs) (λ c. search needs) (λ c. search needs) (λ c. search needs) (λ c. search needs) (λ c. search needs) (λ c. search needs)
     (λ c κs. search needs) (λ c. search needs) (λ c. search needs) (λ c. search needs) (λ c. search needs) (λ c. search needs) (λ c. search needs)
     -- a question

@@ -3,16 +3,15 @@ use Rattle.basis.proofs.Prelude.{_∙_, sym, refl, needs}
 use Rattle.phayaklit.proofs.Host.{laid}
 use Rattle.conversations.specs.Answering.{askedIn}
 use Rattle.sharing.proofs.Carrying.{unchanged, stays-refused}
-use Rattle.host_wire.proofs.change.Statement.{statement}
-use Rattle.host_wire.proofs.change.Tie as tie
+use Rattle.host_wire.proofs.change.{Statement.statement, Tie.{Need-carry-requires, Need-returns, Need-returns-2, close, spec}}
 
-carry-requires : tie.Need-carry-requires
+carry-requires : Need-carry-requires
 carry-requires c κs =
     let taken = c .before .before .before .before in
     rw (taken .unpack .ensures) (taken .before .before .before .pre .0)
 
 -- nothing was changed, and the words stay
-returns : tie.Need-returns
+returns : Need-returns
 returns c =
     let told = c .before in
     let answered = told .before .before .before in
@@ -22,7 +21,7 @@ returns c =
     let a = rw (taken .unpack .ensures) at (answered .carry .ensures) in
     (unchanged q (stays-refused q (start .args .power) (start .pre .1 .0) (start .pre .1 .1) (sym (told .changed-at .ensures) ∙ c .if1 .taken) a) (start .pre .0) a, ((λ l. l), (refl, told .changed-at .ensures)))
 
-returns-2 : tie.Need-returns-2
+returns-2 : Need-returns-2
 returns-2 c =
     let told = c .before .before .before .before in
     let answered = told .before .before .before in
@@ -30,4 +29,4 @@ returns-2 c =
     (rw (c .pack .ensures .back) (rw (taken .unpack .ensures) at (answered .carry .ensures)), ((λ _. laid _ _ (c .pack .ensures)), (refl, told .changed-at .ensures)))
 
 pub change-spec : {M : Type 1} → statement M
-change-spec = tie.close (tie.spec (λ c κs. search needs) carry-requires (λ c κs. search needs) returns (λ c κs. search needs) returns-2)
+change-spec = close (spec (λ c κs. search needs) carry-requires (λ c κs. search needs) returns (λ c κs. search needs) returns-2)

@@ -1,45 +1,41 @@
 -- `incoming::next` meets its contract. The invariant: what is kept and what has arrived make what all bytes read so far make. The measure
 -- is the turns that are left. Assumes nothing.
 use Rattle.basis.proofs.Prelude.{refl, [], false≢true, arith, needs}
-use Rattle.serving.specs.Serving.{between}
-use Rattle.serving.proofs.Coming.{Coming, comes, goes-on, is-whole}
-use Rattle.incoming.proofs.next.Statement.{statement}
-use Rattle.incoming.proofs.next.Tie as tie
+use Rattle.serving.{specs.Serving.between, proofs.Coming.{Coming, comes, goes-on, is-whole}}
+use Rattle.incoming.proofs.next.{Statement.statement, Tie.{InvT-loop, MeasureT-loop, Need-loop-holds, Need-advance-requires, Need-returns, Need-loop-again, Need-loop-again-2, close, spec}}
 
-abbrev Inv-loop : tie.InvT-loop
+abbrev Inv-loop : InvT-loop
 Inv-loop arrived₀ start end line₀ payload₀ gathered held frame₀ at₀ to₀ unsent₀ turns₀ arrived line payload frame at to unsent turns = Coming (between arrived₀ start end) arrived line payload frame at to
 
-abbrev μ-loop : tie.MeasureT-loop
+abbrev μ-loop : MeasureT-loop
 μ-loop arrived₀ start end line₀ payload₀ gathered held frame₀ at₀ to₀ unsent₀ turns₀ arrived line payload frame at to unsent turns = turns
 
-loop-holds : tie.Need-loop-holds Inv-loop μ-loop
+loop-holds : Need-loop-holds Inv-loop μ-loop
 loop-holds c = comes (c .opened .ensures) (c .before .before .pre)
 
-advance-requires : tie.Need-advance-requires Inv-loop μ-loop
+advance-requires : Need-advance-requires Inv-loop μ-loop
 advance-requires c κs = omega (arith, c .before .before .before .before .before .loop .inv .end-in, c .before .before .advance-arg2 .given)
 
-returns : tie.Need-returns Inv-loop μ-loop
+returns : Need-returns Inv-loop μ-loop
 returns c =
     let known = c .before in
     let went = known .before .before in
     is-whole (went .before .before .before .before .before .before .loop .inv) (rw (known .r .given .1) at (went .advance .ensures)) refl
 
-loop-again : tie.Need-loop-again Inv-loop μ-loop
+loop-again : Need-loop-again Inv-loop μ-loop
 loop-again c =
     let known = c .before .before .before .before in
     let went = known .before .before in
     goes-on (went .before .before .before .before .before .before .loop .inv) (rw (known .r2 .given .1) at (went .advance .ensures)) _ (omega (arith, c .before .wait .ensures, c .before .before .wait-arg .given))
 
-loop-again-2 : tie.Need-loop-again-2 Inv-loop μ-loop
+loop-again-2 : Need-loop-again-2 Inv-loop μ-loop
 loop-again-2 c =
     let known = c .before .before .before .before in
     let went = known .before .before in
     goes-on (went .before .before .before .before .before .before .loop .inv) (rw (known .r2 .given .1) at (went .advance .ensures)) _ (omega (arith, c .before .wait .ensures, c .before .before .wait-arg .given))
 
 pub next-spec : {M : Type 1} → statement M
-next-spec =
-    tie.close
-    (tie.spec
+next-spec = close (spec
     Inv-loop
     μ-loop
     (λ c κs. search needs)

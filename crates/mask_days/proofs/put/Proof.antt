@@ -1,26 +1,22 @@
 -- `mask_days::put` meets its contract: the first n ticked days are put, and those of the bits from i on are still to come. Assumes nothing.
 use Rattle.basis.proofs.Prelude.{_∙_, sym, _-_, _<_, arith}
 use lib.Count.{trailingZeros}
-use Rattle.mask_days.proofs.Ticking.{Ticking, Turn, begins, turn, goes-on, ends}
-use Rattle.mask_days.proofs.put.Statement.{statement}
-use Rattle.mask_days.proofs.put.Tie as tie
+use Rattle.mask_days.proofs.{Ticking.{Ticking, Turn, begins, turn, goes-on, ends}, put.{Statement.statement, Tie.{InvT-loop, MeasureT-loop, In-loop, close, spec}}}
 
-abbrev Inv-loop : tie.InvT-loop
+abbrev Inv-loop : InvT-loop
 Inv-loop base mask held left₀ i₀ n₀ days left i n = Ticking base mask held days left i n
 
-abbrev μ-loop : tie.MeasureT-loop
+abbrev μ-loop : MeasureT-loop
 μ-loop base mask held left₀ i₀ n₀ days left i n = 64 - i
 
-some : (c : tie.In-loop Inv-loop μ-loop) → 0 < c .before .loop .left
+some : (c : In-loop Inv-loop μ-loop) → 0 < c .before .loop .left
 some c = let ne = c .loop-test .taken in omega (arith, ne)
 
-known : (c : tie.In-loop Inv-loop μ-loop) → Turn (c .before .before .args .base) (c .before .loop .i) (c .before .loop .n) (trailingZeros 64 (c .before .loop .left))
+known : (c : In-loop Inv-loop μ-loop) → Turn (c .before .before .args .base) (c .before .loop .i) (c .before .loop .n) (trailingZeros 64 (c .before .loop .left))
 known c = turn (c .before .loop .inv) (some c)
 
 pub put-spec : {M : Type 1} → statement M
-put-spec =
-    tie.close
-    (tie.spec
+put-spec = close (spec
     Inv-loop μ-loop (λ c. begins (c .pre) (c .fits .mask .fits))
     -- i += zeros
     (λ c. record { fits = omega (arith, known c) })

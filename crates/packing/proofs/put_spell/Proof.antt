@@ -1,22 +1,16 @@
 -- `packing::put_spell` meets its contract: seven stores, where there is room. Assumes nothing.
 use Rattle.basis.proofs.Prelude.{sym, _+_, _<_, length, length-set, arith, needs}
-use Rattle.packing.specs.Blocks.{Put}
-use Rattle.packing.specs.Words.{spellWords, spellOf}
-use Rattle.packing.proofs.Blocks.{put-none}
-use Rattle.packing.proofs.Words.{spell-long, spell-back, spell-held, seven-stores}
-use Rattle.packing.proofs.put_spell.Statement.{statement}
-use Rattle.packing.proofs.put_spell.Tie as tie
+use Rattle.packing.specs.{Blocks.Put, Words.{spellWords, spellOf}}
+use Rattle.packing.proofs.{Blocks.put-none, Words.{spell-long, spell-back, spell-held, seven-stores}, put_spell.{Statement.statement, Tie.{Start, close, spec}}}
 
 -- where there is no room
-none : (c : tie.Start) → let a = c .args in length (a .out .now) < a .at + 7 → Put spellWords spellOf (a .s) (a .at) (a .out .now) (a .out .now)
+none : (c : Start) → let a = c .args in length (a .out .now) < a .at + 7 → Put spellWords spellOf (a .s) (a .at) (a .out .now) (a .out .now)
 none c h =
     let a = c .args in
     record { words = sym (put-none (a .at) (spellWords (a .s)) (a .out .now) (omega (arith, spell-long (a .s)))); back = spell-back (a .s) (spell-held (a .s) _ (c .good .0)) }
 
 pub put-spell-spec : {M : Type 1} → statement M
-put-spell-spec =
-    tie.close
-    (tie.spec
+put-spell-spec = close (spec
     (λ c. none (c .before .before) (omega arith)) (λ c. search needs) (λ c. none (c .before .before .before) (omega arith)) (λ c κs. search needs)
     (λ c κs. search needs) (λ c κs. search needs) (λ c κs. search needs)
     -- the stores

@@ -1,26 +1,20 @@
 -- `packing::put_spells` meets its contract. The loop's invariant: the words of the first i spells are put. Assumes nothing.
 use Rattle.basis.proofs.Prelude.{_≡_, sym, _*_, _-_, _≤_, length, arith, needs}
 use Rattle.spell.specs.Blank.{blank}
-use Rattle.packing.specs.Blocks.{written}
-use Rattle.packing.specs.Words.{spellWords, spellOf}
-use Rattle.packing.proofs.Blocks.{put-none, written-length, Putting, laid-none, laid-more, laid-length, laid-all}
-use Rattle.packing.proofs.Words.{spell-long}
-use Rattle.packing.proofs.put_spells.Statement.{statement}
-use Rattle.packing.proofs.put_spells.Tie as tie
+use Rattle.packing.specs.{Blocks.written, Words.{spellWords, spellOf}}
+use Rattle.packing.proofs.{Blocks.{put-none, written-length, Putting, laid-none, laid-more, laid-length, laid-all}, Words.spell-long, put_spells.{Statement.statement, Tie.{InvT-loop, MeasureT-loop, Start, close, spec}}}
 
-abbrev Inv-loop : tie.InvT-loop
+abbrev Inv-loop : InvT-loop
 Inv-loop out₀ spells i₀ out i = (i ≤ 1024) × Putting spellWords spellOf spells out₀ out i
 
-abbrev μ-loop : tie.MeasureT-loop
+abbrev μ-loop : MeasureT-loop
 μ-loop out₀ spells i₀ out i = 1024 - i
 
-all : (c : tie.Start Inv-loop μ-loop) → length (c .args .t1) ≡ 1024
+all : (c : Start Inv-loop μ-loop) → length (c .args .t1) ≡ 1024
 all c = search needs
 
 pub put-spells-spec : {M : Type 1} → statement M
-put-spells-spec =
-    tie.close
-    (tie.spec
+put-spells-spec = close (spec
     Inv-loop μ-loop
     (λ c.
     let a = c .before .before .args in

@@ -1,13 +1,9 @@
 -- `packing::spell_at` meets its contract. Assumes nothing.
 use Rattle.basis.proofs.Prelude.{_∙_, sym, arith, needs}
-use Rattle.packing.proofs.Words.{spell-at, spell-none}
-use Rattle.packing.proofs.spell_at.Statement.{statement}
-use Rattle.packing.proofs.spell_at.Tie as tie
+use Rattle.packing.proofs.{Words.{spell-at, spell-none}, spell_at.{Statement.statement, Tie.{close, spec}}}
 
 pub spell-at-spec : {M : Type 1} → statement M
-spell-at-spec =
-    tie.close
-    (tie.spec
+spell-at-spec = close (spec
     (λ c κs. search needs)
     (λ c. let a = c .before .before .before .args in c .blank .ensures ∙ sym (spell-none (a .words .now) (a .at) (omega arith))) (λ c. search needs)
     (λ c κs. search needs)

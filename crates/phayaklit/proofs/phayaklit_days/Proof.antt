@@ -1,7 +1,6 @@
 -- `phayaklit::phayaklit_days` meets its contract. Assumes nothing.
 use Rattle.basis.proofs.Prelude.{needs}
-use Rattle.phayaklit.proofs.phayaklit_days.Statement.{statement}
-use Rattle.phayaklit.proofs.phayaklit_days.Tie as tie
+use Rattle.phayaklit.proofs.phayaklit_days.{Statement.statement, Tie.{close, spec}}
 
 pub phayaklit-days-spec : {M : Type 1} → statement M
-phayaklit-days-spec = tie.close (tie.spec (λ c κs. search needs) (λ c κs. search needs) (λ c. search needs) (λ c. rw (c .answered .ensures) (c .before .before .before .days .ensures)))
+phayaklit-days-spec = close (spec (λ c κs. search needs) (λ c κs. search needs) (λ c. search needs) (λ c. rw (c .answered .ensures) (c .before .before .before .days .ensures)))

@@ -1,7 +1,6 @@
 -- `phayaklit::phayaklit_mask` meets its contract. Assumes nothing.
 use Rattle.basis.proofs.Prelude.{needs}
-use Rattle.phayaklit.proofs.phayaklit_mask.Statement.{statement}
-use Rattle.phayaklit.proofs.phayaklit_mask.Tie as tie
+use Rattle.phayaklit.proofs.phayaklit_mask.{Statement.statement, Tie.{close, spec}}
 
 pub phayaklit-mask-spec : {M : Type 1} → statement M
-phayaklit-mask-spec = tie.close (tie.spec (λ c κs. search needs) (λ c κs. search needs) (λ c. search needs) (λ c. λ days. rw (c .answered .ensures) (c .before .before .before .mask .ensures days)))
+phayaklit-mask-spec = close (spec (λ c κs. search needs) (λ c κs. search needs) (λ c. search needs) (λ c. λ days. rw (c .answered .ensures) (c .before .before .before .mask .ensures days)))

@@ -1,13 +1,9 @@
 -- `phayaklit::phayaklit_publish` meets its contract. Assumes nothing.
-use Rattle.phayaklit.proofs.Host.{held, published}
+use Rattle.phayaklit.proofs.{Host.{held, published}, phayaklit_publish.{Statement.statement, Tie.{close, spec}}}
 use Rattle.basis.proofs.Prelude.{needs}
-use Rattle.phayaklit.proofs.phayaklit_publish.Statement.{statement}
-use Rattle.phayaklit.proofs.phayaklit_publish.Tie as tie
 
 pub phayaklit-publish-spec : {M : Type 1} → statement M
-phayaklit-publish-spec =
-    tie.close
-    (tie.spec
+phayaklit-publish-spec = close (spec
     (λ c κs. search needs)
     (λ c κs. held _ _ (c .before .unpack .ensures) (c .before .before .pre))
     (λ c κs. search needs)

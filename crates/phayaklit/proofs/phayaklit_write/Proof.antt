@@ -1,13 +1,9 @@
 -- `phayaklit::phayaklit_write` meets its contract. Assumes nothing.
-use Rattle.phayaklit.proofs.Host.{held}
+use Rattle.phayaklit.proofs.{Host.held, phayaklit_write.{Statement.statement, Tie.{close, spec}}}
 use Rattle.basis.proofs.Prelude.{needs}
-use Rattle.phayaklit.proofs.phayaklit_write.Statement.{statement}
-use Rattle.phayaklit.proofs.phayaklit_write.Tie as tie
 
 pub phayaklit-write-spec : {M : Type 1} → statement M
-phayaklit-write-spec =
-    tie.close
-    (tie.spec
+phayaklit-write-spec = close (spec
     (λ c κs. search needs)
     (λ c κs. held _ _ (c .before .unpack .ensures) (c .before .before .before .pre))
     (λ c κs. search needs) (λ c. search needs)

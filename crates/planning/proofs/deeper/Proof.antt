@@ -1,12 +1,9 @@
 -- `planning::deeper` meets its contract. Assumes nothing.
 use Rattle.basis.proofs.Prelude.{arith, le-leb, lt-leb, not-false, not-true}
-use Rattle.planning.proofs.deeper.Statement.{statement}
-use Rattle.planning.proofs.deeper.Tie as tie
+use Rattle.planning.proofs.deeper.{Statement.statement, Tie.{close, spec}}
 
 pub deeper-spec : {M : Type 1} → statement M
-deeper-spec =
-    tie.close
-    (tie.spec
+deeper-spec = close (spec
     (λ c. rw (not-true (c .before .args .notes) (c .if1 .taken)))
     (λ c. rw (not-false (c .before .before .args .notes) (c .before .if1 .left), le-leb _ _ (c .if2 .taken)))
     (λ c. omega arith) (λ c. rw (not-false (c .before .before .args .notes) (c .before .if1 .left), lt-leb _ _ (c .if2 .left))))

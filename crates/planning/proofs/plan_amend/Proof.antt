@@ -1,13 +1,9 @@
 -- `planning::plan_amend` meets its contract. Assumes nothing.
 use Rattle.basis.proofs.Prelude.{_∙_, _≡_, ap, sym, needs, eq-eqb, ne-eqb}
-use Rattle.planning.proofs.Names.{Plan, Sound, refusalOf, amendCheck}
-use Rattle.planning.proofs.Held.{sound}
-use Rattle.planning.proofs.Checks.{amend-checked, own-passes}
-use Rattle.planning.proofs.plan_amend.Statement.{statement}
-use Rattle.planning.proofs.plan_amend.Tie as tie
+use Rattle.planning.proofs.{Names.{Plan, Sound, refusalOf, amendCheck}, Held.sound, Checks.{amend-checked, own-passes}, plan_amend.{Statement.statement, Tie.{After-first-of, Else1, close, spec}}}
 
 -- what the checks give
-checked : (c : tie.After-first-of) → let a = c .before .before .before .args in c .first-of .result ≡ amendCheck (a .s) (a .p) (a .n)
+checked : (c : After-first-of) → let a = c .before .before .before .args in c .first-of .result ≡ amendCheck (a .s) (a .p) (a .n)
 checked c =
     let unknown = c .before in
     let own = unknown .before in
@@ -15,15 +11,13 @@ checked c =
     amend-checked (a .s) (a .p) (a .n) (own .refusal-of .ensures) (unknown .refusal-if .ensures) (c .first-of .ensures)
 
 -- so a spell that passes them is sound
-taken : (c : tie.Else1) → Sound (c .before .before .before .before .args .s)
+taken : (c : Else1) → Sound (c .before .before .before .before .args .s)
 taken c =
     let start = c .before .before .before .before in
     sound (start .args .s) _ (start .good .0) (own-passes (refusalOf (start .args .s)) _ (sym (checked (c .before)) ∙ c .if1 .left))
 
 pub plan-amend-spec : {M : Type 1} → statement M
-plan-amend-spec =
-    tie.close
-    (tie.spec
+plan-amend-spec = close (spec
     (λ c κs. search needs) (λ c κs. search needs) (λ c κs. search needs) (λ c κs. search needs)
     -- refused
     (λ c.

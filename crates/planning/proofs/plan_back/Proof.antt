@@ -1,12 +1,9 @@
 -- `planning::plan_back` meets its contract. Assumes nothing.
 use Rattle.basis.proofs.Prelude.{arith, needs, eq-eqb, ne-eqb}
-use Rattle.planning.proofs.plan_back.Statement.{statement}
-use Rattle.planning.proofs.plan_back.Tie as tie
+use Rattle.planning.proofs.plan_back.{Statement.statement, Tie.{close, spec}}
 
 pub plan-back-spec : {M : Type 1} → statement M
-plan-back-spec =
-    tie.close
-    (tie.spec
+plan-back-spec = close (spec
     -- no past
     (λ c κs. search needs) (λ c. rw (eq-eqb _ _ (c .before .if1 .taken)) (c .unplanned .ensures))
     (λ c. omega (arith, c .before .if1 .left)) (λ c. rw (ne-eqb _ _ (c .before .if1 .left))))

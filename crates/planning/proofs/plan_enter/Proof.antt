@@ -1,13 +1,9 @@
 -- `planning::plan_enter` meets its contract. Assumes nothing.
 use Rattle.basis.proofs.Prelude.{_∙_, _≡_, ap, sym, needs, eq-eqb, ne-eqb}
-use Rattle.planning.proofs.Names.{Plan, refusalOf, enterCheck}
-use Rattle.planning.proofs.Held.{sound}
-use Rattle.planning.proofs.Checks.{enter-checked, own-passes}
-use Rattle.planning.proofs.plan_enter.Statement.{statement}
-use Rattle.planning.proofs.plan_enter.Tie as tie
+use Rattle.planning.proofs.{Names.{Plan, refusalOf, enterCheck}, Held.sound, Checks.{enter-checked, own-passes}, plan_enter.{Statement.statement, Tie.{After-first-of2, close, spec}}}
 
 -- what the checks give
-checked : (c : tie.After-first-of2) → let a = c .before .before .before .before .before .args in c .first-of2 .result ≡ enterCheck (a .s) (a .p) (a .n)
+checked : (c : After-first-of2) → let a = c .before .before .before .before .before .args in c .first-of2 .result ≡ enterCheck (a .s) (a .p) (a .n)
 checked c =
     let own = c .before .before in
     let most = own .before in
@@ -16,9 +12,7 @@ checked c =
     enter-checked (a .s) (a .p) (a .n) (own .refusal-of .ensures) (taken .refusal-if .ensures) (most .refusal-if2 .ensures) (c .before .first-of .ensures) (c .first-of2 .ensures)
 
 pub plan-enter-spec : {M : Type 1} → statement M
-plan-enter-spec =
-    tie.close
-    (tie.spec
+plan-enter-spec = close (spec
     (λ c κs. search needs) (λ c κs. search needs) (λ c κs. search needs) (λ c κs. search needs) (λ c κs. search needs) (λ c κs. search needs)
     -- refused
     (λ c.

@@ -1,15 +1,10 @@
 -- `planning::planned` meets its contract. Assumes nothing.
 use Rattle.basis.proofs.Prelude.{needs}
-use Rattle.planning.proofs.Names.{planOf, Takes}
-use Rattle.planning.proofs.Calls.{as-planned}
-use Rattle.planning.proofs.planned.Statement.{statement}
-use Rattle.planning.proofs.planned.Tie as tie
+use Rattle.planning.proofs.{Names.{planOf, Takes}, Calls.as-planned, planned.{Statement.statement, Tie.{close, spec}}}
 
 pub planned-spec : {M : Type 1} → statement M
 unfolding planOf Takes
-planned-spec =
-    tie.close
-    (tie.spec
+planned-spec = close (spec
     (λ c. search needs) (λ c κs. search needs) (λ c. search needs) (λ c κs. search needs) (λ c. search needs) (λ c κs. search needs) (λ c. search needs)
     (λ c κs. search needs) (λ c. search needs) (λ c κs. search needs) (λ c. search needs) (λ c κs. search needs) (λ c. search needs) (λ c κs. search needs)
     -- enter, amend, strike

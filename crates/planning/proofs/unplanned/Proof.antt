@@ -1,7 +1,6 @@
 -- `planning::unplanned` meets its contract. Assumes nothing.
 use Rattle.basis.proofs.Prelude.{needs}
-use Rattle.planning.proofs.unplanned.Statement.{statement}
-use Rattle.planning.proofs.unplanned.Tie as tie
+use Rattle.planning.proofs.unplanned.{Statement.statement, Tie.{close, spec}}
 
 pub unplanned-spec : {M : Type 1} → statement M
-unplanned-spec = tie.close (tie.spec (λ c κs. search needs) (λ c κs. search needs) (λ c. rw (c .before .blank .ensures, c .none .ensures)))
+unplanned-spec = close (spec (λ c κs. search needs) (λ c κs. search needs) (λ c. rw (c .before .blank .ensures, c .none .ensures)))

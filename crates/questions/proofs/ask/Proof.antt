@@ -1,13 +1,9 @@
 -- `questions::ask` meets its contract: each question's own postcondition is that of `ask`. Assumes nothing.
 use Rattle.basis.proofs.Prelude.{needs}
-use Rattle.questions.proofs.Asking.{as-question}
-use Rattle.questions.proofs.ask.Statement.{statement}
-use Rattle.questions.proofs.ask.Tie as tie
+use Rattle.questions.proofs.{Asking.as-question, ask.{Statement.statement, Tie.{close, spec}}}
 
 pub ask-spec : {M : Type 1} → statement M
-ask-spec =
-    tie.close
-    (tie.spec
+ask-spec = close (spec
     (λ c. search needs) (λ c κs. search needs)
     (λ c. search needs) (λ c κs. search needs)
     (λ c. search needs) (λ c κs. search needs)

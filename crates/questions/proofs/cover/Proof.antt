@@ -1,23 +1,12 @@
 -- `questions::cover` meets its contract: the rows' question answers as the account does. Assumes nothing.
 use Rattle.basis.proofs.Prelude.{_∙_, _≡_, ap, refl, sym, _<_, suc, zero, ℕ, List, [], _∷_, Bool, true, eqb, List·getD-map, getD, length, length-map, arith, eq-eqb, eqb-true, ne-eqb, by-mark, needs}
 use Rattle.refusal.specs.Table.{unknownNumber}
-use Rattle.spell.specs.declared.Spell.{Spell}
-use Rattle.spell.specs.Blank.{blank}
-use Rattle.spell.specs.Listing.{distinct}
-use Rattle.stabbing.specs.Tree.{below}
-use Rattle.stabbing.specs.Index.{named}
-use Rattle.stabbing.specs.Answer.{covering, coverOf}
-use Rattle.stabbing.proofs.Marks.{Below, below-is}
-use Rattle.model.specs.Questions.{firstsOf, lastsOf}
-use Rattle.model.specs.declared.Question.the-variants.{Cover}
-use Rattle.model.specs.Effects.{State, Request, Effect, refused, settle}
-use Rattle.model.specs.Model.{reaching, cover, ask}
+use Rattle.spell.specs.{declared.Spell.Spell, Blank.blank, Listing.distinct}
+use Rattle.stabbing.{specs.{Tree.below, Index.named, Answer.{covering, coverOf}}, proofs.Marks.{Below, below-is}}
+use Rattle.model.specs.{Questions.{firstsOf, lastsOf}, declared.Question.the-variants.Cover, Effects.{State, Request, Effect, refused, settle}, Model.{reaching, cover, ask}}
 use Rattle.outcomes.proofs.Answers.{told}
-use Rattle.published_index.proofs.Numbers.{numbersOf, number-at, differ}
-use Rattle.published_index.proofs.Shown.{published-built}
-use Rattle.questions.proofs.Asking.{Tells, rows-asked, question-told}
-use Rattle.questions.proofs.cover.Statement.{statement}
-use Rattle.questions.proofs.cover.Tie as tie
+use Rattle.published_index.proofs.{Numbers.{numbersOf, number-at, differ}, Shown.published-built}
+use Rattle.questions.proofs.{Asking.{Tells, rows-asked, question-told}, cover.{Statement.statement, Tie.{close, spec}}}
 
 module _ (m : State) (q : Request) where
   abbrev rows : List Spell
@@ -56,7 +45,7 @@ cover-tells : {k : ℕ} → Tells (Cover k) (λ _ ns fs ls. coverOf ns fs ls k)
 cover-tells {k} = record { tells = λ m q d. cover-told m q k d }
 
 pub cover-spec : {M : Type 1} → statement M
-cover-spec = tie.close (tie.spec
+cover-spec = close (spec
     (λ c κs. published-built (c .before .before .pre))  -- stabbing_query::cover(index, number, numbers)
     (λ c κs. search needs) (λ c. search needs)
     (λ c days. rows-asked cover-tells (c .found .ensures) (c .before .before .before .cover .ensures)))

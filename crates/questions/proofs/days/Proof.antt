@@ -1,19 +1,11 @@
 -- `questions::days` meets its contract: the rows' question answers as the account does. Assumes nothing.
 use Rattle.basis.proofs.Prelude.{_∙_, _≡_, refl, ℕ, List, [], _∷_, true, List·getD-map, getD, lt-ltb, both, by-test, needs}
-use Rattle.spell.specs.declared.Spell.{Spell}
-use Rattle.calendar.specs.Calendar.{isDay, daysOk}
-use Rattle.calendar.proofs.Calendar.{dated}
-use Rattle.spell.specs.Blank.{blank}
+use Rattle.spell.specs.{declared.Spell.Spell, Blank.blank}
+use Rattle.calendar.{specs.Calendar.{isDay, daysOk}, proofs.Calendar.dated}
 use Rattle.stabbing.specs.Answer.{risingFrom, meets, containsAny, daysOf}
-use Rattle.model.specs.Questions.{onAny, rising, firstsOf, lastsOf}
-use Rattle.model.specs.declared.Question.the-variants.{Days}
-use Rattle.model.specs.Effects.{settle}
-use Rattle.model.specs.Model.{ask}
-use Rattle.model.proofs.Bridge.{Agree, agree}
+use Rattle.model.{specs.{Questions.{onAny, rising, firstsOf, lastsOf}, declared.Question.the-variants.Days, Effects.settle, Model.ask}, proofs.Bridge.{Agree, agree}}
 use Rattle.published_index.proofs.Shown.{published-built}
-use Rattle.questions.proofs.Asking.{Tells, rows-asked, several-told}
-use Rattle.questions.proofs.days.Statement.{statement}
-use Rattle.questions.proofs.days.Tie as tie
+use Rattle.questions.proofs.{Asking.{Tells, rows-asked, several-told}, days.{Statement.statement, Tie.{close, spec}}}
 
 -- ---- The test of several days by the columns is the test of the spells
 
@@ -55,7 +47,7 @@ days-tells = record {
 }
 
 pub days-spec : {M : Type 1} → statement M
-days-spec = tie.close (tie.spec
+days-spec = close (spec
     (λ c κs. published-built (c .before .before .before .pre))  -- stabbing_days::days(index, days, numbers)
     (λ c κs. search needs) (λ c. search needs)
     (λ c. rows-asked days-tells (c .found .ensures) (c .before .before .before .days .ensures)))

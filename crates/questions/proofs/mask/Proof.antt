@@ -2,17 +2,11 @@
 use Rattle.basis.proofs.Prelude.{_∙_, _≡_, ap, sym, ℕ, List, false, length, length-take-le, needs}
 use Rattle.refusal.specs.Table.{offCalendar}
 use Rattle.calendar.specs.Calendar.{daysOk}
-use Rattle.masks.specs.Masks.{ticks}
-use Rattle.masks.proofs.Claims.{Given, all-gives, off-gives}
-use Rattle.model.specs.declared.Call.the-variants.{Ask}
-use Rattle.model.specs.declared.Question.the-variants.{Days, Mask}
-use Rattle.model.proofs.Masks.{ticking, mask-off, mask-as-days}
-use Rattle.outcomes.specs.declared.Outcome.{Outcome}
-use Rattle.outcomes.specs.Outcomes.{toldOf, tickingOf, asking}
-use Rattle.outcomes.proofs.Answers.{ticking-told}
+use Rattle.masks.{specs.Masks.ticks, proofs.Claims.{Given, all-gives, off-gives}}
+use Rattle.model.{specs.declared.{Call.the-variants.Ask, Question.the-variants.{Days, Mask}}, proofs.Masks.{ticking, mask-off, mask-as-days}}
+use Rattle.outcomes.{specs.{declared.Outcome.Outcome, Outcomes.{toldOf, tickingOf, asking}}, proofs.Answers.ticking-told}
 use Rattle.questions.specs.Asked.{Asked}
-use Rattle.questions.proofs.mask.Statement.{statement}
-use Rattle.questions.proofs.mask.Tie as tie
+use Rattle.questions.proofs.mask.{Statement.statement, Tie.{After-n, Need-returns, Need-returns-2, close, spec}}
 
 module _ {ix : List ℕ} {b k : ℕ} {days ns : List ℕ} where
   -- a ticked day off the calendar
@@ -30,25 +24,23 @@ module _ {ix : List ℕ} {b k : ℕ} {days ns : List ℕ} where
   }
 
 -- all ticked days are on the calendar
-on : (c : tie.After-n) →
+on : (c : After-n) →
     let a = c .before .before .before .before .before .args in
     Given (a .base) (a .mask) (c .n .given .0 .0) (c .before .before .ticked2 .last .1 .1 .0)
 on c = all-gives (c .before .before .ticked2 .ensures) (c .n .given .1)
 
 -- let Ticks::All(n) = masks::ticked(base, mask, &mut ticked) else
-off : tie.Need-returns
+off : Need-returns
 off c days = mask-off-asked (off-gives (c .before .before .before .ticked2 .ensures) (c .before .enum-told .given .1)) (c .told .ensures)
 
 -- ticking(days(index, &ticked[..n], numbers), n)
-asked : tie.Need-returns-2
+asked : Need-returns-2
 asked c days =
     let d = c .before .before .before .before .before .before .before in
     mask-asked (on d .first) (on d .number) (c .before .before .before .days .ensures) (c .ticking .ensures)
 
 pub mask-spec : {M : Type 1} → statement M
-mask-spec =
-    tie.close
-    (tie.spec
+mask-spec = close (spec
     (λ c κs. search needs) (λ c. search needs) (λ c. search needs) (λ c κs. search needs)
     off
     (λ c. on (c .before) .inside)

@@ -2,13 +2,9 @@
 use Rattle.basis.proofs.Prelude.{ℕ, _&&_, leb, by-test, needs}
 use Rattle.calendar.specs.Calendar.{isDay}
 use Rattle.stabbing.specs.Answer.{spanOf}
-use Rattle.model.specs.declared.Question.the-variants.{Span}
-use Rattle.model.specs.Effects.{settle}
-use Rattle.model.specs.Model.{ask}
+use Rattle.model.specs.{declared.Question.the-variants.Span, Effects.settle, Model.ask}
 use Rattle.published_index.proofs.Shown.{published-built}
-use Rattle.questions.proofs.Asking.{Tells, rows-asked, question-told}
-use Rattle.questions.proofs.span.Statement.{statement}
-use Rattle.questions.proofs.span.Tie as tie
+use Rattle.questions.proofs.{Asking.{Tells, rows-asked, question-told}, span.{Statement.statement, Tie.{close, spec}}}
 
 span-tells : {a b : ℕ} → Tells (Span a b) (λ _ ns fs ls. spanOf ns fs ls a b)
 unfolding spanOf ask settle
@@ -19,7 +15,7 @@ span-tells {a} {b} = record {
 }
 
 pub span-spec : {M : Type 1} → statement M
-span-spec = tie.close (tie.spec
+span-spec = close (spec
     (λ c κs. published-built (c .before .before .pre))  -- stabbing_query::span(index, a, b, numbers)
     (λ c κs. search needs) (λ c. search needs)
     (λ c days. rows-asked span-tells (c .found .ensures) (c .before .before .before .span .ensures)))

@@ -1,19 +1,14 @@
 -- `readings::reading_of` meets its contract. Assumes nothing.
 use Rattle.basis.proofs.Prelude.{_∙_, _≡_, refl, sym, needs, le-ltb, lt-ltb}
-use lib.Ieee.{nan, binary32, div, ofBits}
-use lib.Ieee.Bits.{nanBits-is, nanBits-above}
-use Rattle.readings.proofs.Floats.{is-nan}
-use Rattle.readings.proofs.reading_of.Statement.{statement}
-use Rattle.readings.proofs.reading_of.Tie as tie
+use lib.Ieee.{nan, binary32, div, ofBits, Bits.{nanBits-is, nanBits-above}}
+use Rattle.readings.proofs.{Floats.is-nan, reading_of.{Statement.statement, Tie.{close, spec}}}
 
 no-number : div binary32 (ofBits binary32 0) (ofBits binary32 0) ≡ nan
 unfolding div ofBits
 no-number = refl
 
 pub reading-of-spec : {M : Type 1} → statement M
-reading-of-spec =
-    tie.close
-    (tie.spec
+reading-of-spec = close (spec
     (λ c.
     let n = c .before .args .n in
     no-number ∙ sym (is-nan (ofBits binary32 n) (rw (sym (nanBits-is binary32 n) ∙ nanBits-above binary32 n ∙ lt-ltb _ _ (c .if1 .taken)) tt)))

@@ -1,14 +1,11 @@
 -- `register_line::read_letter` meets its contract. Assumes nothing.
 use Rattle.basis.proofs.Prelude.{_∙_, _≡_, sym, _+_, true, drop, getD, arith, needs, not-false, not-true}
-use Rattle.fields.specs.Fields.{passed, isAt}
+use Rattle.fields.{specs.Fields.{passed, isAt}, proofs.Places.{at-inside, passed-not, passed-at}}
 use Rattle.register.specs.Text.{readLetter}
-use Rattle.fields.proofs.Places.{at-inside, passed-not, passed-at}
-use Rattle.register_line.proofs.Places.{letter-past, letter-other, letter-at}
-use Rattle.register_line.proofs.read_letter.Statement.{statement}
-use Rattle.register_line.proofs.read_letter.Tie as tie
+use Rattle.register_line.proofs.{Places.{letter-past, letter-other, letter-at}, read_letter.{Statement.statement, Tie.{Else2, Else3, close, spec}}}
 
 -- past the letter
-lettered : (c : tie.Else2) →
+lettered : (c : Else2) →
     let a = c .before .before .before .before .before .args in
     readLetter (drop (a .at) (a .text .now)) ≡ passed 9 (getD (a .text .now) (a .at) 0) (drop (a .at + 1) (a .text .now))
 lettered c =
@@ -16,13 +13,11 @@ lettered c =
     letter-at (a .text .now) (a .at) (omega arith) (sym (c .before .is-letter .ensures) ∙ not-false _ (c .if2 .left))
 
 -- the tab is there
-tabbed : (c : tie.Else3) → let a = c .before .before .before .before .before .before .before .args in isAt (a .text .now) (a .at + 1) 9 ≡ true
+tabbed : (c : Else3) → let a = c .before .before .before .before .before .before .before .args in isAt (a .text .now) (a .at + 1) 9 ≡ true
 tabbed c = sym (c .before .is-at .ensures) ∙ not-false _ (c .if3 .left)
 
 pub read-letter-spec : {M : Type 1} → statement M
-read-letter-spec =
-    tie.close
-    (tie.spec
+read-letter-spec = close (spec
     (λ c. let a = c .before .before .args in sym (letter-past (a .text .now) (a .at) (omega arith))) (λ c. search needs) (λ c κs. search needs)
     (λ c.
     let a = c .before .before .before .before .before .args in

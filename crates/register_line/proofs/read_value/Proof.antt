@@ -1,19 +1,15 @@
 -- `register_line::read_value` meets its contract. Assumes nothing.
 use Rattle.basis.proofs.Prelude.{ap, refl, ℕ, drop, arith, needs, eq-eqb, ne-eqb}
 use Rattle.spell.specs.declared.Urgency.the-variants.{Grade, Reading}
-use Rattle.fields.specs.Fields.{found, unreadable}
-use Rattle.fields.proofs.Places.{reads-as, said, field-next, length-next}
+use Rattle.fields.{specs.Fields.{found, unreadable}, proofs.Places.{reads-as, said, field-next, length-next}}
 use Rattle.hex.proofs.Hex.{write-bits}
 use Rattle.register_line.specs.declared.Kind.the-variants.{Value}
 use Rattle.register.specs.Text.{readValue}
-use Rattle.register_line.proofs.read_value.Statement.{statement}
-use Rattle.register_line.proofs.read_value.Tie as tie
+use Rattle.register_line.proofs.read_value.{Statement.statement, Tie.{close, spec}}
 
 pub read-value-spec : {M : Type 1} → statement M
 unfolding readValue
-read-value-spec =
-    tie.close
-    (tie.spec
+read-value-spec = close (spec
     (λ c κs. search needs) (λ c. search needs) (λ c. search needs)
     (λ c. let r = c .before .before in reads-as unreadable (rw (eq-eqb _ _ (r .before .if1 .taken), said (r .read-number .ensures) (c .enum-told .given .1))) refl refl)
     -- a grade

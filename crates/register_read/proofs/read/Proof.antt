@@ -1,19 +1,14 @@
 -- `register_read::read` meets its contract. The invariant is `State`: reading the rest after the spells so far gives what was to be read. Assumes nothing.
 use Rattle.basis.proofs.Prelude.{_∙_, _≡_, ap, sym, _+_, _-_, _<_, ℕ, false, true, getD-replicate, length-replicate, arith, needs, not-false, not-true}
-use Rattle.spell.specs.Entry.{refusalOf}
-use Rattle.spell.specs.Order.{earlierOf}
+use Rattle.spell.specs.{Entry.refusalOf, Order.earlierOf}
 use Rattle.fields.proofs.Places.{said}
-use Rattle.register.specs.declared.Reading.{Reading}
-use Rattle.register.specs.Text.{Register, bad}
-use Rattle.register.specs.Answers.{readingOf}
-use Rattle.register_read.proofs.Progress.{State, Next, text-long, begin, is-malformed, refuses-entry, refuses-taken, refuses-misplaced, refuses-full, goes-on, gives}
-use Rattle.register_read.proofs.read.Statement.{statement}
-use Rattle.register_read.proofs.read.Tie as tie
+use Rattle.register.specs.{declared.Reading.Reading, Text.{Register, bad}, Answers.readingOf}
+use Rattle.register_read.proofs.{Progress.{State, Next, text-long, begin, is-malformed, refuses-entry, refuses-taken, refuses-misplaced, refuses-full, goes-on, gives}, read.{Statement.statement, Tie.{InvT-loop, MeasureT-loop, After-known-told, After-struct-known, Else4, Else5, close, spec}}}
 
-abbrev Inv-loop : tie.InvT-loop
+abbrev Inv-loop : InvT-loop
 Inv-loop text spells₀ seen₀ before₀ count₀ at₀ spells seen before count at = State text spells seen before count at
 
-abbrev μ-loop : tie.MeasureT-loop
+abbrev μ-loop : MeasureT-loop
 μ-loop text spells₀ seen₀ before₀ count₀ at₀ spells seen before count at = 1024 - count
 
 -- the answer of what a text is read as
@@ -21,29 +16,27 @@ answers : {r : Reading} {f g : Register} → r ≡ readingOf g → f ≡ g → r
 answers e h = e ∙ sym (ap readingOf h)
 
 -- the line that was read
-line : (c : tie.After-known-told Inv-loop μ-loop) →
+line : (c : After-known-told Inv-loop μ-loop) →
     let l = c .before .before .before .before .before in
     Next (l .before .before .before .before .args .text .now) (l .loop .at) (c .before .s .given .0 .0) (c .before .s .given .0 .1 .0)
 line c = record { line = said (c .before .before .before .read-line .ensures) (c .before .s .given .1) }
 
 -- it passes the checks 1 to 5, and its number has a place
-entered : (c : tie.After-struct-known Inv-loop μ-loop) → let s = c .before .before .before .before .s .given .0 .0 in (refusalOf s ≡ 0) × (s .number < 65536)
+entered : (c : After-struct-known Inv-loop μ-loop) → let s = c .before .before .before .before .s .given .0 .0 in (refusalOf s ≡ 0) × (s .number < 65536)
 entered c = (sym (c .before .before .refusal-of .ensures) ∙ c .before .if2 .left, search needs)
 
 -- it is after the one before
-after : (c : tie.Else4 Inv-loop μ-loop) →
+after : (c : Else4 Inv-loop μ-loop) →
     let l = c .before .before .before .before .before .before .before .before .before .before .before in
     earlierOf (l .loop .before) (c .before .before .before .before .before .before .before .s .given .0 .0) ≡ true
 after c = sym (c .before .earlier .ensures) ∙ not-false _ (c .if4 .left)
 
 -- a line more has room
-few : (c : tie.Else5 Inv-loop μ-loop) → c .before .before .before .before .before .before .before .before .before .before .before .before .loop .count < 1024
+few : (c : Else5 Inv-loop μ-loop) → c .before .before .before .before .before .before .before .before .before .before .before .before .loop .count < 1024
 few c = let l = c .before .before .before .before .before .before .before .before .before .before .before .before in omega (arith, l .loop .inv .few, c .if5 .left)
 
 pub read-spec : {M : Type 1} → statement M
-read-spec =
-    tie.close
-    (tie.spec
+read-spec = close (spec
     Inv-loop μ-loop (λ c κs. tt) (λ c. answers (c .refuse .ensures) (text-long _ (c .before .if1 .taken))) (λ c κs. tt)
     -- the loop begins
     (λ c. begin _ _ _ (c .before .if1 .left) (c .blank .ensures) (length-replicate 65536 false) (λ k l. getD-replicate 65536 k false false l))

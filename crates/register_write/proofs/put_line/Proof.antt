@@ -1,16 +1,11 @@
 -- `register_write::put_line` meets its contract. Assumes nothing.
 use Rattle.basis.proofs.Prelude.{_≤_, drop, length-drop, arith}
-use Rattle.register.specs.Text.{lineText}
-use Rattle.register.proofs.Widths.{urgency-width}
-use Rattle.register_write.proofs.Backward.{ends-place, one-number}
-use Rattle.register_write.proofs.put_line.Statement.{statement}
-use Rattle.register_write.proofs.put_line.Tie as tie
+use Rattle.register.{specs.Text.lineText, proofs.Widths.urgency-width}
+use Rattle.register_write.proofs.{Backward.{ends-place, one-number}, put_line.{Statement.statement, Tie.{close, spec}}}
 
 pub put-line-spec : {M : Type 1} → statement M
 unfolding lineText
-put-line-spec =
-    tie.close
-    (tie.spec
+put-line-spec = close (spec
     (λ c κs. let room = c .before .pre in record { sized = room .sized; inside = room .inside; wide = omega (arith, room .wide) }) (λ c κs. tt)
     (λ c κs. tt) (λ c κs. tt) (λ c κs. tt)
     (λ c.

@@ -1,14 +1,10 @@
 -- `register_write::put_urgency` meets its contract. Assumes nothing.
 use Rattle.basis.proofs.Prelude.{arith, needs}
 use Rattle.fields.proofs.Puts.{number-put, bits-put}
-use Rattle.register_write.proofs.Backward.{put-ends, two-more}
-use Rattle.register_write.proofs.put_urgency.Statement.{statement}
-use Rattle.register_write.proofs.put_urgency.Tie as tie
+use Rattle.register_write.proofs.{Backward.{put-ends, two-more}, put_urgency.{Statement.statement, Tie.{close, spec}}}
 
 pub put-urgency-spec : {M : Type 1} → statement M
-put-urgency-spec =
-    tie.close
-    (tie.spec
+put-urgency-spec = close (spec
     (λ c. search needs) (λ c κs. tt) (λ c κs. tt) (λ c κs. tt) (λ c. search needs) (λ c κs. tt) (λ c κs. tt) (λ c κs. tt) (λ c κs. tt)
     -- a grade
     (λ c.

@@ -3,35 +3,31 @@ use Rattle.basis.proofs.Prelude.{_≡_, ap, _-_, ℕ, drop, length, length-drop
 use Rattle.register.specs.Text.{writeAll}
 use Rattle.spell.specs.Blank.{blank}
 use Rattle.register_write.specs.Contracts.{Ends}
-use Rattle.register_write.proofs.Backward.{Back, back-start, back-room, back-step, too-short, copied}
-use Rattle.register_write.proofs.write.Statement.{statement}
-use Rattle.register_write.proofs.write.Tie as tie
+use Rattle.register_write.proofs.{Backward.{Back, back-start, back-room, back-step, too-short, copied}, write.{Statement.statement, Tie.{InvT-loop, MeasureT-loop, Start, After-loop, Else1, close, spec}}}
 
-abbrev Inv-loop : tie.InvT-loop
+abbrev Inv-loop : InvT-loop
 Inv-loop count out spells buf₀ at₀ i₀ buf at i = Back (take count spells) buf at i
 
-abbrev μ-loop : tie.MeasureT-loop
+abbrev μ-loop : MeasureT-loop
 μ-loop count out spells buf₀ at₀ i₀ buf at i = i
 
-whole : (c : tie.Start Inv-loop μ-loop) → length (c .args .t1) ≡ 1024
+whole : (c : Start Inv-loop μ-loop) → length (c .args .t1) ≡ 1024
 whole c = search (unmapped, needs)
 
 -- the whole text stands at the end
-all : (c : tie.After-loop Inv-loop μ-loop) →
+all : (c : After-loop Inv-loop μ-loop) →
     let a = c .before .before .before .before .args in
     Ends (c .before .loop .buf) (c .before .loop .at) (writeAll (take (a .count) (a .t1)))
 all c = let none : c .before .loop .i ≡ 0 = omega arith in rw none at (c .before .loop .inv .put)
 
 -- what is copied
-part-is : (c : tie.Else1 Inv-loop μ-loop) →
+part-is : (c : Else1 Inv-loop μ-loop) →
     let l = c .before .before .loop in
     take (35840 - l .at) (drop (l .at) (l .buf)) ≡ drop (l .at) (l .buf)
 part-is c = let l = c .before .before .loop in take-all (35840 - l .at) (drop (l .at) (l .buf)) (omega (arith, length-drop (l .at) (l .buf), l .inv .put .sized))
 
 pub write-spec : {M : Type 1} → statement M
-write-spec =
-    tie.close
-    (tie.spec
+write-spec = close (spec
     Inv-loop μ-loop (λ c κs. tt)
     (λ c. let s = c .before .before in back-start (s .args .t1) (s .args .count) (whole s) (c .least .ensures) (length-replicate {A = ℕ} 35840 0))
     (λ c. omega arith)

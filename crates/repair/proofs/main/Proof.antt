@@ -1,12 +1,9 @@
 -- `repair::main` is safe: what was read lies within the text. Assumes nothing.
 use Rattle.basis.proofs.Prelude.{sym, length-take-le, arith, needs}
-use Rattle.repair.proofs.main.Statement.{statement}
-use Rattle.repair.proofs.main.Tie as tie
+use Rattle.repair.proofs.main.{Statement.statement, Tie.{close, spec}}
 
 pub main-spec : {M : Type 1} → statement M
-main-spec =
-    tie.close
-    (tie.spec
+main-spec = close (spec
     (λ c. search needs) (λ c. search needs) (λ c. search needs) (λ c κs. search needs) (λ c. search needs)
     -- &text[..n]
     (λ c. let within = rw (c .before .got .given .1) at (c .before .before .before .before .read .ensures) in omega (arith, within))

@@ -1,18 +1,15 @@
 -- `repair::say_dropped` is safe: there are two places for each dropped line. Assumes nothing.
 use Rattle.basis.proofs.Prelude.{_*_, _-_, _≤_, length, arith, needs}
-use Rattle.repair.proofs.say_dropped.Statement.{statement}
-use Rattle.repair.proofs.say_dropped.Tie as tie
+use Rattle.repair.proofs.say_dropped.{Statement.statement, Tie.{InvT-loop, MeasureT-loop, close, spec}}
 
-abbrev Inv-loop : tie.InvT-loop
+abbrev Inv-loop : InvT-loop
 Inv-loop remarks dropped i₀ i = (dropped ≤ 65536) × (2 * dropped ≤ length remarks)
 
-abbrev μ-loop : tie.MeasureT-loop
+abbrev μ-loop : MeasureT-loop
 μ-loop remarks dropped i₀ i = dropped - i
 
 pub say-dropped-spec : {M : Type 1} → statement M
-say-dropped-spec =
-    tie.close
-    (tie.spec
+say-dropped-spec = close (spec
     Inv-loop
     μ-loop
     (λ c. c .before .pre)

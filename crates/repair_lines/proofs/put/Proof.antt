@@ -1,12 +1,9 @@
 -- `repair_lines::put` meets its contract. Assumes nothing.
 use Rattle.basis.proofs.Prelude.{arith, needs}
-use Rattle.repair_lines.proofs.put.Statement.{statement}
-use Rattle.repair_lines.proofs.put.Tie as tie
+use Rattle.repair_lines.proofs.put.{Statement.statement, Tie.{close, spec}}
 
 pub put-spec : {M : Type 1} → statement M
-put-spec =
-    tie.close
-    (tie.spec
+put-spec = close (spec
     (λ c. search needs)
     (λ c. search needs) (λ c. search needs) (λ c. search needs) (λ c κs. omega arith)
     (λ c. search needs)

@@ -1,11 +1,9 @@
 -- `repair_lines::put_repaired` meets its contract. Assumes nothing.
 use Rattle.basis.proofs.Prelude.{length-replicate, ℕ, arith, needs}
-use Rattle.repair_text.specs.Lines.{repairedWord}
-use Rattle.repair_text.proofs.Lines.{ending-none, ending-more, said}
-use Rattle.repair_lines.proofs.put_repaired.Statement.{statement}
-use Rattle.repair_lines.proofs.put_repaired.Tie as tie
+use Rattle.repair_text.{specs.Lines.repairedWord, proofs.Lines.{ending-none, ending-more, said}}
+use Rattle.repair_lines.proofs.put_repaired.{Statement.statement, Tie.{Need-returns, close, spec}}
 
-returns : tie.Need-returns
+returns : Need-returns
 returns c =
     let word = c .before .before .before in
     let first = word .before .before .before .before in
@@ -19,9 +17,7 @@ returns c =
     said repairedWord (a .out .now) _ _ _ _ s (omega arith) (omega arith) (omega (arith, word .before .before .append-arg)) (word .append .ensures) (c .append2 .ensures)
 
 pub put-repaired-spec : {M : Type 1} → statement M
-put-repaired-spec =
-    tie.close
-    (tie.spec
+put-repaired-spec = close (spec
     (λ c. search needs) (λ c κs. search needs) (λ c. search needs) (λ c κs. search needs) (λ c. search needs) (λ c κs. search needs)
     (λ c. search needs) (λ c κs. search needs) (λ c. search needs) (λ c κs. search needs)
     returns)

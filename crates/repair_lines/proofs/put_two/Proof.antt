@@ -1,10 +1,9 @@
 -- `repair_lines::put_two` meets its contract. Assumes nothing.
 use Rattle.basis.proofs.Prelude.{length-replicate, ℕ, arith, needs}
 use Rattle.repair_text.proofs.Lines.{ending-none, ending-more, said}
-use Rattle.repair_lines.proofs.put_two.Statement.{statement}
-use Rattle.repair_lines.proofs.put_two.Tie as tie
+use Rattle.repair_lines.proofs.put_two.{Statement.statement, Tie.{Need-returns, close, spec}}
 
-returns : tie.Need-returns
+returns : Need-returns
 returns c =
     let word = c .before .before .before in
     let first = word .before .before .before in
@@ -16,8 +15,6 @@ returns c =
     said (a .word .now) (a .out .now) _ _ _ _ q (omega arith) (start .pre) (omega (arith, start .good)) (word .append .ensures) (c .append2 .ensures)
 
 pub put-two-spec : {M : Type 1} → statement M
-put-two-spec =
-    tie.close
-    (tie.spec
+put-two-spec = close (spec
     (λ c. search needs) (λ c κs. search needs) (λ c. search needs) (λ c κs. search needs) (λ c κs. search needs) (λ c. search needs) (λ c κs. search needs)
     returns)

@@ -1,13 +1,9 @@
 -- `replay_cases::main`: each expectation follows from the contract of `replay::run` and the account's computed answers. Assumes nothing.
 use Rattle.basis.proofs.Prelude.{_∙_, needs, eq-eqb}
-use Rattle.replay_cases.proofs.Computed.{seen, at}
-use Rattle.replay_cases.proofs.main.Statement.{statement}
-use Rattle.replay_cases.proofs.main.Tie as tie
+use Rattle.replay_cases.proofs.{Computed.{seen, at}, main.{Statement.statement, Tie.{close, spec}}}
 
 pub main-spec : {M : Type 1} → statement M
-main-spec =
-    tie.close
-    (tie.spec
+main-spec = close (spec
     (λ c. search needs) (λ c. search needs) (λ c. search needs) (λ c. search needs) (λ c. search needs) (λ c. search needs) (λ c κs. search needs)
     (λ c κs. eq-eqb _ 10 (c .before .before .before .before .run .ensures .calls .count ∙ seen .made))  -- expect(..)
     (λ c. search needs) (λ c κs. at 0 (c .before .before .before .before .before .run .ensures .calls .told ∙ seen .told))  -- the second expect(..)

@@ -1,11 +1,9 @@
 -- `reply_calls::put_dashed` meets its contract. Assumes nothing.
 use Rattle.basis.proofs.Prelude.{arith, needs}
-use Rattle.replies.specs.Replies.{dashedText}
-use Rattle.replies.proofs.Sending.{put-end, put-sends, on-number, on-byte, on-numbers}
-use Rattle.reply_calls.proofs.put_dashed.Statement.{statement}
-use Rattle.reply_calls.proofs.put_dashed.Tie as tie
+use Rattle.replies.{specs.Replies.dashedText, proofs.Sending.{put-end, put-sends, on-number, on-byte, on-numbers}}
+use Rattle.reply_calls.proofs.put_dashed.{Statement.statement, Tie.{Need-returns, close, spec}}
 
-returns : tie.Need-returns
+returns : Need-returns
 unfolding dashedText
 returns c =
     let dash = c .before .before in
@@ -20,4 +18,4 @@ returns c =
     (put-sends (rw (end .end-before .ensures) at (r .0)), omega (arith, p .1, q .1, d .1, r .1))
 
 pub put-dashed-spec : {M : Type 1} → statement M
-put-dashed-spec = tie.close (tie.spec (λ c κs. search needs) (λ c κs. search needs) (λ c κs. search needs) (λ c κs. search needs) (λ c κs. search needs) returns)
+put-dashed-spec = close (spec (λ c κs. search needs) (λ c κs. search needs) (λ c κs. search needs) (λ c κs. search needs) (λ c κs. search needs) returns)

@@ -1,15 +1,11 @@
 -- `reply_calls::put_fitting` meets its contract: a refused call, and each shape. Assumes nothing.
 use Rattle.basis.proofs.Prelude.{sym, length-take-le, arith, needs}
 use Rattle.replies.specs.Replies.{shapeText}
-use Rattle.reply_calls.proofs.Shapes.{sends-refused, sends-shape}
-use Rattle.reply_calls.proofs.put_fitting.Statement.{statement}
-use Rattle.reply_calls.proofs.put_fitting.Tie as tie
+use Rattle.reply_calls.proofs.{Shapes.{sends-refused, sends-shape}, put_fitting.{Statement.statement, Tie.{close, spec}}}
 
 pub put-fitting-spec : {M : Type 1} → statement M
 unfolding shapeText
-put-fitting-spec =
-    tie.close
-    (tie.spec
+put-fitting-spec = close (spec
     -- refused
     (λ c κs. search needs)
     (λ c. let a = c .before .before .before .before .before .before .args in sends-refused (a .call) (a .o) (a .numbers .now) (a .text .now) (c .before .before .if1 .taken) (c .put-refused .ensures))

@@ -1,12 +1,10 @@
 -- `reply_calls::put_listed` meets its contract. Assumes nothing.
 use Rattle.basis.proofs.Prelude.{arith, needs}
 use Rattle.fields.specs.Fields.{numbersText}
-use Rattle.replies.specs.Replies.{listedWord, listedText}
-use Rattle.replies.proofs.Sending.{put-end, put-sends, on-number, on-numbers, on-bytes}
-use Rattle.reply_calls.proofs.put_listed.Statement.{statement}
-use Rattle.reply_calls.proofs.put_listed.Tie as tie
+use Rattle.replies.{specs.Replies.{listedWord, listedText}, proofs.Sending.{put-end, put-sends, on-number, on-numbers, on-bytes}}
+use Rattle.reply_calls.proofs.put_listed.{Statement.statement, Tie.{Need-returns, close, spec}}
 
-returns : tie.Need-returns
+returns : Need-returns
 unfolding listedText numbersText
 returns c =
     let count = c .before .before .before in
@@ -20,4 +18,4 @@ returns c =
     put-sends (rw (end .end-before .ensures) at (on-bytes (r .0) listedWord (omega (arith, p .1, q .1, r .1)) (c .put-bytes .ensures) .0))
 
 pub put-listed-spec : {M : Type 1} → statement M
-put-listed-spec = tie.close (tie.spec (λ c κs. search needs) (λ c κs. search needs) (λ c κs. search needs) (λ c κs. search needs) (λ c. search needs) (λ c κs. search needs) returns)
+put-listed-spec = close (spec (λ c κs. search needs) (λ c κs. search needs) (λ c κs. search needs) (λ c κs. search needs) (λ c. search needs) (λ c κs. search needs) returns)

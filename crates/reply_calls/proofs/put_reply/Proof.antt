@@ -1,14 +1,10 @@
 -- `reply_calls::put_reply` meets its contract: what fits its lists, and what does not. Assumes nothing.
 use Rattle.basis.proofs.Prelude.{_∙_, sym, [], arith, needs}
-use Rattle.replies.proofs.Sending.{put-end, put-sends, on-bytes}
-use Rattle.replies.proofs.Fitting.{fitted, put-whole, put-nothing}
-use Rattle.reply_calls.proofs.put_reply.Statement.{statement}
-use Rattle.reply_calls.proofs.put_reply.Tie as tie
+use Rattle.replies.proofs.{Sending.{put-end, put-sends, on-bytes}, Fitting.{fitted, put-whole, put-nothing}}
+use Rattle.reply_calls.proofs.put_reply.{Statement.statement, Tie.{close, spec}}
 
 pub put-reply-spec : {M : Type 1} → statement M
-put-reply-spec =
-    tie.close
-    (tie.spec
+put-reply-spec = close (spec
     (λ c κs. search needs)
     (λ c κs. let tested = c .before in fitted (sym (tested .before .fits2 .ensures) ∙ tested .if1 .taken))
     (λ c. let tested = c .before .before in put-whole _ (fitted (sym (tested .before .fits2 .ensures) ∙ tested .if1 .taken)) (c .put-fitting .ensures))

@@ -1,11 +1,9 @@
 -- `reply_calls::put_several` meets its contract. Assumes nothing.
 use Rattle.basis.proofs.Prelude.{arith, needs}
-use Rattle.replies.specs.Replies.{listedWord, severalText}
-use Rattle.replies.proofs.Sending.{put-sends, sends-put, on-bytes}
-use Rattle.reply_calls.proofs.put_several.Statement.{statement}
-use Rattle.reply_calls.proofs.put_several.Tie as tie
+use Rattle.replies.{specs.Replies.{listedWord, severalText}, proofs.Sending.{put-sends, sends-put, on-bytes}}
+use Rattle.reply_calls.proofs.put_several.{Statement.statement, Tie.{Need-returns, close, spec}}
 
-returns : tie.Need-returns
+returns : Need-returns
 unfolding severalText
 returns c =
     let dashed = c .before .before .before in
@@ -14,4 +12,4 @@ returns c =
     put-sends (on-bytes (sends-put (s .0)) listedWord (omega (arith, s .1)) (c .put-bytes .ensures) .0)
 
 pub put-several-spec : {M : Type 1} → statement M
-put-several-spec = tie.close (tie.spec (λ c κs. search needs) (λ c. search needs) (λ c κs. search needs) returns)
+put-several-spec = close (spec (λ c κs. search needs) (λ c. search needs) (λ c κs. search needs) returns)

@@ -1,11 +1,9 @@
 -- `reply_calls::put_ticked` meets its contract. Assumes nothing.
 use Rattle.basis.proofs.Prelude.{arith, needs}
-use Rattle.replies.specs.Replies.{tickedWord, tickedText}
-use Rattle.replies.proofs.Sending.{put-sends, sends-put, on-number, on-bytes}
-use Rattle.reply_calls.proofs.put_ticked.Statement.{statement}
-use Rattle.reply_calls.proofs.put_ticked.Tie as tie
+use Rattle.replies.{specs.Replies.{tickedWord, tickedText}, proofs.Sending.{put-sends, sends-put, on-number, on-bytes}}
+use Rattle.reply_calls.proofs.put_ticked.{Statement.statement, Tie.{Need-returns, close, spec}}
 
-returns : tie.Need-returns
+returns : Need-returns
 unfolding tickedText
 returns c =
     let ticked = c .before .before .before in
@@ -16,4 +14,4 @@ returns c =
     put-sends (on-bytes (t .0) tickedWord (omega (arith, s .1, t .1)) (c .put-bytes .ensures) .0)
 
 pub put-ticked-spec : {M : Type 1} → statement M
-put-ticked-spec = tie.close (tie.spec (λ c κs. search needs) (λ c κs. search needs) (λ c. search needs) (λ c κs. search needs) returns)
+put-ticked-spec = close (spec (λ c κs. search needs) (λ c κs. search needs) (λ c. search needs) (λ c κs. search needs) returns)

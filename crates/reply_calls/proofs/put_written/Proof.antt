@@ -1,11 +1,9 @@
 -- `reply_calls::put_written` meets its contract. Assumes nothing.
 use Rattle.basis.proofs.Prelude.{append-nil, arith, needs}
-use Rattle.replies.specs.Replies.{textWord, writtenText}
-use Rattle.replies.proofs.Sending.{put-end, put-sends, on-number, on-bytes}
-use Rattle.reply_calls.proofs.put_written.Statement.{statement}
-use Rattle.reply_calls.proofs.put_written.Tie as tie
+use Rattle.replies.{specs.Replies.{textWord, writtenText}, proofs.Sending.{put-end, put-sends, on-number, on-bytes}}
+use Rattle.reply_calls.proofs.put_written.{Statement.statement, Tie.{Need-returns, close, spec}}
 
-returns : tie.Need-returns
+returns : Need-returns
 unfolding writtenText
 returns c =
     let count = c .before .before .before in
@@ -16,4 +14,4 @@ returns c =
     put-sends (on-bytes (q .0) textWord (omega (arith, p .1, q .1)) (c .put-bytes2 .ensures) .0)
 
 pub put-written-spec : {M : Type 1} → statement M
-put-written-spec = tie.close (tie.spec (λ c κs. search needs) (λ c κs. search needs) (λ c. search needs) (λ c κs. search needs) returns)
+put-written-spec = close (spec (λ c κs. search needs) (λ c κs. search needs) (λ c. search needs) (λ c κs. search needs) returns)

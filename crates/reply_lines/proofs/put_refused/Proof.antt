@@ -1,11 +1,9 @@
 -- `reply_lines::put_refused` meets its contract. Assumes nothing.
 use Rattle.basis.proofs.Prelude.{arith, needs}
-use Rattle.replies.specs.Replies.{refusedWord, refusedText}
-use Rattle.replies.proofs.Sending.{put-end, put-sends, on-number, on-bytes}
-use Rattle.reply_lines.proofs.put_refused.Statement.{statement}
-use Rattle.reply_lines.proofs.put_refused.Tie as tie
+use Rattle.replies.{specs.Replies.{refusedWord, refusedText}, proofs.Sending.{put-end, put-sends, on-number, on-bytes}}
+use Rattle.reply_lines.proofs.put_refused.{Statement.statement, Tie.{Need-returns, close, spec}}
 
-returns : tie.Need-returns
+returns : Need-returns
 unfolding refusedText
 returns c =
     let number = c .before .before .before in
@@ -14,4 +12,4 @@ returns c =
     put-sends (on-bytes (p .0) refusedWord (omega (arith, p .1)) (c .put-bytes .ensures) .0)
 
 pub put-refused-spec : {M : Type 1} → statement M
-put-refused-spec = tie.close (tie.spec (λ c κs. search needs) (λ c. search needs) (λ c κs. search needs) returns)
+put-refused-spec = close (spec (λ c κs. search needs) (λ c. search needs) (λ c κs. search needs) returns)

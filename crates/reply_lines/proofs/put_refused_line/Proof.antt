@@ -1,11 +1,9 @@
 -- `reply_lines::put_refused_line` meets its contract. Assumes nothing.
 use Rattle.basis.proofs.Prelude.{arith, needs}
-use Rattle.replies.specs.Replies.{refusedWord, refusedLine}
-use Rattle.replies.proofs.Sending.{put-end, put-sends, on-number, on-bytes}
-use Rattle.reply_lines.proofs.put_refused_line.Statement.{statement}
-use Rattle.reply_lines.proofs.put_refused_line.Tie as tie
+use Rattle.replies.{specs.Replies.{refusedWord, refusedLine}, proofs.Sending.{put-end, put-sends, on-number, on-bytes}}
+use Rattle.reply_lines.proofs.put_refused_line.{Statement.statement, Tie.{Need-returns, close, spec}}
 
-returns : tie.Need-returns
+returns : Need-returns
 unfolding refusedLine
 returns c =
     let number = c .before .before .before in
@@ -16,4 +14,4 @@ returns c =
     put-sends (on-bytes (q .0) refusedWord (omega (arith, p .1, q .1)) (c .put-bytes .ensures) .0)
 
 pub put-refused-line-spec : {M : Type 1} → statement M
-put-refused-line-spec = tie.close (tie.spec (λ c κs. search needs) (λ c κs. search needs) (λ c. search needs) (λ c κs. search needs) returns)
+put-refused-line-spec = close (spec (λ c κs. search needs) (λ c κs. search needs) (λ c. search needs) (λ c κs. search needs) returns)

@@ -1,7 +1,5 @@
 -- `request_fields::if_ended` meets its contract. Assumes nothing.
-use Rattle.request_fields.proofs.Layouts.{ended-more, ended-all}
-use Rattle.request_fields.proofs.if_ended.Statement.{statement}
-use Rattle.request_fields.proofs.if_ended.Tie as tie
+use Rattle.request_fields.proofs.{Layouts.{ended-more, ended-all}, if_ended.{Statement.statement, Tie.{close, spec}}}
 
 pub if-ended-spec : {M : Type 1} → statement M
-if-ended-spec = tie.close (tie.spec (λ c. ended-more _ _ _ (c .if1 .taken)) (λ c. ended-all _ _ _ (c .if1 .left)))
+if-ended-spec = close (spec (λ c. ended-more _ _ _ (c .if1 .taken)) (λ c. ended-all _ _ _ (c .if1 .left)))

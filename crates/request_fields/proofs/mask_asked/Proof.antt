@@ -2,32 +2,30 @@
 use Rattle.basis.proofs.Prelude.{_∙_, _≡_, ap, refl, sym, drop, needs}
 use Rattle.requests.proofs.Names.{found, readNumber, fieldOf, lengthOf, Ask, asks, askedBy}
 use Rattle.model.specs.declared.Question.the-variants.{Mask}
-use Rattle.request_fields.proofs.Layouts.{none-asked, value-asked, last-asked}
-use Rattle.request_fields.proofs.mask_asked.Statement.{statement}
-use Rattle.request_fields.proofs.mask_asked.Tie as tie
+use Rattle.request_fields.proofs.{Layouts.{none-asked, value-asked, last-asked}, mask_asked.{Statement.statement, Tie.{Need-returns, After-known-told, Need-returns-2, Need-returns-3, close, spec}}}
 
-returns : tie.Need-returns
+returns : Need-returns
 unfolding askedBy
 returns c room =
     let read = c .before .before in
     none-asked _ (sym (read .read-number .ensures .says) ∙ ap (fieldOf (read .before .before .args .line .now)) (c .enum-told .given .1))
 
 -- the base day
-base : (c : tie.After-known-told) →
+base : (c : After-known-told) →
     let a = c .before .before .before .before .before .args in
     readNumber 9 (drop (a .at) (a .line .now)) ≡ found (c .before .base .given .0 .0) (drop (c .before .base .given .0 .1 .0) (a .line .now))
 base c =
     let read = c .before .before .before in
     sym (read .read-number .ensures .says) ∙ ap (fieldOf (read .before .before .args .line .now)) (c .before .base .given .1)
 
-returns-2 : tie.Need-returns-2
+returns-2 : Need-returns-2
 unfolding askedBy
 returns-2 c room =
     let known = c .before .before .before in
     let line = known .before .before .before .before .before .args .line .now in
     value-asked _ (base known) (none-asked _ (sym (c .before .before .read-mask .ensures .says) ∙ ap (lengthOf line) (c .enum-told2 .given .1)))
 
-returns-3 : tie.Need-returns-3
+returns-3 : Need-returns-3
 unfolding askedBy
 returns-3 c room =
     let mask = c .before .before in
@@ -37,8 +35,6 @@ returns-3 c room =
     (c .if-ended .ensures) refl)
 
 pub mask-asked-spec : {M : Type 1} → statement M
-mask-asked-spec =
-    tie.close
-    (tie.spec
+mask-asked-spec = close (spec
     (λ c κs. search needs) (λ c. search needs) (λ c. search needs) returns (λ c κs. search needs) (λ c. search needs) (λ c. search needs) returns-2
     (λ c κs. search needs) returns-3)

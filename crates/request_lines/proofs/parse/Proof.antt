@@ -1,19 +1,13 @@
 -- `request_lines::parse` meets its contract: each layout with what its fields ask. Assumes nothing.
 use Rattle.basis.proofs.Prelude.{_∙_, ap, refl, drop, needs}
 use Rattle.model.specs.declared.Call.{Call}
-use Rattle.requests.specs.declared.Request.the-variants.{Call as RequestCall}
-use Rattle.requests.specs.Words.{aloneCall}
-use Rattle.requests.specs.Requests.{asks, askedBy, daysBy}
+use Rattle.requests.specs.{declared.Request.the-variants.Call as RequestCall, Words.aloneCall, Requests.{asks, askedBy, daysBy}}
 use Rattle.request_fields.proofs.Layouts.{ended-asked}
-use Rattle.request_lines.proofs.Parsed.{parses-long, parses-by, parses-days}
-use Rattle.request_lines.proofs.parse.Statement.{statement}
-use Rattle.request_lines.proofs.parse.Tie as tie
+use Rattle.request_lines.proofs.{Parsed.{parses-long, parses-by, parses-days}, parse.{Statement.statement, Tie.{close, spec}}}
 
 pub parse-spec : {M : Type 1} → statement M
 unfolding askedBy daysBy
-parse-spec =
-    tie.close
-    (tie.spec
+parse-spec = close (spec
     (λ c. parses-long _ _ (c .if1 .taken)) (λ c κs. search needs) (λ c. search needs) (λ c κs. search needs) (λ c κs. search needs) (λ c. search needs)
     (λ c κs. search needs) (λ c. search needs) (λ c κs. search needs) (λ c. search needs) (λ c κs. search needs) (λ c. search needs)
     (λ c κs. search needs) (λ c. search needs) (λ c κs. search needs) (λ c. search needs) (λ c κs. search needs) (λ c. search needs)

@@ -2,17 +2,15 @@
 -- Assumes nothing.
 use Rattle.basis.proofs.Prelude.{_∙_, ap, sym, _-_, drop, length, arith, needs}
 use Rattle.requests.proofs.Names.{fieldOf, readDays}
-use Rattle.request_lines.proofs.DayLists.{SoFar, sofar-start, sofar-step, sofar-last, sofar-full}
-use Rattle.request_lines.proofs.read_days.Statement.{statement}
-use Rattle.request_lines.proofs.read_days.Tie as tie
+use Rattle.request_lines.proofs.{DayLists.{SoFar, sofar-start, sofar-step, sofar-last, sofar-full}, read_days.{Statement.statement, Tie.{InvT-loop, MeasureT-loop, Need-returns, Need-loop-again, close, spec}}}
 
-abbrev Inv-loop : tie.InvT-loop
+abbrev Inv-loop : InvT-loop
 Inv-loop line start days₀ at₀ k₀ days at k = SoFar (readDays (length days₀) (drop start line)) line days₀ days at k
 
-abbrev μ-loop : tie.MeasureT-loop
+abbrev μ-loop : MeasureT-loop
 μ-loop line start days₀ at₀ k₀ days at k = length days₀ - k
 
-returns : tie.Need-returns Inv-loop μ-loop
+returns : Need-returns Inv-loop μ-loop
 returns c =
     let head = c .before .before .before .before .before .before .before .before in
     let line = head .before .before .before .args .line .now in
@@ -20,7 +18,7 @@ returns c =
     (sym (c .before .before .before .before .before .before .read-number .ensures .says) ∙ ap (fieldOf line) (c .before .before .before .before .enum-told .given .1))
     (c .before .before .last-day .ensures)
 
-loop-again : tie.Need-loop-again Inv-loop μ-loop
+loop-again : Need-loop-again Inv-loop μ-loop
 loop-again c =
     let head = c .before .before .before .before .before in
     let line = head .before .before .before .args .line .now in
@@ -28,9 +26,7 @@ loop-again c =
     (sym (c .before .before .before .read-number .ensures .says) ∙ ap (fieldOf line) (c .before .d .given .1))
 
 pub read-days-spec : {M : Type 1} → statement M
-read-days-spec =
-    tie.close
-    (tie.spec
+read-days-spec = close (spec
     Inv-loop μ-loop
     (λ c. sofar-start _ _ _)  -- the loop begins
     (λ c κs. search needs) (λ c. search needs) (λ c. search needs) (λ c κs. search needs)

@@ -1,10 +1,8 @@
 -- `request_words::head_of` meets its contract. Assumes nothing.
 use Rattle.basis.proofs.Prelude.{needs}
-use Rattle.request_words.proofs.Words.{all-tried}
-use Rattle.request_words.proofs.head_of.Statement.{statement}
-use Rattle.request_words.proofs.head_of.Tie as tie
+use Rattle.request_words.proofs.{Words.all-tried, head_of.{Statement.statement, Tie.{Need-returns, close, spec}}}
 
-returns : tie.Need-returns
+returns : Need-returns
 returns c =
     let room = c .before .before in
     let questions = room .before .before in
@@ -12,4 +10,4 @@ returns c =
 
 pub head-of-spec : {M : Type 1} → statement M
 head-of-spec =
-    tie.close (tie.spec (λ c κs. search needs) (λ c κs. search needs) (λ c. search needs) (λ c κs. search needs) (λ c. search needs) (λ c κs. search needs) returns)
+    close (spec (λ c κs. search needs) (λ c κs. search needs) (λ c. search needs) (λ c κs. search needs) (λ c. search needs) (λ c κs. search needs) returns)

@@ -1,10 +1,8 @@
 -- `request_words::question_head` meets its contract: a line for each word. Assumes nothing.
 use Rattle.basis.proofs.Prelude.{needs}
-use Rattle.request_words.proofs.Words.{untried, tried}
-use Rattle.request_words.proofs.question_head.Statement.{statement}
-use Rattle.request_words.proofs.question_head.Tie as tie
+use Rattle.request_words.proofs.{Words.{untried, tried}, question_head.{Statement.statement, Tie.{Need-returns, close, spec}}}
 
-returns : tie.Need-returns
+returns : Need-returns
 returns c =
     let c5 = c .before .before in
     let c4 = c5 .before .before in
@@ -20,8 +18,6 @@ returns c =
     (untried _ _))))))
 
 pub question-head-spec : {M : Type 1} → statement M
-question-head-spec =
-    tie.close
-    (tie.spec
+question-head-spec = close (spec
     (λ c. search needs) (λ c κs. search needs) (λ c. search needs) (λ c κs. search needs) (λ c. search needs) (λ c κs. search needs)
     (λ c. search needs) (λ c κs. search needs) (λ c. search needs) (λ c κs. search needs) (λ c. search needs) (λ c κs. search needs) returns)

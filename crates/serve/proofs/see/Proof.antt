@@ -1,21 +1,20 @@
 -- `serve::see` meets its contract. Assumes nothing.
 use Rattle.basis.proofs.Prelude.{_∙_, sym, false≢true, arith, needs, not-true}
 use Rattle.serving.proofs.Answers.{sees}
-use Rattle.serve.proofs.see.Statement.{statement}
-use Rattle.serve.proofs.see.Tie as tie
+use Rattle.serve.proofs.see.{Statement.statement, Tie.{Need-returns, Need-look-requires, Need-returns-2, close, spec}}
 
-returns : tie.Need-returns
+returns : Need-returns
 returns c = sees (c .before .before .next .ensures) _ _ _ _ _ _ _ _ _ _ (λ e. absurd (false≢true (sym (not-true _ (c .if1 .taken)) ∙ e)))
 
-look-requires : tie.Need-look-requires
+look-requires : Need-look-requires
 look-requires c κs =
     let framed = c .before .before .before .before .before .before .before in
     (framed .before .before .before .before .before .pre .0, omega (arith, framed .next .ensures .line-in))
 
-returns-2 : tie.Need-returns-2
+returns-2 : Need-returns-2
 returns-2 c =
     let framed = c .before .before .before .before .before .before .before .before in
     sees (framed .next .ensures) _ _ _ _ _ _ _ _ _ _ (λ _. c .look .ensures)
 
 pub see-spec : {M : Type 1} → statement M
-see-spec = tie.close (tie.spec (λ c κs. search needs) returns look-requires returns-2)
+see-spec = close (spec (λ c κs. search needs) returns look-requires returns-2)

@@ -1,20 +1,17 @@
 -- `spell_checks::refusal_of` meets its contract. Assumes nothing.
 use Rattle.basis.proofs.Prelude.{_∙_, _≡_, sym, false, true, eqb, needs, eq-eqb, le-ltb, lt-ltb, ne-eqb, not-false, not-true}
 use Rattle.calendar.specs.Calendar.{isDay}
-use Rattle.spell_checks.proofs.refusal_of.Statement.{statement}
-use Rattle.spell_checks.proofs.refusal_of.Tie as tie
+use Rattle.spell_checks.proofs.refusal_of.{Statement.statement, Tie.{Else2, Else4, close, spec}}
 
 -- what the tests that were passed leave: of the numbers, and of the days
-named : (c : tie.Else2) → let s = c .before .before .before .before .args .s in (eqb (s .number) 0 ≡ false) × (eqb (s .candidate) 0 ≡ false)
+named : (c : Else2) → let s = c .before .before .before .before .args .s in (eqb (s .number) 0 ≡ false) × (eqb (s .candidate) 0 ≡ false)
 named c = (ne-eqb _ _ (c .before .before .if1 .left), ne-eqb _ _ (c .if2 .left))
 
-dated : (c : tie.Else4) → let s = c .before .before .before .before .before .before .before .before .args .s in (isDay (s .first) ≡ true) × (isDay (s .last) ≡ true)
+dated : (c : Else4) → let s = c .before .before .before .before .before .before .before .before .args .s in (isDay (s .first) ≡ true) × (isDay (s .last) ≡ true)
 dated c = let f = c .before .before in (sym (f .before .is-day .ensures) ∙ not-false _ (f .if3 .left), sym (c .before .is-day2 .ensures) ∙ not-false _ (c .if4 .left))
 
 pub refusal-of-spec : {M : Type 1} → statement M
-refusal-of-spec =
-    tie.close
-    (tie.spec
+refusal-of-spec = close (spec
     (λ c. simp (eq-eqb _ _ (c .if1 .taken))) (λ c. simp (ne-eqb _ _ (c .before .before .if1 .left), eq-eqb _ _ (c .if2 .taken)))
     (λ c κs. search needs)
     -- the first day

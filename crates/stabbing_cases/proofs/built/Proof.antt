@@ -1,13 +1,9 @@
 -- `stabbing_cases::built` meets its contract: where the builder answers true and each number is its row's own, the block may be asked. Assumes nothing.
 use Rattle.basis.proofs.Prelude.{refl, clash, needs}
-use Rattle.stabbing_cases.proofs.Building.{block}
-use Rattle.stabbing_cases.proofs.built.Statement.{statement}
-use Rattle.stabbing_cases.proofs.built.Tie as tie
+use Rattle.stabbing_cases.proofs.{Building.block, built.{Statement.statement, Tie.{close, spec}}}
 
 pub built-spec : {M : Type 1} → statement M
-built-spec =
-    tie.close
-    (tie.spec
+built-spec = close (spec
     (λ c κs. search needs) (λ c κs. search needs) (λ c κs. search needs) (λ c κs. search needs)
     (λ c. search needs) (λ c κs. search needs) (λ c κs. search needs) (λ c κs. search needs)
     -- own_numbers(index)

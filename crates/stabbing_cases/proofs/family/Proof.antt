@@ -1,12 +1,9 @@
 -- `stabbing_cases::family` is safe and ends: what may be asked is asked. Assumes nothing.
 use Rattle.basis.proofs.Prelude.{needs}
-use Rattle.stabbing_cases.proofs.family.Statement.{statement}
-use Rattle.stabbing_cases.proofs.family.Tie as tie
+use Rattle.stabbing_cases.proofs.family.{Statement.statement, Tie.{close, spec}}
 
 pub family-spec : {M : Type 1} → statement M
-family-spec =
-    tie.close
-    (tie.spec
+family-spec = close (spec
     (λ c κs. search needs) (λ c κs. search needs) (λ c κs. search needs) (λ c. search needs) (λ c κs. search needs)
     (λ c κs. search needs) (λ c κs. search needs) (λ c. search needs) (λ c κs. search needs)
     -- ask_all(index, ..)

@@ -1,12 +1,9 @@
 -- `stabbing_cases::hear` is safe and ends. Assumes nothing.
 use Rattle.basis.proofs.Prelude.{sym, length-take-le, needs}
-use Rattle.stabbing_cases.proofs.hear.Statement.{statement}
-use Rattle.stabbing_cases.proofs.hear.Tie as tie
+use Rattle.stabbing_cases.proofs.hear.{Statement.statement, Tie.{close, spec}}
 
 pub hear-spec : {M : Type 1} → statement M
-hear-spec =
-    tie.close
-    (tie.spec
+hear-spec = close (spec
     (λ c. search needs) (λ c. sym (length-take-le _ _ (search needs))) (λ c κs. search needs) (λ c κs. search needs)
     (λ c κs. search needs) (λ c κs. search needs) (λ c κs. search needs) (λ c κs. search needs)
     (λ c κs. search needs) (λ c. search needs))

@@ -1,20 +1,16 @@
 -- `stabbing_cases::own_numbers` meets its contract: the rows passed have numbers of their own. Assumes nothing.
 use Rattle.basis.proofs.Prelude.{refl, _-_, arith, needs, clash}
 use Rattle.stabbing_cases.proofs.Owning as Steps
-use Rattle.stabbing_cases.proofs.Owning.{Owning}
-use Rattle.stabbing_cases.proofs.own_numbers.Statement.{statement}
-use Rattle.stabbing_cases.proofs.own_numbers.Tie as tie
+use Rattle.stabbing_cases.proofs.{Owning.Owning, own_numbers.{Statement.statement, Tie.{InvT-loop, MeasureT-loop, close, spec}}}
 
-abbrev Inv-loop : tie.InvT-loop
+abbrev Inv-loop : InvT-loop
 Inv-loop index n p₀ p = Owning index p
 
-abbrev μ-loop : tie.MeasureT-loop
+abbrev μ-loop : MeasureT-loop
 μ-loop index n p₀ p = n - p
 
 pub own-numbers-spec : {M : Type 1} → statement M
-own-numbers-spec =
-    tie.close
-    (tie.spec
+own-numbers-spec = close (spec
     Inv-loop
     μ-loop
     (λ c. search needs) (λ c κs. search needs)

@@ -1,20 +1,16 @@
 -- `stabbing_lookup::find` meets its contract: each need is a step of `proofs/Searching.antt`. Assumes nothing.
 use Rattle.basis.proofs.Prelude.{arith, needs}
 use Rattle.stabbing_lookup.proofs.Searching as Steps
-use Rattle.stabbing_lookup.proofs.Searching.{Searching}
-use Rattle.stabbing_lookup.proofs.find.Statement.{statement}
-use Rattle.stabbing_lookup.proofs.find.Tie as tie
+use Rattle.stabbing_lookup.proofs.{Searching.Searching, find.{Statement.statement, Tie.{InvT-loop, MeasureT-loop, close, spec}}}
 
-abbrev Inv-loop : tie.InvT-loop
+abbrev Inv-loop : InvT-loop
 Inv-loop index number m₀ m = Searching index number m
 
-abbrev μ-loop : tie.MeasureT-loop
+abbrev μ-loop : MeasureT-loop
 μ-loop index number m₀ m = m
 
 pub find-spec : {M : Type 1} → statement M
-find-spec =
-    tie.close
-    (tie.spec
+find-spec = close (spec
     Inv-loop
     μ-loop
     (λ c κs. search needs) (λ c. search needs) (λ c. search needs) (λ c. search needs) (λ c κs. search needs)

@@ -1,13 +1,9 @@
 -- `standing::edit` meets its contract: the plan of the call is carried out. Assumes nothing.
 use Rattle.basis.proofs.Prelude.{needs}
-use Rattle.standing.proofs.Plans.{carried}
-use Rattle.standing.proofs.edit.Statement.{statement}
-use Rattle.standing.proofs.edit.Tie as tie
+use Rattle.standing.proofs.{Plans.carried, edit.{Statement.statement, Tie.{close, spec}}}
 
 pub edit-spec : {M : Type 1} → statement M
-edit-spec =
-    tie.close
-    (tie.spec
+edit-spec = close (spec
     (λ c κs. c .before .before .pre .depth-in) (λ c κs. search needs) (λ c κs. search needs) (λ c κs. search needs)
     (λ c κs. search needs) (λ c κs. search needs) (λ c κs. search needs) (λ c κs. search needs)
     (λ c.

@@ -1,10 +1,8 @@
 use Rattle.basis.proofs.Prelude.{needs}
-use Rattle.standing.proofs.Calls.{fresh-is}
-use Rattle.standing.proofs.fresh.Statement.{statement}
-use Rattle.standing.proofs.fresh.Tie as tie
+use Rattle.standing.proofs.{Calls.fresh-is, fresh.{Statement.statement, Tie.{Need-returns, close, spec}}}
 
-returns : tie.Need-returns
+returns : Need-returns
 returns c = rw (c .before .blank .ensures, c .none .ensures) fresh-is
 
 pub fresh-spec : {M : Type 1} → statement M
-fresh-spec = tie.close (tie.spec (λ c κs. search needs) (λ c κs. search needs) returns)
+fresh-spec = close (spec (λ c κs. search needs) (λ c κs. search needs) returns)

@@ -1,25 +1,21 @@
 -- `standing_journal::pushed` meets its contract: where there is no room, the entries up to i have moved down by one. Assumes nothing.
 use Rattle.basis.proofs.Prelude.{_≡_, _-_, _≤_, length, arith, needs}
 use Rattle.spell_places.proofs.Lists.{closed, close-none, close-step}
-use Rattle.journal.specs.Journal.{blankEntry}
-use Rattle.journal.proofs.Journal.{push-room, push-full}
-use Rattle.standing_journal.proofs.pushed.Statement.{statement}
-use Rattle.standing_journal.proofs.pushed.Tie as tie
+use Rattle.journal.{specs.Journal.blankEntry, proofs.Journal.{push-room, push-full}}
+use Rattle.standing_journal.proofs.pushed.{Statement.statement, Tie.{InvT-loop, MeasureT-loop, Start, close, spec}}
 
-abbrev Inv-loop : tie.InvT-loop
+abbrev Inv-loop : InvT-loop
 Inv-loop d e a₀ i₀ a i = (i ≤ 63) × (a ≡ closed 0 i a₀)
 
-abbrev μ-loop : tie.MeasureT-loop
+abbrev μ-loop : MeasureT-loop
 μ-loop d e a₀ i₀ a i = 63 - i
 
-module _ (c : tie.Start Inv-loop μ-loop) where
+module _ (c : Start Inv-loop μ-loop) where
   whole : length (c .args .journal) ≡ 64
   whole = search needs
 
 pub pushed-spec : {M : Type 1} → statement M
-pushed-spec =
-    tie.close
-    (tie.spec
+pushed-spec = close (spec
     Inv-loop μ-loop
     -- a[depth] = e
     (λ c. omega arith) (λ c. omega (arith, whole (c .before)))

@@ -1,22 +1,17 @@
 -- `standing_journal::put_journal` meets its contract. The loop's invariant: the words of the first i entries are put. Assumes nothing.
 use Rattle.basis.proofs.Prelude.{_≡_, sym, _*_, _-_, _≤_, ℕ, List, length, arith, needs}
 use denote.Ref.{now}
-use Rattle.packing.specs.Blocks.{written}
-use Rattle.packing.proofs.Blocks.{put-none, written-length, Putting, laid-none, laid-more, laid-length, laid-all}
-use Rattle.journal.specs.declared.Undo.{Undo}
-use Rattle.journal.specs.Words.{entryWords, entryOf}
-use Rattle.journal.specs.Journal.{blankEntry}
-use Rattle.journal.proofs.Words.{entry-long}
-use Rattle.standing_journal.proofs.put_journal.Statement.{statement}
-use Rattle.standing_journal.proofs.put_journal.Tie as tie
+use Rattle.packing.{specs.Blocks.written, proofs.Blocks.{put-none, written-length, Putting, laid-none, laid-more, laid-length, laid-all}}
+use Rattle.journal.{specs.{declared.Undo.Undo, Words.{entryWords, entryOf}, Journal.blankEntry}, proofs.Words.entry-long}
+use Rattle.standing_journal.proofs.put_journal.{Statement.statement, Tie.{InvT-loop, MeasureT-loop, Else1, close, spec}}
 
-abbrev Inv-loop : tie.InvT-loop
+abbrev Inv-loop : InvT-loop
 Inv-loop out₀ journal i₀ out i = (i ≤ 64) × Putting entryWords entryOf journal out₀ out i
 
-abbrev μ-loop : tie.MeasureT-loop
+abbrev μ-loop : MeasureT-loop
 μ-loop out₀ journal i₀ out i = 64 - i
 
-module _ (c : tie.Else1 Inv-loop μ-loop) where
+module _ (c : Else1 Inv-loop μ-loop) where
   abbrev journal : List Undo
   journal = c .before .before .args .t1
 
@@ -30,9 +25,7 @@ module _ (c : tie.Else1 Inv-loop μ-loop) where
   room = omega (arith, all)
 
 pub put-journal-spec : {M : Type 1} → statement M
-put-journal-spec =
-    tie.close
-    (tie.spec
+put-journal-spec = close (spec
     Inv-loop μ-loop
     -- no room
     (λ c.

@@ -1,12 +1,9 @@
 -- `standing_words::change` meets its contract. Assumes nothing.
 use Rattle.basis.proofs.Prelude.{arith, needs}
-use Rattle.standing_words.proofs.{Changing.{changes, left-in}, change.Statement.statement}
-use Rattle.standing_words.proofs.change.Tie as tie
+use Rattle.standing_words.proofs.{Changing.{changes, left-in}, change.Statement.statement, change.Tie.{close, spec}}
 
 pub change-spec : {M : Type 1} → statement M
-change-spec =
-    tie.close
-    (tie.spec
+change-spec = close (spec
     (λ c κs. search needs) (λ c κs. search needs)
     (λ c κs.
     let out = c .before .before .before .before in

@@ -2,52 +2,49 @@
 use Rattle.basis.proofs.Prelude.{_∙_, _≡_, sym, _≤_, getD, length, length-set, length-take-le, arith, needs}
 use Rattle.plans.specs.Plans.{deeperBy}
 use Rattle.spell_places.specs.List.{countedOf}
-use Rattle.standing_words.proofs.{Assembling.{partsBack, array-back, parts-back}, Edits.{count-in, depth-in, plan-fits, edited}, edit_in.Statement.statement}
-use Rattle.standing_words.proofs.edit_in.Tie as tie
+use Rattle.standing_words.proofs.{Assembling.{partsBack, array-back, parts-back}, Edits.{count-in, depth-in, plan-fits, edited}, edit_in.Statement.statement, edit_in.Tie.{Start, After-last-place, After-planned, After-find, After-number-of, After-note, After-change, close, spec}}
 
 -- ---- The places of the code
 
-module _ (c : tie.Start) where
+module _ (c : Start) where
   few : getD (c .args .words .now) 7744 0 ≤ 1024
   few = count-in (c .args .words .now) (c .pre .0) (c .pre .1)
 
   deep : getD (c .args .words .now) 7745 0 ≤ 64
   deep = depth-in (c .args .words .now) (c .pre .0) (c .pre .1)
 
-module _ (c : tie.After-last-place) where
+module _ (c : After-last-place) where
   entry-in : c .last-place .result ≤ 64
   entry-in = omega (arith, c .last-place .ensures, deep (c .before .before .before .before .before))
 
-module _ (c : tie.After-planned) where
-  abbrev found : tie.After-find
+module _ (c : After-planned) where
+  abbrev found : After-find
   found = c .before .before
 
-  abbrev number : tie.After-number-of
+  abbrev number : After-number-of
   number = found .before .before
 
-  abbrev last : tie.After-last-place
+  abbrev last : After-last-place
   last = number .before .before
 
-  abbrev start : tie.Start
+  abbrev start : Start
   start = last .before .before .before .before .before
 
   fits : (countedOf (getD (start .args .words .now) 7744 0) (c .planned .result .out) (c .planned .result .puts) ≤ 1024) × (deeperBy (c .planned .result .depth) (c .planned .result .notes) ≤ 64)
   fits = plan-fits (start .args .words .now) (start .pre .0) (start .pre .1) (start .args .call) (last .last-place .ensures) (number .before .entry-at .ensures) (number .number-of .ensures) (found .find .ensures) (c .planned .ensures)
 
-module _ (c : tie.After-note) where
-  abbrev changed : tie.After-change
+module _ (c : After-note) where
+  abbrev changed : After-change
   changed = c .before .before .before .before
 
-  abbrev planned : tie.After-planned
+  abbrev planned : After-planned
   planned = changed .before .before .before .before
 
   long : length (partsBack (start planned .args .words .now) (start planned .pre .0) (changed .change .last .0) (c .note .last .0)) ≡ 7746
   long = parts-back (start planned .args .words .now) (start planned .pre .0) (changed .change .last .0) (c .note .last .0) (changed .change .ensures .long) (c .note .ensures .long)
 
 pub edit-in-spec : {M : Type 1} → statement M
-edit-in-spec =
-    tie.close
-    (tie.spec
+edit-in-spec = close (spec
     (λ c. search needs) (λ c. omega (arith, few (c .before .before)))
     (λ c. search needs) (λ c. omega (arith, deep (c .before .before .before)))
     (λ c κs. search needs) (λ c. omega (arith, entry-in c)) (λ c. omega (arith, entry-in c))

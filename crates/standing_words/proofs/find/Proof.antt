@@ -3,16 +3,15 @@ use Rattle.basis.proofs.Prelude.{_∙_, _≡_, sym, _+_, _-_, _≤_, ℕ, List,
 use Rattle.spell.specs.{declared.Spell.Spell, Blank.blank}
 use Rattle.spell_places.{specs.{declared.Located.Located, Search.{lead, standsAt, foundIn}}, proofs.Search.{walk-on, walk-stops, walk-ends}}
 use Rattle.standing_words.specs.Contracts.{spellsOf}
-use Rattle.standing_words.proofs.{Reading.{places, spell-is, number-is}, find.Statement.statement}
-use Rattle.standing_words.proofs.find.Tie as tie
+use Rattle.standing_words.proofs.{Reading.{places, spell-is, number-is}, find.Statement.statement, find.Tie.{InvT-loop, MeasureT-loop, close, spec}}
 
 abbrev passes : ℕ → Spell → Bool
 passes k x = not (eqb (x .number) k)
 
-abbrev Inv-loop : tie.InvT-loop
+abbrev Inv-loop : InvT-loop
 Inv-loop words n k i₀ i = (i ≤ n) × (standsAt k (take n (spellsOf words)) ≡ i + lead (passes k) (drop i (take n (spellsOf words))))
 
-abbrev μ-loop : tie.MeasureT-loop
+abbrev μ-loop : MeasureT-loop
 μ-loop words n k i₀ i = n - i
 
 -- what is found at i
@@ -20,9 +19,7 @@ found-at : (k : ℕ) (l : List Spell) {i : ℕ} {x : Spell} → i ≡ standsAt k
 found-at k l at is = rw (is, at)
 
 pub find-spec : {M : Type 1} → statement M
-find-spec =
-    tie.close
-    (tie.spec
+find-spec = close (spec
     Inv-loop μ-loop (λ c. (omega arith, sym (zero-add _)))
     -- words[7 * i] == k
     (λ c. omega arith) (λ c. omega arith) (λ c. omega arith) (λ c. omega arith) (λ c κs. search needs)

@@ -1,19 +1,16 @@
 -- `standing_words::lower` meets its contract: the words up to i have moved. Assumes nothing.
 use Rattle.basis.proofs.Prelude.{_≡_, refl, _-_, _≤_, length, length-set, arith}
 use Rattle.standing_words.specs.Moves.{lowered}
-use Rattle.standing_words.proofs.{Moves.{lower-none, lower-step}, lower.Statement.statement}
-use Rattle.standing_words.proofs.lower.Tie as tie
+use Rattle.standing_words.proofs.{Moves.{lower-none, lower-step}, lower.Statement.statement, lower.Tie.{InvT-loop, MeasureT-loop, close, spec}}
 
-abbrev Inv-loop : tie.InvT-loop
+abbrev Inv-loop : InvT-loop
 Inv-loop words₀ from to by i₀ words i = (from ≤ i) × (i ≤ to) × (length words ≡ length words₀) × (words ≡ lowered by from i words₀)
 
-abbrev μ-loop : tie.MeasureT-loop
+abbrev μ-loop : MeasureT-loop
 μ-loop words₀ from to by i₀ words i = to - i
 
 pub lower-spec : {M : Type 1} → statement M
-lower-spec =
-    tie.close
-    (tie.spec
+lower-spec = close (spec
     Inv-loop μ-loop (λ c. (omega arith, omega arith, refl, lower-none _ _ _))
     -- words[i] = words[i + by]
     (λ c. omega arith) (λ c. omega arith) (λ c. omega arith) (λ c. omega arith) (λ c. omega arith) (λ c. omega arith) (λ c. omega arith)

@@ -1,12 +1,9 @@
 -- `standing_words::note` meets its contract. Assumes nothing.
 use Rattle.basis.proofs.Prelude.{arith, needs, not-false, not-true}
-use Rattle.standing_words.proofs.{Changing.{notes-none, notes-room, notes-full}, note.Statement.statement}
-use Rattle.standing_words.proofs.note.Tie as tie
+use Rattle.standing_words.proofs.{Changing.{notes-none, notes-room, notes-full}, note.Statement.statement, note.Tie.{close, spec}}
 
 pub note-spec : {M : Type 1} → statement M
-note-spec =
-    tie.close
-    (tie.spec
+note-spec = close (spec
     (λ c. let a = c .before .before .args in rw (not-true (a .notes) (c .if1 .taken)) (notes-none (a .journal .now) (omega arith) (a .d) (a .e)))
     (λ c. search needs) (λ c κs. search needs) (λ c. search needs)
     -- there is room

@@ -3,19 +3,16 @@ use Rattle.basis.proofs.Prelude.{_∙_, _≡_, sym, _+_, _-_, _≤_, drop, take
 use Rattle.spell.specs.Order.{earlierOf}
 use Rattle.spell_places.{specs.Search.{lead, placeOf}, proofs.Search.{walk-on, walk-stops, walk-ends}}
 use Rattle.standing_words.specs.Contracts.{spellsOf}
-use Rattle.standing_words.proofs.{Reading.{places, spell-is}, place.Statement.statement}
-use Rattle.standing_words.proofs.place.Tie as tie
+use Rattle.standing_words.proofs.{Reading.{places, spell-is}, place.Statement.statement, place.Tie.{InvT-loop, MeasureT-loop, close, spec}}
 
-abbrev Inv-loop : tie.InvT-loop
+abbrev Inv-loop : InvT-loop
 Inv-loop words m s i₀ i = (i ≤ m) × (placeOf s (take m (spellsOf words)) ≡ i + lead (λ x. earlierOf x s) (drop i (take m (spellsOf words))))
 
-abbrev μ-loop : tie.MeasureT-loop
+abbrev μ-loop : MeasureT-loop
 μ-loop words m s i₀ i = m - i
 
 pub place-spec : {M : Type 1} → statement M
-place-spec =
-    tie.close
-    (tie.spec
+place-spec = close (spec
     Inv-loop μ-loop (λ c. (omega arith, sym (zero-add _)))
     (λ c. omega arith) (λ c κs. search needs) (λ c κs. search needs)
     -- it is not earlier

@@ -1,16 +1,13 @@
 -- `standing_words::put_in` meets its contract. Assumes nothing.
 use Rattle.basis.proofs.Prelude.{_≤_, arith, needs, le-ltb, not-false, not-true}
-use Rattle.standing_words.proofs.{Reading.place-in, Changing.{puts-none, puts-one}, put_in.Statement.statement}
-use Rattle.standing_words.proofs.put_in.Tie as tie
+use Rattle.standing_words.proofs.{Reading.place-in, put_in.Statement.statement, Changing.{puts-none, puts-one}, put_in.Tie.{After-place, close, spec}}
 
-module _ (c : tie.After-place) where
+module _ (c : After-place) where
   low : c .place .result ≤ c .before .before .before .before .before .args .m
   low = let a = c .before .before .before .before .before .args in place-in (a .words .now) (a .s) (omega arith) (c .place .ensures)
 
 pub put-in-spec : {M : Type 1} → statement M
-put-in-spec =
-    tie.close
-    (tie.spec
+put-in-spec = close (spec
     (λ c. let a = c .before .before .args in puts-none (a .words .now) (omega arith) (a .m) (a .s) (omega arith) (a .puts) (rw (not-true (a .puts) (c .if1 .taken))))
     (λ c.
     let a = c .before .before .before .args in

@@ -1,19 +1,16 @@
 -- `standing_words::raise` meets its contract: the words from i on have moved. Assumes nothing.
 use Rattle.basis.proofs.Prelude.{_≡_, refl, _-_, _≤_, suc, length, length-set, arith}
 use Rattle.standing_words.specs.Moves.{raised}
-use Rattle.standing_words.proofs.{Moves.{raise-none, raise-step}, raise.Statement.statement}
-use Rattle.standing_words.proofs.raise.Tie as tie
+use Rattle.standing_words.proofs.{Moves.{raise-none, raise-step}, raise.Statement.statement, raise.Tie.{InvT-loop, MeasureT-loop, close, spec}}
 
-abbrev Inv-loop : tie.InvT-loop
+abbrev Inv-loop : InvT-loop
 Inv-loop words₀ from to by i₀ words i = (from ≤ i) × (i ≤ to) × (length words ≡ length words₀) × (words ≡ raised by i to words₀)
 
-abbrev μ-loop : tie.MeasureT-loop
+abbrev μ-loop : MeasureT-loop
 μ-loop words₀ from to by i₀ words i = i
 
 pub raise-spec : {M : Type 1} → statement M
-raise-spec =
-    tie.close
-    (tie.spec
+raise-spec = close (spec
     Inv-loop μ-loop (λ c. (omega arith, omega arith, refl, raise-none _ _ _))
     -- words[i + by] = words[i]
     (λ c. omega arith) (λ c. omega arith) (λ c. omega arith) (λ c. omega arith) (λ c. omega arith) (λ c. omega arith) (λ c. omega arith)

@@ -1,12 +1,9 @@
 -- `standing_words::take_out` meets its contract. Assumes nothing.
 use Rattle.basis.proofs.Prelude.{arith, needs}
-use Rattle.standing_words.proofs.{Changing.{takes-none, takes-one}, take_out.Statement.statement}
-use Rattle.standing_words.proofs.take_out.Tie as tie
+use Rattle.standing_words.proofs.{Changing.{takes-none, takes-one}, take_out.Statement.statement, take_out.Tie.{close, spec}}
 
 pub take-out-spec : {M : Type 1} → statement M
-take-out-spec =
-    tie.close
-    (tie.spec
+take-out-spec = close (spec
     (λ c. let a = c .before .before .args in takes-none (a .words .now) (omega arith) (a .n) (a .p) (omega arith) (omega arith))
     (λ c. search needs) (λ c. search needs) (λ c. search needs) (λ c κs. search needs) (λ c. search needs)
     (λ c.

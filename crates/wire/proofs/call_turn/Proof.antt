@@ -3,10 +3,9 @@ use Rattle.basis.proofs.Prelude.{arith, needs}
 use Rattle.outcomes.specs.Outcomes.{asking}
 use Rattle.replies.proofs.Fitting.{replied}
 use Rattle.conversations.proofs.Replying.{fits, called}
-use Rattle.wire.proofs.call_turn.Statement.{statement}
-use Rattle.wire.proofs.call_turn.Tie as tie
+use Rattle.wire.proofs.call_turn.{Statement.statement, Tie.{Need-returns, close, spec}}
 
-returns : tie.Need-returns
+returns : Need-returns
 returns c =
     let stepped = c .before .before .before .before .before .before .before .before .before .before in
     let start = stepped .before .before .before .before .before .before .before in
@@ -15,9 +14,7 @@ returns c =
     called _ _ _ _ _ _ _ (omega arith) (omega arith) (omega arith) _ _ _ _ _ _ _ (stepped .step .ensures) (replied _ fit (c .put-reply .ensures))
 
 pub call-turn-spec : {M : Type 1} → statement M
-call-turn-spec =
-    tie.close
-    (tie.spec
+call-turn-spec = close (spec
     (λ c κs. search needs)
     (λ c κs. search needs) (λ c. search needs) (λ c. search needs)
     returns)

@@ -1,20 +1,16 @@
 -- `standing::words::standing_at` meets its contract. Assumes nothing.
 use Rattle.basis.proofs.Prelude.{arith, needs}
 use denote.Ref.{now}
-use Rattle.standing.proofs.Packed.{read-standing}
-use Rattle.standing.proofs.words.standing_at.Statement.{statement}
-use Rattle.standing.proofs.words.standing_at.Tie as tie
+use Rattle.standing.proofs.{Packed.read-standing, words.standing_at.{Statement.statement, Tie.{Need-returns, close, spec}}}
 
-returns : tie.Need-returns
+returns : Need-returns
 returns c =
     let read = c .before .before in
     let first = read .before .before in
     rw (first .spells-at .ensures, read .journal-at .ensures) (read-standing (now (first .before .before .args .words)))
 
 pub standing-at-spec : {M : Type 1} → statement M
-standing-at-spec =
-    tie.close
-    (tie.spec
+standing-at-spec = close (spec
     (λ c κs. search needs) (λ c. search needs) (λ c. search needs) (λ c. search needs) (λ c κs. search needs) (λ c. search needs)
     (λ c. omega (arith, c .shared-slice-known2 .given 7744))  -- words[7744] as usize
     (λ c. search needs)
