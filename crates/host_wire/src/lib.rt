@@ -82,10 +82,13 @@ fn power_of(word: u32) -> u32
     0
 }
 
-// Whether a request that may change the state did: a reading always, another where it is answered `ok`.
+// Whether a request changed the state: a reading always, another whose word may do so where it is answered `ok`.
 fn changed_at(power: u32, out: &[u8], place: usize) -> u32
     ensures { λ r. ⌜ r ≡ changedAt power (now (out .entry)) place ⌝ }
 {
+    if power == 0 {
+        return 0;
+    }
     if power == 2 {
         return 1;
     }
@@ -109,45 +112,7 @@ fn held_back(word: u32, room: usize) -> Carried
     }
 }
 
-// What leaves the service as it is: its words are not written.
-fn read(
-    words: &[u16; SERVICE],
-    index: &mut [u16; INDEX],
-    room: usize,
-    word: u32,
-    wanted: Wanted,
-    payload: &[u8],
-    days: &[u16; DAYS],
-    numbers: &mut [u16; ROOM],
-    text: &mut [u8; ROOM],
-    out: &mut [u8; OUT],
-) -> Carried
-    requires { ⌜ Given (unpacked (now words)) (blocks (now index)) ⌝ }
-    requires { ⌜ powerOf (wordOf (askedIn wanted (now days))) ≡ 0 ⌝ }
-    ensures { λ r. ⌜ Answers (unpacked (now (words .entry))) (blocks (now (index .entry))) (roomOf room) (askedIn wanted (now (days .entry))) (now (payload .entry)) (now (numbers .entry)) (now (text .entry)) (now (out .entry)) (answeredOf (now (words .entry)) r) (blocks (now (index .exit))) (now (numbers .exit)) (now (text .exit)) (now (out .exit)) ⌝ }
-    ensures { λ r. ⌜ (r .word ≡ word) × (r .changed ≡ 0) ⌝ }
-{
-    let service = service::unpack(words);
-    let r = wire::carry(
-        service,
-        index,
-        room,
-        wanted,
-        payload,
-        days,
-        numbers,
-        text,
-        out,
-    );
-    Carried {
-        word,
-        changed: 0,
-        room: r.room,
-        place: r.place,
-    }
-}
-
-// What may change it: its words are written where it did.
+// What it does: the service's words are written where it was changed.
 fn change(
     words: &mut [u16; SERVICE],
     index: &mut [u16; INDEX],
@@ -162,9 +127,9 @@ fn change(
     out: &mut [u8; OUT],
 ) -> Carried
     requires { ⌜ Given (unpacked (now words)) (blocks (now index)) ⌝ }
-    requires { ⌜ (power ≡ powerOf (wordOf (askedIn wanted (now days)))) × (1 ≤ power) ⌝ }
+    requires { ⌜ power ≡ powerOf (wordOf (askedIn wanted (now days))) ⌝ }
     ensures { λ r. ⌜ Answers (unpacked (now (words .entry))) (blocks (now (index .entry))) (roomOf room) (askedIn wanted (now (days .entry))) (now (payload .entry)) (now (numbers .entry)) (now (text .entry)) (now (out .entry)) (answeredOf (now (words .exit)) r) (blocks (now (index .exit))) (now (numbers .exit)) (now (text .exit)) (now (out .exit)) ⌝ }
-    ensures { λ r. ⌜ (Laid (now (words .entry)) → Laid (now (words .exit))) ⌝ }
+    ensures { λ r. ⌜ (Laid (now (words .entry)) → Laid (now (words .exit))) × (r .changed ≡ 0 → now (words .exit) ≡ now (words .entry)) ⌝ }
     ensures { λ r. ⌜ (r .word ≡ word) × (r .changed ≡ changedAt power (now (out .exit)) (r .place)) ⌝ }
 {
     let service = service::unpack(words);
@@ -220,20 +185,6 @@ fn carry(
     let power = power_of(word);
     if power > allowed {
         return held_back(word, room);
-    }
-    if power == 0 {
-        return read(
-            words,
-            index,
-            room,
-            word,
-            wanted,
-            payload,
-            days,
-            numbers,
-            text,
-            out,
-        );
     }
     change(
         words,

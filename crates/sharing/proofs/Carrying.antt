@@ -6,7 +6,7 @@ use Rattle.service.specs.{declared.Service.Service, Packed.unpacked, Service.{B
 use Rattle.conversations.{specs.{declared.{Answered.Answered, Looked.the-variants.{Done, Wants}, Wanted.Wanted}, Conversation.turnOf, Answering.{conv, roomOf, Answers, askedIn, Looks}}, proofs.Serving.{looked-served, carried-served}}
 use Rattle.phayaklit.specs.Host.{Laid}
 use Rattle.sharing.specs.{declared.Carried.Carried, Words.{wordOf, wordIn, powerOf, changedAt}, Carrying.{eventsOf, answeredOf, Carries, HeldBack, Requested}, Contracts.{CarriesOf, HeldOf, RequestedOf}}
-use Rattle.sharing.proofs.Words.{word-parsed, power-none, power-keeps, power-onlyReads, length-none, unkept, changed-journal}
+use Rattle.sharing.proofs.Words.{word-parsed, power-none, power-onlyReads, length-none, unkept, changed-journal}
 
 -- ---- What leaves the service as it is
 
@@ -33,40 +33,31 @@ unchanged q same g a =
       lists = a .lists;
     }
 
--- so it is where the word only reads
-pub stays-read : (sv : Service) (bs : Blocks) (room : ℕ) (q : Demand) (payload : List ℕ) → powerOf (wordOf q) ≡ 0 → Stays sv bs room q payload
-stays-read sv bs room q payload none m rep = power-keeps m payload room q none
-
--- and where it changes, and the answer's first byte says that it did not
-pub stays-refused : {sv : Service} {bs bs′ : Blocks} {room : ℕ} (q : Demand) {payload numbers text out numbers′ text′ out′ : List ℕ} {r : Answered} (power : ℕ) → power ≡ powerOf (wordOf q) → 1 ≤ power
+-- so it is where it is told that nothing was changed
+pub stays : {sv : Service} {bs bs′ : Blocks} {room : ℕ} (q : Demand) {payload numbers text out numbers′ text′ out′ : List ℕ} {r : Answered} (power : ℕ) → power ≡ powerOf (wordOf q)
     → changedAt power out′ (r .place) ≡ 0 → Answers sv bs room q payload numbers text out r bs′ numbers′ text′ out′ → Stays sv bs room q payload
-stays-refused {room = room} q {payload} {out′ = out′} {r = r} power is some none a m rep =
-    let told : changedAt (powerOf (wordOf q)) out′ (r .place) ≡ length (journal m (eventsOf q payload room))
-    = changed-journal m payload room q (λ e. absurd (omega (arith, some, is, e))) (a .turned .taken m rep .sends) in
+stays {room = room} q {payload} {out′ = out′} {r = r} power is none a m rep =
+    let told = changed-journal m payload room q (a .turned .taken m rep .sends) in
     unkept m payload room q (length-none (journal m (eventsOf q payload room)) (sym told ∙ ap (λ (k : ℕ). changedAt k out′ (r .place)) (sym is) ∙ none))
 
 -- ---- What is wanted of it
 
-module _ (q : Demand) {words words′ : List ℕ} {bs bs′ : Blocks} {room : ℕ} {payload numbers text out numbers′ text′ out′ : List ℕ} {r : Carried}
-    (a : Answers (unpacked words) bs (roomOf room) q payload numbers text out (answeredOf words′ r) bs′ numbers′ text′ out′) (w : r .word ≡ wordOf q) where
-  pub carries-read : powerOf (wordOf q) ≡ 0 → r .changed ≡ 0 → words′ ≡ words → CarriesOf q words bs room payload numbers text out r words′ bs′ numbers′ text′ out′
-  carries-read none c same = record {
-    answers = a;
-    word = w;
-    changed = λ m rep. c ∙ ap length (sym (power-none m payload (roomOf room) q none));
-    laid = λ l. rw same l;
-    kept = λ _. same;
-  }
+-- a word that leaves the state changes nothing
+unchanging : {power : ℕ} (out : List ℕ) (place : ℕ) → power ≡ 0 → changedAt power out place ≡ 0
+unfolding changedAt
+unchanging out place none = rw none
 
-  pub carries-change : (power : ℕ) → power ≡ powerOf (wordOf q) → (power ≡ 0 → ⊥) → r .changed ≡ changedAt power out′ (r .place) → (Laid words → Laid words′)
-      → CarriesOf q words bs room payload numbers text out r words′ bs′ numbers′ text′ out′
-  carries-change power is some c l = record {
-    answers = a;
-    word = w;
-    changed = λ m rep. c ∙ ap (λ (k : ℕ). changedAt k out′ (r .place)) is ∙ changed-journal m payload (roomOf room) q (λ none. some (is ∙ none)) (a .turned .taken m rep .sends);
-    laid = l;
-    kept = λ none. absurd (some (is ∙ none));
-  }
+pub carries : (q : Demand) {words words′ : List ℕ} {bs bs′ : Blocks} {room : ℕ} {payload numbers text out numbers′ text′ out′ : List ℕ} {r : Carried} (power : ℕ)
+    → Answers (unpacked words) bs (roomOf room) q payload numbers text out (answeredOf words′ r) bs′ numbers′ text′ out′ → r .word ≡ wordOf q → power ≡ powerOf (wordOf q)
+    → r .changed ≡ changedAt power out′ (r .place) → (Laid words → Laid words′) → (r .changed ≡ 0 → words′ ≡ words)
+    → CarriesOf q words bs room payload numbers text out r words′ bs′ numbers′ text′ out′
+carries q {room = room} {payload} {out′ = out′} {r = r} power a w is c l same = record {
+  answers = a;
+  word = w;
+  changed = λ m rep. c ∙ ap (λ (k : ℕ). changedAt k out′ (r .place)) is ∙ changed-journal m payload (roomOf room) q (a .turned .taken m rep .sends);
+  laid = l;
+  kept = λ none. same (c ∙ unchanging out′ (r .place) (is ∙ none));
+}
 
 module _ (q : Demand) {words words′ : List ℕ} {bs bs′ : Blocks} {room allowed : ℕ} (payload : List ℕ) {numbers text out numbers′ text′ out′ : List ℕ} {r : Carried}
     {power : ℕ} (is : power ≡ powerOf (wordOf q)) where

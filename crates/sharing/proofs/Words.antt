@@ -93,10 +93,6 @@ module _ (m : State) (payload : List ℕ) (room : ℕ) where
   unfolding left
   unkept q none = turn-left q ∙ sym (journal-left m (eventsOf q payload room)) ∙ ap (left m) none
 
-  -- so of one whose word leaves it
-  pub power-keeps : (q : Demand) → powerOf (wordOf q) ≡ 0 → turnOf q payload (conv m room) .next .state ≡ m
-  power-keeps q none = unkept q (power-none q none)
-
 -- ---- The first byte of an answer
 
 pub first-byte : {out out′ t : List ℕ} {place : ℕ} (b x : ℕ) → Sends (b ∷ t) out place out′ → isAt out′ place x ≡ eqb b x
@@ -119,16 +115,15 @@ module _ (m : State) (payload : List ℕ) (room : ℕ) {out out′ : List ℕ} {
   changed-call c ds e s true f = first-byte 111 111 (rw (f, accepted-ok c (step m (callOf c ds room) .answer) e) at s)
   changed-call c ds e s false f = first-byte 114 111 (rw f at s)
 
-  pub changed-journal : (q : Demand) → (powerOf (wordOf q) ≡ 0 → ⊥) → Sends (turnOf q payload (conv m room) .reply) out place out′
-      → changedAt (powerOf (wordOf q)) out′ place ≡ length (journal m (eventsOf q payload room))
+  pub changed-journal : (q : Demand) → Sends (turnOf q payload (conv m room) .reply) out place out′ → changedAt (powerOf (wordOf q)) out′ place ≡ length (journal m (eventsOf q payload room))
   unfolding turnOf journal changedAt powerOf
-  changed-journal (asksCall c ds) some s = go (reads c) refl (eqb (step m (callOf c ds room) .answer .refusal) accepted) refl
+  changed-journal (asksCall c ds) s = go (reads c) refl (eqb (step m (callOf c ds room) .answer .refusal) accepted) refl
     where
       go : (b : Bool) → reads c ≡ b → (a : Bool) → eqb (step m (callOf c ds room) .answer .refusal) accepted ≡ a
           → changedAt (powerOf (callWord c)) out′ place ≡ length (cond (not b && a) (call (callOf c ds room) ∷ []) [])
-      go true e a f = absurd (some (power-reads c e))
+      go true e a f = rw (power-reads c e)
       go false e true f = byte-changed (powerOf (callWord c)) out′ place true (power-changes c e) (changed-call c ds e s true f)
       go false e false f = byte-changed (powerOf (callWord c)) out′ place false (power-changes c e) (changed-call c ds e s false f)
-  changed-journal (asksRoom n) some s = absurd (some refl)
-  changed-journal (asksRead n) some s = refl
-  changed-journal malformed some s = absurd (some refl)
+  changed-journal (asksRoom n) s = refl
+  changed-journal (asksRead n) s = refl
+  changed-journal malformed s = refl

@@ -43,6 +43,6 @@ wordIn RequestMalformed = 0
 unfoldable pub powerOf : ℕ → ℕ
 powerOf w = cond (eqb w 2) 2 (cond (ltb w 16) 0 (cond (ltb w 32) 1 0))
 
--- 1 for a reading, and for an answer that begins with the `o` of `ok`
+-- 0 where the word leaves the state; 1 for a reading, and for an answer that begins with the `o` of `ok`
 unfoldable pub changedAt : ℕ → List ℕ → ℕ → ℕ
-changedAt power out place = cond (eqb power 2) 1 (cond (isAt out place 111) 1 0)
+changedAt power out place = cond (eqb power 0) 0 (cond (eqb power 2) 1 (cond (isAt out place 111) 1 0))

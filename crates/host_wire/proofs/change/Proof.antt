@@ -2,7 +2,7 @@
 use Rattle.basis.proofs.Prelude.{_∙_, sym, refl, needs}
 use Rattle.phayaklit.proofs.Host.{laid}
 use Rattle.conversations.specs.Answering.{askedIn}
-use Rattle.sharing.proofs.Carrying.{unchanged, stays-refused}
+use Rattle.sharing.proofs.Carrying.{unchanged, stays}
 use Rattle.host_wire.proofs.change.{Statement.statement, Tie.{Need-carry-requires, Need-returns, Need-returns-2, close, spec}}
 
 carry-requires : Need-carry-requires
@@ -19,14 +19,14 @@ returns c =
     let start = taken .before .before .before in
     let q = askedIn (start .args .wanted) (start .args .days .now) in
     let a = rw (taken .unpack .ensures) at (answered .carry .ensures) in
-    (unchanged q (stays-refused q (start .args .power) (start .pre .1 .0) (start .pre .1 .1) (sym (told .changed-at .ensures) ∙ c .if1 .taken) a) (start .pre .0) a, ((λ l. l), (refl, told .changed-at .ensures)))
+    (unchanged q (stays q (start .args .power) (start .pre .1) (sym (told .changed-at .ensures) ∙ c .if1 .taken) a) (start .pre .0) a, (((λ l. l), (λ _. refl)), (refl, told .changed-at .ensures)))
 
 returns-2 : Need-returns-2
 returns-2 c =
     let told = c .before .before .before .before in
     let answered = told .before .before .before in
     let taken = answered .before .before .before .before .before in
-    (rw (c .pack .ensures .back) (rw (taken .unpack .ensures) at (answered .carry .ensures)), ((λ _. laid _ _ (c .pack .ensures)), (refl, told .changed-at .ensures)))
+    (rw (c .pack .ensures .back) (rw (taken .unpack .ensures) at (answered .carry .ensures)), (((λ _. laid _ _ (c .pack .ensures)), (λ e. absurd (c .before .before .before .if1 .left e))), (refl, told .changed-at .ensures)))
 
 pub change-spec : {M : Type 1} → statement M
 change-spec = close (spec (λ c κs. search needs) carry-requires (λ c κs. search needs) returns (λ c κs. search needs) returns-2)
