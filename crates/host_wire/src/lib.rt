@@ -1,16 +1,17 @@
 // A request from bytes to bytes for other software, on a host's words: what it asks is answered, and the host is told which word it was
 // and whether it changed the state.
 ghost use mathlib.Core.Path.{_≡_};
-ghost use Prim.Native.Nat.{ℕ, _≤_};
+ghost use Prim.Native.Nat.{ℕ, _≤_, _<_};
+ghost use lib.ListN.{length};
 ghost use mathlib.Core.List.{List};
 ghost use Rattle.fields.specs.Fields.{isAt};
 ghost use Rattle.service.specs.Packed.{unpacked};
-ghost use Rattle.service.specs.Service.{blocks, Given};
+ghost use Rattle.service.specs.Service.{blocks, Given, Valid};
 ghost use Rattle.conversations.specs.Answering.{roomOf, Answers, askedIn};
 ghost use Rattle.phayaklit.specs.Host.{Laid};
 ghost use Rattle.sharing.specs.Words.{questionWord, callWord, wordIn, wordOf, powerOf, changedAt};
 ghost use Rattle.sharing.specs.Carrying.{answeredOf, heldAt, Requested};
-ghost use Rattle.sharing.specs.Contracts.{RequestedOf};
+ghost use Rattle.sharing.specs.Contracts.{EditTurn, EditsIn, RequestedOf};
 use conversations::DAYS;
 use conversations::Looked;
 use conversations::ROOM;
@@ -22,6 +23,7 @@ use requests::Request;
 use service::SERVICE;
 use sharing::Carried;
 use stabbing::INDEX;
+use telling::told;
 
 // ---- The words by number: 0 is a line of no form, 1 `room`, 2 `read`; those from 16 to 31 change the state, from 32 on they only read
 
@@ -112,7 +114,56 @@ fn held_back(word: u32, room: usize) -> Carried
     }
 }
 
-// What it does: the service's words are written where it was changed.
+// An edit, made on the words where they lie. Its answer lists nothing: the lent lists, of which it has the first places, are looked at only.
+fn edit_turn(
+    words: &mut [u16; SERVICE],
+    room: usize,
+    call: Call,
+    numbers: &[u16],
+    text: &[u8],
+    out: &mut [u8; OUT],
+) -> usize
+    requires { ⌜ Valid (unpacked (now words)) ⌝ }
+    requires { ⌜ callWord call < 20 ⌝ }
+    requires { ⌜ (room ≤ 65536) × (room ≤ length (now numbers)) × (room ≤ length (now text)) ⌝ }
+    ensures { λ r. ⌜ EditTurn call (now (words .entry)) room (now (numbers .entry)) (now (text .entry)) (now (out .entry)) r (now (words .exit)) (now (out .exit)) ⌝ }
+{
+    let outcome = told(standing_words::edit(words, call));
+    reply_calls::put_reply(out, call, outcome, &numbers[..room], &text[..room])
+}
+
+// What asks for an edit, by its word.
+fn edit(
+    words: &mut [u16; SERVICE],
+    room: usize,
+    word: u32,
+    wanted: Wanted,
+    numbers: &[u16; ROOM],
+    text: &[u8; ROOM],
+    out: &mut [u8; OUT],
+) -> Carried
+    requires { ⌜ Valid (unpacked (now words)) ⌝ }
+    requires { ⌜ ((days : List ℕ) → word ≡ wordOf (askedIn wanted days)) ⌝ }
+    requires { ⌜ (16 ≤ word) × (word < 20) ⌝ }
+    ensures { λ r. ⌜ EditsIn wanted (now (words .entry)) room (now (numbers .entry)) (now (text .entry)) (now (out .entry)) r (now (words .exit)) (now (out .exit)) ⌝ }
+{
+    match wanted {
+        Wanted::Call(call, _) => {
+            let lent = buffer::least(room, ROOM);
+            let place = edit_turn(words, lent, call, numbers, text, out);
+            let changed = changed_at(1, out, place);
+            Carried {
+                word,
+                changed,
+                room: lent,
+                place,
+            }
+        }
+        Wanted::Read(_) => held_back(word, room),
+    }
+}
+
+// Anything else: the service's words are written where it was changed.
 fn change(
     words: &mut [u16; SERVICE],
     index: &mut [u16; INDEX],
@@ -129,7 +180,7 @@ fn change(
     requires { ⌜ Given (unpacked (now words)) (blocks (now index)) ⌝ }
     requires { ⌜ power ≡ powerOf (wordOf (askedIn wanted (now days))) ⌝ }
     ensures { λ r. ⌜ Answers (unpacked (now (words .entry))) (blocks (now (index .entry))) (roomOf room) (askedIn wanted (now (days .entry))) (now (payload .entry)) (now (numbers .entry)) (now (text .entry)) (now (out .entry)) (answeredOf (now (words .exit)) r) (blocks (now (index .exit))) (now (numbers .exit)) (now (text .exit)) (now (out .exit)) ⌝ }
-    ensures { λ r. ⌜ (Laid (now (words .entry)) → Laid (now (words .exit))) × (r .changed ≡ 0 → now (words .exit) ≡ now (words .entry)) ⌝ }
+    ensures { λ r. ⌜ (Laid (now (words .entry)) → Laid (now (words .exit))) × (power ≡ 0 → now (words .exit) ≡ now (words .entry)) ⌝ }
     ensures { λ r. ⌜ (r .word ≡ word) × (r .changed ≡ changedAt power (now (out .exit)) (r .place)) ⌝ }
 {
     let service = service::unpack(words);
@@ -185,6 +236,11 @@ fn carry(
     let power = power_of(word);
     if power > allowed {
         return held_back(word, room);
+    }
+    if word >= 16 {
+        if word < 20 {
+            return edit(words, room, word, wanted, numbers, text, out);
+        }
     }
     change(
         words,

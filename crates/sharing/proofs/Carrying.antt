@@ -3,7 +3,7 @@ use Rattle.basis.proofs.Prelude.{_∙_, _≡_, ap, refl, sym, _<_, _≤_, ℕ, 
 use Rattle.model.specs.{Model.State, Journal.journal}
 use Rattle.requests.specs.{declared.Request.Request, Requests.{Demand, askedOf}}
 use Rattle.service.specs.{declared.Service.Service, Packed.unpacked, Service.{Blocks, Represents, Given}}
-use Rattle.conversations.{specs.{declared.{Answered.Answered, Looked.the-variants.{Done, Wants}, Wanted.Wanted}, Conversation.turnOf, Answering.{conv, roomOf, Answers, askedIn, Looks}}, proofs.Serving.{looked-served, carried-served}}
+use Rattle.conversations.{specs.{declared.{Answered.Answered, Wanted.Wanted, Looked.the-variants.{Done, Wants}}, Conversation.turnOf, Answering.{conv, roomOf, Answers, askedIn, Looks}}, proofs.Serving.{looked-served, carried-served}}
 use Rattle.phayaklit.specs.Host.{Laid}
 use Rattle.sharing.specs.{declared.Carried.Carried, Words.{wordOf, wordIn, powerOf, changedAt}, Carrying.{eventsOf, answeredOf, Carries, HeldBack, Requested}, Contracts.{CarriesOf, HeldOf, RequestedOf}}
 use Rattle.sharing.proofs.Words.{word-parsed, power-none, power-onlyReads, length-none, unkept, changed-journal}
@@ -43,20 +43,20 @@ stays {room = room} q {payload} {out′ = out′} {r = r} power is none a m rep 
 -- ---- What is wanted of it
 
 -- a word that leaves the state changes nothing
-unchanging : {power : ℕ} (out : List ℕ) (place : ℕ) → power ≡ 0 → changedAt power out place ≡ 0
+pub unchanging : {power : ℕ} (out : List ℕ) (place : ℕ) → power ≡ 0 → changedAt power out place ≡ 0
 unfolding changedAt
 unchanging out place none = rw none
 
 pub carries : (q : Demand) {words words′ : List ℕ} {bs bs′ : Blocks} {room : ℕ} {payload numbers text out numbers′ text′ out′ : List ℕ} {r : Carried} (power : ℕ)
     → Answers (unpacked words) bs (roomOf room) q payload numbers text out (answeredOf words′ r) bs′ numbers′ text′ out′ → r .word ≡ wordOf q → power ≡ powerOf (wordOf q)
-    → r .changed ≡ changedAt power out′ (r .place) → (Laid words → Laid words′) → (r .changed ≡ 0 → words′ ≡ words)
+    → r .changed ≡ changedAt power out′ (r .place) → (Laid words → Laid words′) → (power ≡ 0 → words′ ≡ words)
     → CarriesOf q words bs room payload numbers text out r words′ bs′ numbers′ text′ out′
 carries q {room = room} {payload} {out′ = out′} {r = r} power a w is c l same = record {
   answers = a;
   word = w;
   changed = λ m rep. c ∙ ap (λ (k : ℕ). changedAt k out′ (r .place)) is ∙ changed-journal m payload (roomOf room) q (a .turned .taken m rep .sends);
   laid = l;
-  kept = λ none. same (c ∙ unchanging out′ (r .place) (is ∙ none));
+  kept = λ none. same (is ∙ none);
 }
 
 module _ (q : Demand) {words words′ : List ℕ} {bs bs′ : Blocks} {room allowed : ℕ} (payload : List ℕ) {numbers text out numbers′ text′ out′ : List ℕ} {r : Carried}

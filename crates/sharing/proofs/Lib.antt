@@ -1,3 +1,4 @@
 pub mod Words
 pub mod Carrying
+pub mod Editing
 pub mod Claims

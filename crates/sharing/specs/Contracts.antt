@@ -7,10 +7,12 @@ use lib.Dec.{leb}
 use lib.ListN.{length}
 use Rattle.model.specs.Model.{State}
 use Rattle.model.specs.Journal.{journal}
-use Rattle.requests.specs.Requests.{Demand}
+use Rattle.model.specs.declared.Call.{Call}
+use Rattle.requests.specs.Requests.{Demand, asksCall}
 use Rattle.service.specs.Packed.{unpacked}
-use Rattle.service.specs.Service.{Blocks, Represents}
-use Rattle.conversations.specs.Answering.{roomOf, Answers}
+use Rattle.service.specs.Service.{Blocks, Represents, Given}
+use Rattle.conversations.specs.declared.Wanted.{Wanted}
+use Rattle.conversations.specs.Answering.{roomOf, Answers, askedIn}
 use Rattle.phayaklit.specs.Host.{Laid}
 use Rattle.sharing.specs.declared.Carried.{Carried}
 use Rattle.sharing.specs.Words.{wordOf, powerOf}
@@ -39,3 +41,14 @@ RequestedOf q words bs room allowed payload numbers text out r words′ bs′ nu
     cond (leb (powerOf (wordOf q)) allowed)
     (CarriesOf q words bs room payload numbers text out r words′ bs′ numbers′ text′ out′)
     (HeldOf q words bs room numbers text out r words′ bs′ numbers′ text′ out′)
+
+-- an edit c whose answer is put at the place: whatever blocks, days and text stand beside the words, it is the request's, and the words are laid out as they were
+pub record EditTurn (c : Call) (words : List ℕ) (room : ℕ) (numbers text out : List ℕ) (place : ℕ) (words′ out′ : List ℕ) : Type 0 where
+  pub answers : (bs : Blocks) (ds payload : List ℕ) → Given (unpacked words) bs
+      → Answers (unpacked words) bs room (asksCall c ds) payload numbers text out (record { service = unpacked words′; room = room; place = place }) bs numbers text out′
+  pub laid : Laid words → Laid words′
+
+-- the same of what is wanted: it is carried out
+abbrev pub EditsIn : Wanted → List ℕ → ℕ → List ℕ → List ℕ → List ℕ → Carried → List ℕ → List ℕ → Type 0
+EditsIn x words room numbers text out r words′ out′ =
+    (bs : Blocks) (days payload : List ℕ) → Given (unpacked words) bs → CarriesOf (askedIn x days) words bs room payload numbers text out r words′ bs numbers text out′

@@ -7,8 +7,8 @@ use Rattle.standing_words.specs.{Edits.Laid, Contracts.{spellsOf, entrie
 use Rattle.standing_words.proofs.{Values.parts-near, Reading.{spell-near, entry-near}}
 
 -- the words of an array and of a journal, with the count and the depth
-abbrev pub joined : List ℕ → List ℕ → ℕ → ℕ → List ℕ
-joined a b n d = a ++ (b ++ (n ∷ d ∷ []))
+abbrev pub assembled : List ℕ → List ℕ → ℕ → ℕ → List ℕ
+assembled a b n d = a ++ (b ++ (n ∷ d ∷ []))
 
 module _ (a b : List ℕ) (n d : ℕ) (array : length a ≡ 7168) (journal : length b ≡ 576) where
   abbrev st : Standing
@@ -17,12 +17,12 @@ module _ (a b : List ℕ) (n d : ℕ) (array : length a ≡ 7168) (journal : len
   both : length (a ++ b) ≡ 7744
   both = omega (arith, length-append a b)
 
-  pub unpacked-joined : unpacked (joined a b n d) ≡ st
+  pub unpacked-assembled : unpacked (assembled a b n d) ≡ st
   unfolding unpacked
-  unpacked-joined =
+  unpacked-assembled =
       let ends : List ℕ = n ∷ d ∷ [] in
-      let count : getD (joined a b n d) 7744 0 ≡ n = rw (← append-assoc a b ends) (getD-at (a ++ b) n (d ∷ []) 0 7744 both) in
-      let depth : getD (joined a b n d) 7745 0 ≡ d =
+      let count : getD (assembled a b n d) 7744 0 ≡ n = rw (← append-assoc a b ends) (getD-at (a ++ b) n (d ∷ []) 0 7744 both) in
+      let depth : getD (assembled a b n d) 7745 0 ≡ d =
       rw (← append-assoc a b ends) (ap (λ (k : ℕ). getD (a ++ b ++ ends) (k + 1) 0) (sym both) ∙ getD-append-add (a ++ b) ends 1 0) in
       rw (
         parts-near 7 spellOf spell-near 1024 a (b ++ ends) (omega arith),
@@ -32,7 +32,7 @@ module _ (a b : List ℕ) (n d : ℕ) (array : length a ≡ 7168) (journal : len
         depth,
       )
 
-  packed-st : packed st ≡ joined (written spellWords (spellsOf a)) (written entryWords (entriesOf b)) n d
+  packed-st : packed st ≡ assembled (written spellWords (spellsOf a)) (written entryWords (entriesOf b)) n d
   unfolding packed
   packed-st = append-assoc (written spellWords (spellsOf a)) (written entryWords (entriesOf b)) (n ∷ d ∷ [])
 
@@ -42,12 +42,12 @@ module _ (a b : List ℕ) (n d : ℕ) (array : length a ≡ 7168) (journal : len
   journal-long : length (written entryWords (entriesOf b)) ≡ 576
   journal-long = written-length 9 entryWords entry-long (entriesOf b) ∙ omega (arith, parts-length 9 entryOf 64 b)
 
-  pub laid-joined : written spellWords (spellsOf a) ≡ a → written entryWords (entriesOf b) ≡ b → Laid (joined a b n d)
-  laid-joined p q = rw (unpacked-joined, packed-st, p, q)
+  pub laid-assembled : written spellWords (spellsOf a) ≡ a → written entryWords (entriesOf b) ≡ b → Laid (assembled a b n d)
+  laid-assembled p q = rw (unpacked-assembled, packed-st, p, q)
 
-  module _ (h : Laid (joined a b n d)) where
-    same : joined a b n d ≡ joined (written spellWords (spellsOf a)) (written entryWords (entriesOf b)) n d
-    same = h ∙ ap packed unpacked-joined ∙ packed-st
+  module _ (h : Laid (assembled a b n d)) where
+    same : assembled a b n d ≡ assembled (written spellWords (spellsOf a)) (written entryWords (entriesOf b)) n d
+    same = h ∙ ap packed unpacked-assembled ∙ packed-st
 
     pub laid-array : written spellWords (spellsOf a) ≡ a
     laid-array =
@@ -82,8 +82,8 @@ module _ (x : List ℕ) (whole : length x ≡ 7746) where
       drop-cons x 7744 0 (omega arith)
       ∙ ap (λ (r : List ℕ). getD x 7744 0 ∷ r) (drop-cons x 7745 0 (omega arith) ∙ ap (λ (r : List ℕ). getD x 7745 0 ∷ r) (drop-of-length-le x {i = 7746} (omega arith)))
 
-  pub is-joined : x ≡ joined arrayIn journalIn (getD x 7744 0) (getD x 7745 0)
-  is-joined =
+  pub is-assembled : x ≡ assembled arrayIn journalIn (getD x 7744 0) (getD x 7745 0)
+  is-assembled =
       sym (take-append-drop 7168 x)
       ∙ ap (λ (r : List ℕ). arrayIn ++ r) (sym (take-append-drop 576 (drop 7168 x)) ∙ ap (λ (r : List ℕ). journalIn ++ r) (drop-drop 576 7168 x ∙ last-two))
 
@@ -104,7 +104,7 @@ module _ (x : List ℕ) (whole : length x ≡ 7746) where
           ap length parted
           ∙ omega (arith, length-append (a ++ b) (drop 576 (drop 7168 x)), length-append a b, length-drop 576 (drop 7168 x), length-drop 7168 x)
 
-      pub put-back : (n d : ℕ) → set (set (partsBack a b) 7744 n) 7745 d ≡ joined a b n d
+      pub put-back : (n d : ℕ) → set (set (partsBack a b) 7744 n) 7745 d ≡ assembled a b n d
       put-back n d =
           let t : List ℕ = n ∷ d ∷ [] in
           sets-eq t (partsBack a b) 7744 (omega (arith, parts-back))

@@ -6,7 +6,7 @@ use Rattle.model.{specs.Edits.insert, proofs.Edits.length-insert}
 use Rattle.packing.{specs.{Blocks.{Put, parts, written}, Words.{spellWords, spellOf}}, proofs.{Words.spell-long, Blocks.parts-length}}
 use Rattle.spell_places.{specs.{List.{without, putting, countedOf, leftOf}, Search.placeOf}, proofs.{Lists.{closed, close-all, remove-none, opened}, Search.insert-at, Changing.{left-le, left-length}}}
 use Rattle.journal.{specs.{declared.Undo.Undo, Words.{entryWords, entryOf}}, proofs.{Journal.{push-room, push-full}, Words.entry-long}}
-use Rattle.standing_words.specs.{Moves.{lowered, raised}, Contracts.{Holds, spellsOf, TakesOut, PutsIn, Changes, entriesOf, Notes}}
+use Rattle.standing_words.specs.{Moves.{lowered, raised}, Contracts.{Holds, spellsOf, TakesOut, PutsIn, Exchanges, entriesOf, Notes}}
 use Rattle.standing_words.proofs.{Moves.raised-put, Values.{lowers, inserts, puts-over}, Reading.{spell-near, entry-near, places, place-in}}
 
 module _ {A : Type 0} {k : ℕ} {f : A → List ℕ} {g : List ℕ → A} {n : ℕ} where
@@ -58,7 +58,7 @@ left-is {n} p few is = is ∙ rw (le-leb n 1024 few)
 pub left-in : (x : List ℕ) {n m : ℕ} (p : ℕ) → n ≤ 1024 → m ≡ countedOf n p false → m ≤ 1024
 left-in x {n} p few is = omega (arith, left-le p n (spellsOf x) (places x few) (left-is p few is))
 
-pub changes : {x x′ x″ : List ℕ} (n p : ℕ) (puts : Bool) (s : Spell) {m : ℕ} → n ≤ 1024 → m ≡ countedOf n p false → TakesOut n p x x′ → PutsIn m puts s x′ x″ → Changes n p puts s x x″
+pub changes : {x x′ x″ : List ℕ} (n p : ℕ) (puts : Bool) (s : Spell) {m : ℕ} → n ≤ 1024 → m ≡ countedOf n p false → TakesOut n p x x′ → PutsIn m puts s x′ x″ → Exchanges n p puts s x x″
 changes {x} {x′} {x″} n p puts s {m} few is out in′ =
     let a = spellsOf x in
     let those = without p (take n a) in

@@ -6,8 +6,8 @@ use Rattle.spell_places.specs.{List.{changing, countedOf}, Search.foundIn, decl
 use Rattle.journal.specs.{declared.Undo.Undo, Words.entryOf, Journal.{blankEntry, noting}}
 use Rattle.plans.specs.{declared.Plan.Plan, Plans.{planOf, Takes, numberOf, deeperBy}}
 use Rattle.standing.{specs.{declared.{Standing.Standing, Edited.Edited}, Standing.{Wf, Does}, Packed.unpacked}, proofs.Plans.carried}
-use Rattle.standing_words.specs.{Edits.{EditedIn, Laid}, Contracts.{spellsOf, entriesOf, Changes, Notes}}
-use Rattle.standing_words.proofs.{Values.{parts-at, parts-near}, Reading.{spell-near, entry-near}, Assembling.{joined, unpacked-joined, laid-joined, laid-array, laid-journal, arrayIn, journalIn, array-long, journal-in-long, is-joined, partsBack, put-back}}
+use Rattle.standing_words.specs.{Edits.{EditedIn, Laid}, Contracts.{spellsOf, entriesOf, Exchanges, Notes}}
+use Rattle.standing_words.proofs.{Values.{parts-at, parts-near}, Reading.{spell-near, entry-near}, Assembling.{assembled, unpacked-assembled, laid-assembled, laid-array, laid-journal, arrayIn, journalIn, array-long, journal-in-long, is-assembled, partsBack, put-back}}
 
 -- what any call leaves is a standing list that the calls gave
 does-wf : {st : Standing} (w : Wf st) (c : Call) (r : Edited) → Does st c r → Wf (r .standing)
@@ -57,7 +57,7 @@ module _ (x : List ℕ) (whole : length x ≡ 7746) (w : Wf (unpacked x)) where
     plan-fits = let after = does-wf w c _ (carried w c (newest-at ei ee) ek ef ep refl refl refl refl) in (after .count-in, after .depth-in)
 
     pub edited : {a b : List ℕ} {m d : ℕ}
-        → Changes count (p .out) (p .puts) (p .spell) (arrayIn x whole) a
+        → Exchanges count (p .out) (p .puts) (p .spell) (arrayIn x whole) a
         → Notes (p .depth) (p .notes) (p .entry) (take 576 (drop 7168 (a ++ drop 7168 x))) b
         → m ≡ countedOf count (p .out) (p .puts)
         → d ≡ deeperBy (p .depth) (p .notes)
@@ -70,11 +70,11 @@ module _ (x : List ℕ) (whole : length x ≡ 7746) (w : Wf (unpacked x)) where
         let entries : entriesOf b ≡ cond (p .notes) (noting (p .entry) (p .depth) (entriesOf (drop 7168 x))) (entriesOf (drop 7168 x)) = rw (← journal-is) (noted .read) in
         let is = put-back x whole a b (change .long) (noted .long) m d in
         record {
-          does = rw (is, unpacked-joined a b m d (change .long) (noted .long)) (carried w c (newest-at ei ee) ek ef ep spells em entries ed);
+          does = rw (is, unpacked-assembled a b m d (change .long) (noted .long)) (carried w c (newest-at ei ee) ek ef ep spells em entries ed);
           laid = λ h.
-              let own : Laid (joined (arrayIn x whole) (journalIn x whole) count depth) = rw (← is-joined x whole) h in
+              let own : Laid (assembled (arrayIn x whole) (journalIn x whole) count depth) = rw (← is-assembled x whole) h in
               rw is
-              (laid-joined a b m d (change .long) (noted .long)
+              (laid-assembled a b m d (change .long) (noted .long)
               (rw (change .read) (change .laid (laid-array (arrayIn x whole) (journalIn x whole) count depth (array-long x whole) (journal-in-long x whole) own)))
               (rw (noted .read) (noted .laid (laid-journal (arrayIn x whole) (journalIn x whole) count depth (array-long x whole) (journal-in-long x whole) own))));
         }

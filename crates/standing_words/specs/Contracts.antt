@@ -34,8 +34,8 @@ TakesOut n p x x′ = Spells x x′ (over (without p (take n (spellsOf x))) (spe
 abbrev pub PutsIn : ℕ → Bool → Spell → List ℕ → List ℕ → Type 0
 PutsIn m puts s x x′ = Spells x x′ (over (putting puts s (take m (spellsOf x))) (spellsOf x))
 
-abbrev pub Changes : ℕ → ℕ → Bool → Spell → List ℕ → List ℕ → Type 0
-Changes n p puts s x x′ = Spells x x′ (changing p puts s n (spellsOf x))
+abbrev pub Exchanges : ℕ → ℕ → Bool → Spell → List ℕ → List ℕ → Type 0
+Exchanges n p puts s x x′ = Spells x x′ (changing p puts s n (spellsOf x))
 
 -- ---- The journal
 

@@ -8,7 +8,7 @@ ghost use Rattle.standing.specs.Standing.{Wf};
 ghost use Rattle.standing.specs.Packed.{unpacked};
 ghost use Rattle.standing_words.specs.Edits.{EditedIn};
 ghost use Rattle.standing_words.specs.Moves.{lowered, raised};
-ghost use Rattle.standing_words.specs.Contracts.{spellsOf, TakesOut, PutsIn, Changes, Notes};
+ghost use Rattle.standing_words.specs.Contracts.{spellsOf, TakesOut, PutsIn, Exchanges, Notes};
 use journal::Undo;
 use model::Call;
 use spell::Spell;
@@ -115,7 +115,7 @@ fn put_in(words: &mut [u16], m: usize, puts: bool, s: Spell)
 fn change(words: &mut [u16], n: usize, p: usize, puts: bool, s: Spell)
     requires { ⌜ n ≤ 1024 ⌝ }
     requires { ⌜ length (now words) ≡ 7168 ⌝ }
-    ensures { λ _. ⌜ Changes n p puts s (now (words .entry)) (now (words .exit)) ⌝ }
+    ensures { λ _. ⌜ Exchanges n p puts s (now (words .entry)) (now (words .exit)) ⌝ }
 {
     take_out(words, n, p);
     let m = standing_list::counted(n, p, false);

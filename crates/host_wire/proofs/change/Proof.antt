@@ -2,7 +2,7 @@
 use Rattle.basis.proofs.Prelude.{_∙_, sym, refl, needs}
 use Rattle.phayaklit.proofs.Host.{laid}
 use Rattle.conversations.specs.Answering.{askedIn}
-use Rattle.sharing.proofs.Carrying.{unchanged, stays}
+use Rattle.sharing.proofs.Carrying.{unchanged, unchanging, stays}
 use Rattle.host_wire.proofs.change.{Statement.statement, Tie.{Need-carry-requires, Need-returns, Need-returns-2, close, spec}}
 
 carry-requires : Need-carry-requires
@@ -26,7 +26,7 @@ returns-2 c =
     let told = c .before .before .before .before in
     let answered = told .before .before .before in
     let taken = answered .before .before .before .before .before in
-    (rw (c .pack .ensures .back) (rw (taken .unpack .ensures) at (answered .carry .ensures)), (((λ _. laid _ _ (c .pack .ensures)), (λ e. absurd (c .before .before .before .if1 .left e))), (refl, told .changed-at .ensures)))
+    (rw (c .pack .ensures .back) (rw (taken .unpack .ensures) at (answered .carry .ensures)), (((λ _. laid _ _ (c .pack .ensures)), (λ none. absurd (c .before .before .before .if1 .left (told .changed-at .ensures ∙ unchanging _ _ none)))), (refl, told .changed-at .ensures)))
 
 pub change-spec : {M : Type 1} → statement M
 change-spec = close (spec (λ c κs. search needs) carry-requires (λ c κs. search needs) returns (λ c κs. search needs) returns-2)
