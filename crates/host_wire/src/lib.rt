@@ -163,7 +163,8 @@ fn edit(
     }
 }
 
-// Anything else: the service's words are written where it was changed.
+// Anything else: the service's words are written where it was changed. It is called from two places, so that it is compiled as a function of its own:
+// with its frame, of several copies of the service, a request that wants none would take twice as long.
 fn change(
     words: &mut [u16; SERVICE],
     index: &mut [u16; INDEX],
@@ -241,6 +242,19 @@ fn carry(
         if word < 20 {
             return edit(words, room, word, wanted, numbers, text, out);
         }
+        return change(
+            words,
+            index,
+            room,
+            word,
+            power,
+            wanted,
+            payload,
+            days,
+            numbers,
+            text,
+            out,
+        );
     }
     change(
         words,
