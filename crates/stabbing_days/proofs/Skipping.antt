@@ -54,6 +54,9 @@ rising r i (suc j) h g = by-eq i (suc j) h (λ z. rw z (le-refl _)) (λ lt. omeg
 pub all-new : (ix xs : List ℕ) {m : ℕ} → m ≡ 0 → Skips ix xs m 0
 all-new ix xs z = record { skips = λ ps r e. record { within = zero-le; low = λ k h. absurd (omega arith); high = λ k _ _. omega arith } }
 
+pub none-found : (ix xs : List ℕ) {m : ℕ} → length xs ≡ 0 → Skips ix xs m 0
+none-found ix xs z = record { skips = λ ps r e. record { within = zero-le; low = λ k h. absurd (omega arith); high = λ k _ h. absurd (omega (arith, long ix ps e)) } }
+
 -- the place sought is from lo to hi, whatever rows these are
 pub record Halving (ix xs : List ℕ) (m lo hi : ℕ) : Type 0 where
   pub built : Built ix
@@ -62,7 +65,7 @@ pub record Halving (ix xs : List ℕ) (m lo hi : ℕ) : Type 0 where
   pub low : (ps : List ℕ) → InRows ix ps → xs ≡ numbered ix ps → (k : ℕ) → k < lo → getD ps k 0 < m
   pub high : (ps : List ℕ) → InRows ix ps → xs ≡ numbered ix ps → (k : ℕ) → hi ≤ k → k < length ps → m ≤ getD ps k 0
 
-pub begins : (ix xs : List ℕ) (m : ℕ) → Built ix → Halving ix xs m 0 (length xs)
+begins : (ix xs : List ℕ) (m : ℕ) → Built ix → Halving ix xs m 0 (length xs)
 begins ix xs m b = record {
   built = b;
   ordered = zero-le;

@@ -1,16 +1,11 @@
 -- `stabbing_days::close` meets its contract: each need is a step of `proofs/Closing.antt`. Assumes nothing.
 use Rattle.basis.proofs.Prelude.{_-_, arith, needs}
-use Rattle.stabbing_days.proofs.Closing as Steps
-use Rattle.stabbing_days.proofs.{Closing.Closing, close.{Statement.statement, Tie.close, Tie.spec}}
+use Rattle.stabbing_days.proofs.{Closing.{Closing, starts, none, goes-on, ends}, close.{Statement.statement, Tie.close, Tie.spec}}
 
 pub close-spec : {M : Type 1} → statement M
 close-spec = close (spec
     (λ finds₀ from n i₀ finds i. Closing finds₀ from finds i)
     (λ _ _ n _ _ i. n - i)
-    (λ c. let g = c .before .args in Steps.none (g .finds .now) (g .from) (omega (arith, c .if1 .taken)))
-    (λ c. search needs)
-    (λ c. Steps.starts (c .before .pre))
+    (λ c. search none) (λ c. search needs) (λ c. search starts)
     (λ c. search needs) (λ c. search needs) (λ c. search needs) (λ c. search needs) (λ c. search needs) (λ c. search needs) (λ c. search needs)
-    (λ c. Steps.goes-on (c .before .before .loop .inv) (omega arith))
-    (λ c. search needs)
-    (λ c. Steps.ends (c .before .loop .inv) (omega arith)))
+    (λ c. goes-on (c .before .before .loop .inv) (omega arith)) (λ c. search needs) (λ c. ends (c .before .loop .inv) (omega arith)))
