@@ -1,6 +1,6 @@
 -- Going down a bucket to a number: the steps of `find`, apart from the code. Assumes nothing.
-use Rattle.basis.proofs.Prelude.{_∙_, _≡_, ap, refl, sym, _%_, _+_, _-_, _<_, _≤_, suc, ℕ, List, Bool, _≢_, eqb, getD, length, le-refl, arith, eq-eqb, eqb-true, ne-eqb}
-use Rattle.stabbing.{specs.{Tree.below, Index.{bucketCount, bucketTable, lowerColumn, bucketOf, inBucket, named, numbers, firsts, lasts, markIn, Block}}, proofs.{Marks.{Below, below-is, below-hit, below-miss, below-skip}, Block.{number-word, bucket-word, lower-word, fs-few, word-is}}}
+use Rattle.basis.proofs.Prelude.{_∙_, _≡_, ap, refl, sym, _%_, _+_, _-_, _<_, _≤_, suc, ℕ, List, Bool, _≢_, eqb, getD, length, arith, eq-eqb, eqb-true, ne-eqb}
+use Rattle.stabbing.{specs.{Tree.below, Index.{bucketCount, bucketTable, lowerColumn, bucketOf, inBucket, named, numbers, firsts, lasts, markIn, rows, Block}}, proofs.{Marks.{Below, below-is, below-hit, below-miss, below-skip}, Block.{number-word, bucket-word, lower-word, fs-few, fs-rows, word-is}}}
 
 -- the row p has the number x, and the bucket of x
 abbrev sought : List ℕ → ℕ → ℕ → Bool
@@ -22,13 +22,13 @@ module _ (ns : List ℕ) (x k : ℕ) where
 -- the search has come to the mark m: what it seeks is at or below it, in the bucket of x
 pub record Searching (ix : List ℕ) (x m : ℕ) : Type 0 where
   pub block : Block ix
-  pub within : m ≤ length (firsts ix)
+  pub within : m ≤ rows ix
   pub is : markIn ix x ≡ below (sought (numbers ix) x) m
   pub bucket : (p : ℕ) → m ≡ suc p → bucketOf (getD (numbers ix) p 0) ≡ bucketOf x
 
 module _ {ix : List ℕ} {x : ℕ} where
   -- at the latest row of the bucket below k, where all that is sought lies below k
-  at-latest : Block ix → (k : ℕ) → k ≤ length (firsts ix) → markIn ix x ≡ below (sought (numbers ix) x) k → {m : ℕ} → m ≡ inBucket (numbers ix) (bucketOf x) k → Searching ix x m
+  at-latest : Block ix → (k : ℕ) → k ≤ rows ix → markIn ix x ≡ below (sought (numbers ix) x) k → {m : ℕ} → m ≡ inBucket (numbers ix) (bucketOf x) k → Searching ix x m
   at-latest b k h e {m} z = record {
     block = b;
     within = omega (arith, z, latest (numbers ix) x k .within);
@@ -38,24 +38,19 @@ module _ {ix : List ℕ} {x : ℕ} where
 
   pub begins : Block ix → {i m : ℕ} → i ≡ x → m ≡ getD ix (i % bucketCount + bucketTable) 0 → Searching ix x m
   unfolding named
-  begins b {i} e z = at-latest b (length (firsts ix)) (le-refl _) refl
-      (z ∙ ap (λ (y : ℕ). getD ix (y % bucketCount + bucketTable) 0) e
-      ∙ word-is ix b (bucketOf x + bucketTable) (bucket-word (numbers ix) (firsts ix) (lasts ix) (fs-few ix b) (bucketOf x) (omega arith)))
+  begins b e z = at-latest b (length (firsts ix)) (omega (arith, fs-rows ix b)) refl
+      (z ∙ rw e (word-is ix b (bucketOf x + bucketTable) (bucket-word (numbers ix) (firsts ix) (lasts ix) (fs-few ix b) (bucketOf x) (omega arith))))
 
   module _ {m : ℕ} (s : Searching ix x m) where
-    pub small : m ≤ 1024
-    small = omega (arith, s .within, fs-few ix (s .block))
-
-    pub ends : m ≡ 0 → m ≡ markIn ix x
-    unfolding below
-    ends z = z ∙ sym (s .is ∙ ap (below (sought (numbers ix) x)) z)
+    pub ends : m ≤ 0 → m ≡ markIn ix x
+    ends h = unfold below in let z : m ≡ 0 = omega arith in z ∙ sym (s .is ∙ rw z)
 
     module _ (lo : 0 < m) where
       row : m ≡ suc (m - 1)
       row = omega arith
 
       number-is : getD ix (m - 1) 0 ≡ getD (numbers ix) (m - 1) 0
-      number-is = word-is ix (s .block) (m - 1) (number-word (numbers ix) (firsts ix) (lasts ix) (fs-few ix (s .block)) (m - 1) (omega (arith, small)))
+      number-is = word-is ix (s .block) (m - 1) (number-word (numbers ix) (firsts ix) (lasts ix) (fs-few ix (s .block)) (m - 1) (omega (arith, s .within, s .block .few)))
 
       pub found : getD ix (m - 1) 0 ≡ x → m ≡ markIn ix x
       found e = sym (s .is ∙ ap (below (sought (numbers ix) x)) row ∙ below-hit (sought (numbers ix) x) (m - 1) (eq-eqb _ _ (sym number-is ∙ e)) ∙ sym row)
@@ -64,7 +59,7 @@ module _ {ix : List ℕ} {x : ℕ} where
       module _ {n : ℕ} (z : n ≡ getD ix (m - 1 + lowerColumn) 0) where
         lower-is : n ≡ inBucket (numbers ix) (bucketOf x) (m - 1)
         lower-is =
-            z ∙ word-is ix (s .block) (m - 1 + lowerColumn) (lower-word (numbers ix) (firsts ix) (lasts ix) (fs-few ix (s .block)) (m - 1) (omega (arith, s .within)))
+            z ∙ word-is ix (s .block) (m - 1 + lowerColumn) (lower-word (numbers ix) (firsts ix) (lasts ix) (fs-few ix (s .block)) (m - 1) (omega (arith, s .within, fs-rows ix (s .block))))
             ∙ ap (λ (b : ℕ). inBucket (numbers ix) b (m - 1)) (s .bucket (m - 1) row)
 
         pub falls : n < m

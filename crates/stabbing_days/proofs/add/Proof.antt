@@ -7,5 +7,5 @@ add-spec = close (spec
     (λ c. search needs) (λ c κs. search needs)
     -- the first k places, lent to `skip` and to `close`
     (λ c. search count-in) (λ c. search counted) (λ c κs. search needs)
-    (λ c. search count-in) (λ c. search counted) (λ c κs. search f-within)
-    (λ c. search f-in) (λ c. search needs) (λ c. search adds))
+    (λ c. search count-in) (λ c. search counted) (λ c κs. search (f-within, needs))
+    (λ c. search (f-in, needs)) (λ c. search needs) (λ c. search adds))
