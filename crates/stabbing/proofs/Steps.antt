@@ -16,14 +16,9 @@ module _ (fs ls : List ℕ) (l : ℕ) where
   descend-more zero m v c s r h e = absurd (omega (arith, c-over fs ls m v r c e, c-under fs ls m v r c e))
   descend-more (suc f) m v c s r h e = let over = c-over fs ls m v r c e in
       let under = c-under fs ls m v r c e in
-      let R : ℕ → Progress → Progress = descend fs ls l (suc f) in
-      let R′ : ℕ → Progress → Progress = descend fs ls l f in
-      let a : compare fs ls l (lastChild fs ls c) R s ≡ compare fs ls l (lastChild fs ls c) R′ s
-      = compare-same (lastChild fs ls c) R R′ s (λ p z t. descend-more f (suc c) v p t (child-stretch fs ls m v r c e) (omega arith) (sym (c-child fs ls m v r c e) ∙ z)) in
-      let s₁ : Progress = chain fs ls l c (compare fs ls l (lastChild fs ls c) R′ s) in
-      let b : compare fs ls l (leftSibling fs ls c) R s₁ ≡ compare fs ls l (leftSibling fs ls c) R′ s₁
-      = compare-same (leftSibling fs ls c) R R′ s₁ (λ p z t. descend-more f m c p t (left-stretch fs ls m v r c e) (omega arith) (sym (c-left fs ls m v r c e) ∙ z)) in
-      ap (λ (t : Progress). compare fs ls l (leftSibling fs ls c) R (chain fs ls l c t)) a ∙ b
+      ap (λ (t : Progress). compare fs ls l (leftSibling fs ls c) (descend fs ls l (suc f)) (chain fs ls l c t))
+      (compare-same (lastChild fs ls c) (descend fs ls l (suc f)) (descend fs ls l f) s (λ p z t. descend-more f (suc c) v p t (child-stretch fs ls m v r c e) (omega arith) (sym (c-child fs ls m v r c e) ∙ z)))
+      ∙ compare-same (leftSibling fs ls c) (descend fs ls l (suc f)) (descend fs ls l f) _ (λ p z t. descend-more f m c p t (left-stretch fs ls m v r c e) (omega arith) (sym (c-left fs ls m v r c e) ∙ z))
 
   -- one head of a rightmost path
   pub descend-step : (m v c : ℕ) (s : Progress) → Stretch fs ls m v → child fs ls m v ≡ suc c
@@ -54,23 +49,18 @@ module _ (t : ℕ → Bool) where
   keep-one : (p : ℕ) → t p ≡ true → length (keep t (suc p)) ≡ suc (length (keep t p))
   keep-one p e = rw (keep-hit t p e) (omega (arith, length-append (keep t p) (p ∷ [])))
 
-  keep-grows : (lo hi : ℕ) → lo ≤ hi → length (keep t lo) ≤ length (keep t hi)
-  keep-grows lo zero h = let z : lo ≡ 0 = omega arith in rw z (le-refl _)
-  keep-grows lo (suc k) h = by-eq lo (suc k) h (λ z. rw z (le-refl _)) (λ lt.
-      let ih = keep-grows lo k (omega arith) in by-test (t k) (λ e. omega (arith, keep-one k e)) (λ e. rw (keep-miss t k e) ih))
+  keep-between : (lo hi : ℕ) → lo ≤ hi → (length (keep t lo) ≤ length (keep t hi)) × (length (keep t hi) + lo ≤ length (keep t lo) + hi)
+  keep-between lo zero h = let z : lo ≡ 0 = omega arith in rw z (le-refl _, le-refl _)
+  keep-between lo (suc k) h = by-eq lo (suc k) h (λ z. rw z (le-refl _, le-refl _)) (λ lt.
+      let ih = keep-between lo k (omega arith) in by-test (t k) (λ e. omega (arith, keep-one k e)) (λ e. omega (arith, ap length (keep-miss t k e))))
 
   pub keep-room : (lo hi : ℕ) → lo ≤ hi → length (keep t hi) + lo ≤ length (keep t lo) + hi
-  keep-room lo zero h = let z : lo ≡ 0 = omega arith in rw z (le-refl _)
-  keep-room lo (suc k) h = by-eq lo (suc k) h (λ z. rw z (le-refl _)) (λ lt.
-      let ih = keep-room lo k (omega arith) in by-test (t k) (λ e. omega (arith, keep-one k e)) (λ e. rw (keep-miss t k e) (omega arith)))
+  keep-room lo hi h = keep-between lo hi h .1
 
 module _ (fs ls : List ℕ) (m v : ℕ) (r : Stretch fs ls m v) (c : ℕ) (e : child fs ls m v ≡ suc c) where
   pub heads-fall : (heads fs ls (suc c) v < heads fs ls m v) × (heads fs ls m c < heads fs ls m v)
   unfolding heads
-  heads-fall = let t : ℕ → Bool = head fs ls in
-      let one : length (keep t (suc c)) ≡ suc (length (keep t c)) = keep-one t c (c-head fs ls m v r c e) in
-      let a = keep-grows t m c (c-over fs ls m v r c e) in
-      let b = keep-grows t (suc c) v (c-under fs ls m v r c e) in (omega arith, omega arith)
+  heads-fall = omega (arith, keep-one (head fs ls) c (c-head fs ls m v r c e), keep-between (head fs ls) m c (c-over fs ls m v r c e), keep-between (head fs ls) (suc c) v (c-under fs ls m v r c e))
 
 -- ---- where the stretch of a last child ends: at the first later head that lasts longer
 

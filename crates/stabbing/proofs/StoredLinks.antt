@@ -1,7 +1,7 @@
 -- The links of any index that publish leaves, as they are stored: a word of 16 bits each. Assumes nothing.
 use Rattle.basis.proofs.Prelude.{_∙_, _≡_, ap, _*_, _+_, _<_, _≤_, ℕ, List, _++_, false, true, drop, getD, length, length-append, length-drop, take, length-take-le, arith}
 use Rattle.stabbing.specs.{Tree.{head, parent, leftSibling, lastChild, next}, Index.{capacity, parentColumn, leftColumn, childColumn, nextColumn, headLink, rowLink, blockOf, rows, numbers, firsts, lasts, Block}}
-use Rattle.stabbing.proofs.{Marking.{row-link, head-link, head-none, head-past, row-past, parent-small, left-small, child-small, next-small}, Block.{parent-word, left-word, child-word, next-word, words-long, fs-rows, fs-few, word-is}}
+use Rattle.stabbing.proofs.{Marking.{row-link, head-link, head-none, head-past, row-past, parent-small, left-small, child-small, next-small}, Block.{nth, place, words-long, fs-rows, fs-few, word-at}}
 
 -- A column of links of heads: at a head the definition's mark, which is 0 where it has none; 0 at a row that is no head, and past the rows;
 -- every mark at most 1,024
@@ -34,7 +34,7 @@ pub record StoredLinks (ix : List ℕ) : Type 0 where
   pub bytes : 2 * length (linksOf ix) ≡ 8192
 
 four-long : (a b c d : List ℕ) → length a ≡ capacity → length b ≡ capacity → length c ≡ capacity → length d ≡ capacity → length (a ++ b ++ c ++ d) ≡ 4096
-four-long a b c d ea eb ec ed = length-append (a ++ b ++ c) d ∙ omega (arith, length-append (a ++ b) c, length-append a b)
+four-long a b c d ea eb ec ed = simp length-append (omega arith)
 
 module _ (ix : List ℕ) (b : Block ix) where
   abbrev js : List ℕ
@@ -43,30 +43,19 @@ module _ (ix : List ℕ) (b : Block ix) where
   abbrev es : List ℕ
   es = lasts ix
 
-  few : length js ≤ capacity
-  few = fs-few ix b
-
-  -- the words of a column of these rows' block are the index's
-  module _ (base : ℕ) (f : ℕ → ℕ) (word : (p : ℕ) → p < capacity → getD (blockOf (numbers ix) js es) (p + base) 0 ≡ f p) (small : (p : ℕ) → f p ≤ length js) where
-    here : (p : ℕ) → p < capacity → getD ix (p + base) 0 ≡ f p
-    here p h = word-is ix b (p + base) (word p h)
-
-    inside : (p : ℕ) → p < capacity → getD ix (p + base) 0 ≤ capacity
-    inside p h = omega (arith, here p h, small p, few)
-
-  head-links : (base : ℕ) (link : ℕ → ℕ) → ((p : ℕ) → p < capacity → getD (blockOf (numbers ix) js es) (p + base) 0 ≡ headLink js es link p) → ((p : ℕ) → headLink js es link p ≤ length js) → HeadLinks ix base link
+  head-links : (base : ℕ) (link : ℕ → ℕ) → ((p : ℕ) → p < capacity → getD ix (p + base) 0 ≡ headLink js es link p) → ((p : ℕ) → headLink js es link p ≤ length js) → HeadLinks ix base link
   head-links base link word small = record {
-    heads = λ p h hp. here base (headLink js es link) word small p (omega (arith, b .few)) ∙ head-link js es link p (omega (arith, fs-rows ix b)) hp;
-    others = λ p h hp. here base (headLink js es link) word small p (omega (arith, b .few)) ∙ head-none js es link p (omega (arith, fs-rows ix b)) hp;
-    past = λ p h g. here base (headLink js es link) word small p g ∙ head-past js es link p (omega (arith, fs-rows ix b));
-    marks = inside base (headLink js es link) word small;
+    heads = λ p h hp. word p (omega (arith, b .few)) ∙ head-link js es link p (omega (arith, fs-rows ix b)) hp;
+    others = λ p h hp. word p (omega (arith, b .few)) ∙ head-none js es link p (omega (arith, fs-rows ix b)) hp;
+    past = λ p h g. word p g ∙ head-past js es link p (omega (arith, fs-rows ix b));
+    marks = λ p h. omega (arith, word p h, small p, fs-few ix b);
   }
 
-  row-links : (base : ℕ) (link : ℕ → ℕ) → ((p : ℕ) → p < capacity → getD (blockOf (numbers ix) js es) (p + base) 0 ≡ rowLink js es link p) → ((p : ℕ) → rowLink js es link p ≤ length js) → RowLinks ix base link
+  row-links : (base : ℕ) (link : ℕ → ℕ) → ((p : ℕ) → p < capacity → getD ix (p + base) 0 ≡ rowLink js es link p) → ((p : ℕ) → rowLink js es link p ≤ length js) → RowLinks ix base link
   row-links base link word small = record {
-    all = λ p h. here base (rowLink js es link) word small p (omega (arith, b .few)) ∙ row-link js es link p (omega (arith, fs-rows ix b));
-    past = λ p h g. here base (rowLink js es link) word small p g ∙ row-past js es link p (omega (arith, fs-rows ix b));
-    marks = inside base (rowLink js es link) word small;
+    all = λ p h. word p (omega (arith, b .few)) ∙ row-link js es link p (omega (arith, fs-rows ix b));
+    past = λ p h g. word p g ∙ row-past js es link p (omega (arith, fs-rows ix b));
+    marks = λ p h. omega (arith, word p h, small p, fs-few ix b);
   }
 
   column-long : (base : ℕ) → base ≤ nextColumn → length (columnOf ix base) ≡ capacity
@@ -77,11 +66,11 @@ module _ (ix : List ℕ) (b : Block ix) where
       (column-long parentColumn (omega arith)) (column-long leftColumn (omega arith)) (column-long childColumn (omega arith)) (column-long nextColumn (omega arith))
 
   pub stored-links : StoredLinks ix
-  stored-links = record {
-    parents = head-links parentColumn (parent js es) (parent-word (numbers ix) js es few) (parent-small js es);
-    lefts = head-links leftColumn (leftSibling js es) (left-word (numbers ix) js es few) (left-small js es);
-    children = head-links childColumn (lastChild js es) (child-word (numbers ix) js es few) (child-small js es);
-    nexts = row-links nextColumn (next js es) (next-word (numbers ix) js es few) (next-small js es);
+  stored-links = unfold nth place in record {
+    parents = head-links parentColumn (parent js es) (λ p h. word-at ix b 3 p (omega arith) h) (parent-small js es);
+    lefts = head-links leftColumn (leftSibling js es) (λ p h. word-at ix b 4 p (omega arith) h) (left-small js es);
+    children = head-links childColumn (lastChild js es) (λ p h. word-at ix b 6 p (omega arith) h) (child-small js es);
+    nexts = row-links nextColumn (next js es) (λ p h. word-at ix b 8 p (omega arith) h) (next-small js es);
     words = links-long;
     bytes = ap (λ (n : ℕ). 2 * n) links-long;
   }

@@ -53,41 +53,33 @@ module _ (fs ls : List ℕ) (sorted : Sorted fs ls) (l : ℕ) (on : ℕ → Bool
   upto-hit p xs e = rw (keep-hit (reach fs ls l) p e) (sym (append-assoc (upto p) (p ∷ []) xs))
 
   -- nothing lasts to l from lo up to hi
-  skip : (lo hi : ℕ) (s : Progress) → lo ≤ hi → ((x : ℕ) → lo ≤ x → x < hi → l ≤ dayAt ls x → ⊥) → (upto hi ≡ upto lo) × (due hi ≡ due lo)
-  skip lo hi s h f = unfold due in let e : upto hi ≡ upto lo = keep-skip (reach fs ls l) lo hi h (λ x a b t. f x a b (leb-true _ _ t)) in (e, rw e)
+  skip : (lo hi : ℕ) → lo ≤ hi → ((x : ℕ) → lo ≤ x → x < hi → l ≤ dayAt ls x → ⊥) → (upto hi ≡ upto lo) × (due hi ≡ due lo)
+  skip lo hi h f = unfold due in let e : upto hi ≡ upto lo = keep-skip (reach fs ls l) lo hi h (λ x a b t. f x a b (leb-true _ _ t)) in (e, rw e)
+
+  -- the bottom of a chain
+  bottom-went : (p : ℕ) (s : Progress) → next fs ls p ≡ 0 → reach fs ls l p ≡ true → Went (suc p) s p (push p s) (one (left? p) + one (child? p)) 0
+  bottom-went p s nx e = let k : one (next? p) ≡ 0 = rw nx in record { list = upto-hit p (s .list) e; comparisons = omega (arith, due-hit p e) }
 
   -- the chain from p down to its bottom lo; what is due for p as a head is left open
   chain-went : (lo p : ℕ) (s : Progress) → p < length fs → lo ≤ p → next fs ls lo ≡ 0 → ((x : ℕ) → lo ≤ x → x < p → head fs ls x ≡ false)
       → reach fs ls l p ≡ true → Went (suc p) s lo (chain fs ls l p s) (one (left? p) + one (child? p)) 0
   unfolding chain
-  chain-went lo zero s h g nx f e = let z : lo ≡ 0 = omega arith in
-      let k : one (next? 0) ≡ 0 = rw (rw z at nx) in
-      rw z (record { list = upto-hit 0 (s .list) e; comparisons = omega (arith, due-hit 0 e) })
+  chain-went lo zero s h g nx f e = let z : lo ≡ 0 = omega arith in rw z (bottom-went 0 s (rw z at nx) e)
   chain-went lo (suc p) s h g nx f e = by-eq lo (suc p) g
-      (λ z.
-      let nx′ : next fs ls (suc p) ≡ 0 = rw z at nx in
-      let k : one (next? (suc p)) ≡ 0 = rw nx′ in
-      rw (z, compare-none fs ls l _ (λ _. chain fs ls l p) (push (suc p) s) nx′)
-      (record { list = upto-hit (suc p) (s .list) e; comparisons = omega (arith, due-hit (suc p) e) }))
+      (λ z. rw (z, compare-none fs ls l _ (λ _. chain fs ls l p) (push (suc p) s) (rw z at nx)) (bottom-went (suc p) s (rw z at nx) e))
       (λ lt.
-      let np : head fs ls p ≡ false = f p (omega arith) (le-refl _) in
-      let nx′ : next fs ls (suc p) ≡ suc p = next-some fs ls p (omega arith) np in
+      let np = f p (omega arith) (le-refl _) in
+      let nx′ = next-some fs ls p (omega arith) np in
       let k : one (next? (suc p)) ≡ 1 = rw nx′ in
-      let s₁ : Progress = push (suc p) s in
       let due₁ = due-hit (suc p) e in
       by-test (reach fs ls l p)
       (λ r.
-      let ih : Went (suc p) (tick s₁) lo (chain fs ls l p (tick s₁)) (one (left? p) + one (child? p)) 0
-      = chain-went lo p (tick s₁) (omega arith) (omega arith) nx (λ x a b. f x a (omega arith)) r in
-      let no-left : one (left? p) ≡ 0 = rw np in
-      let no-child : one (child? p) ≡ 0 = rw np in
-      rw (compare-yes fs ls l _ p (λ _. chain fs ls l p) s₁ nx′ r)
-      (record { list = ih .list ∙ upto-hit (suc p) (s .list) e; comparisons = omega (arith, ih .comparisons) }))
+      let ih = chain-went lo p (tick (push (suc p) s)) (omega arith) (omega arith) nx (λ x a b. f x a (omega arith)) r in
+      let none : one (left? p) + one (child? p) ≡ 0 = rw np in
+      rw (compare-yes fs ls l _ p (λ _. chain fs ls l p) (push (suc p) s) nx′ r) (record { list = ih .list ∙ upto-hit (suc p) (s .list) e; comparisons = omega (arith, ih .comparisons) }))
       (λ r.
-      let d = skip lo (suc p) s (omega arith) (λ x a b t.
-      omega (arith, leb-false l (dayAt ls p) r, chain-up fs ls sorted lo p (omega arith) (λ y a′ b′. f y a′ (omega arith)) x a (omega arith))) in
-      rw (compare-no fs ls l _ p (λ _. chain fs ls l p) s₁ nx′ r)
-      (record { list = ap (λ (ys : List ℕ). ys ++ (suc p ∷ s .list)) (sym (d .0)) ∙ upto-hit (suc p) (s .list) e; comparisons = omega (arith, d .1) })))
+      let d = skip lo (suc p) (omega arith) (λ x a b t. omega (arith, leb-false l (dayAt ls p) r, chain-up fs ls sorted lo p (omega arith) (λ y a′ b′. f y a′ (omega arith)) x a (omega arith))) in
+      rw (compare-no fs ls l _ p (λ _. chain fs ls l p) (push (suc p) s) nx′ r) (record { list = rw (← d .0) (upto-hit (suc p) (s .list) e); comparisons = omega (arith, d .1) })))
 
   -- a head's whole chain
   pub chain-of : (v : ℕ) (s : Progress) → Head fs ls v → v < length fs → reach fs ls l v ≡ true
@@ -105,35 +97,26 @@ module _ (fs ls : List ℕ) (sorted : Sorted fs ls) (l : ℕ) (on : ℕ → Bool
       → Went (bottom fs ls v) s m (compare fs ls l (child fs ls m v) (descend fs ls l f) s) 0 (one (some (child fs ls m v)))
   compare-went f ih m v s r off h = by-mark (child fs ls m v)
       (λ z.
-      let d = skip m (bottom fs ls v) s (r .base) (barren fs ls sorted m v r l (λ c e. absurd (omega arith))) in
-      rw (compare-none fs ls l _ (descend fs ls l f) s z, z)
-      (record { list = ap (λ (ys : List ℕ). ys ++ s .list) (sym (d .0)); comparisons = omega (arith, d .1) }))
+      let d = skip m (bottom fs ls v) (r .base) (barren fs ls sorted m v r l (λ c e. absurd (omega arith))) in
+      rw (compare-none fs ls l _ (descend fs ls l f) s z, z) (record { list = rw (d .0); comparisons = omega (arith, d .1) }))
       (λ c z. by-test (reach fs ls l c)
       (λ e.
       let w = ih m v c (tick s) r off h z e in
-      rw (compare-yes fs ls l _ c (descend fs ls l f) s z e, z)
-      (record { list = w .list; comparisons = omega (arith, w .comparisons) }))
+      rw (compare-yes fs ls l _ c (descend fs ls l f) s z e, z) (record { list = w .list; comparisons = omega (arith, w .comparisons) }))
       (λ e.
-      let d = skip m (bottom fs ls v) s (r .base) (barren fs ls sorted m v r l (λ c′ e′.
-      let q : c ≡ c′ = omega arith in rw q at (leb-false l (dayAt ls c) e))) in
-      rw (compare-no fs ls l _ c (descend fs ls l f) s z e, z)
-      (record { list = ap (λ (ys : List ℕ). ys ++ s .list) (sym (d .0)); comparisons = omega (arith, d .1) })))
+      let d = skip m (bottom fs ls v) (r .base) (barren fs ls sorted m v r l (λ c′ e′. let q : c ≡ c′ = omega arith in rw q at (leb-false l (dayAt ls c) e))) in
+      rw (compare-no fs ls l _ c (descend fs ls l f) s z e, z) (record { list = rw (d .0); comparisons = omega (arith, d .1) })))
 
   pub descend-went : (f : ℕ) → Descends f
   unfolding descend
   descend-went zero m v c s r off h e t = absurd (omega (arith, c-over fs ls m v r c e, c-under fs ls m v r c e))
-  descend-went (suc f) m v c s r off h e t = let ih : Descends f = descend-went f in
-      let over = c-over fs ls m v r c e in
+  descend-went (suc f) m v c s r off h e t = let over = c-over fs ls m v r c e in
       let under = c-under fs ls m v r c e in
       let hc = c-head fs ls m v r c e in
       let s₁ : Progress = compare fs ls l (lastChild fs ls c) (descend fs ls l f) s in
-      let w₁ : Went (bottom fs ls v) s (suc c) s₁ 0 (one (some (lastChild fs ls c)))
-      = rw (c-child fs ls m v r c e) (compare-went f ih (suc c) v s (child-stretch fs ls m v r c e) (λ x a b. off x (omega arith) b) (omega arith)) in
-      let s₂ : Progress = chain fs ls l c s₁ in
+      let w₁ = rw (← c-child fs ls m v r c e) at (compare-went f (descend-went f) (suc c) v s (child-stretch fs ls m v r c e) (λ x a b. off x (omega arith) b) (omega arith)) in
       let w₂ = chain-of c s₁ hc (omega (arith, r .inside)) t in
-      let s₃ : Progress = compare fs ls l (leftSibling fs ls c) (descend fs ls l f) s₂ in
-      let w₃ : Went (bottom fs ls c) s₂ m s₃ 0 (one (some (leftSibling fs ls c)))
-      = rw (c-left fs ls m v r c e) (compare-went f ih m c s₂ (left-stretch fs ls m v r c e) (λ x a b. off x a (omega arith)) (omega arith)) in
+      let w₃ = rw (← c-left fs ls m v r c e) at (compare-went f (descend-went f) m c (chain fs ls l c s₁) (left-stretch fs ls m v r c e) (λ x a b. off x a (omega arith)) (omega arith)) in
       let k₁ : one (left? c) ≡ one (some (leftSibling fs ls c)) = rw hc in
       let k₂ : one (child? c) ≡ one (some (lastChild fs ls c)) = rw (hc, off c over under hc) in
       record { list = w₃ .list ∙ w₂ .list ∙ w₁ .list; comparisons = omega (arith, w₁ .comparisons, w₂ .comparisons, w₃ .comparisons) }
@@ -156,11 +139,10 @@ module _ (fs ls : List ℕ) (sorted : Sorted fs ls) (l : ℕ) (on : ℕ → Bool
   unfolding climb
   climb-went zero v s b h hv t path = absurd (omega arith)
   climb-went (suc f) v s b h hv t path = let s₁ : Progress = chain fs ls l v s in
+      let s₂ : Progress = compare fs ls l (leftSibling fs ls v) (descend fs ls l (length fs)) s₁ in
       let w₁ = chain-of v s hv h t in
       let path′ : (x : ℕ) → x < v → on x ≡ onPath fs ls f (parent fs ls v) x = λ x lt. path x (omega arith) ∙ path-up f v x lt in
-      let s₂ : Progress = compare fs ls l (leftSibling fs ls v) (descend fs ls l (length fs)) s₁ in
-      let w₂ : Went (bottom fs ls v) s₁ (parent fs ls v) s₂ 0 (one (some (leftSibling fs ls v)))
-      = rw (left-is fs ls v) (compare-went (length fs) (descend-went (length fs)) (parent fs ls v) v s₁ (own fs ls v hv h) (λ x a b _. path′ x b ∙ path-under f _ x a) (omega arith)) in
+      let w₂ = rw (← left-is fs ls v) at (compare-went (length fs) (descend-went (length fs)) (parent fs ls v) v s₁ (own fs ls v hv h) (λ x a b _. path′ x b ∙ path-under f _ x a) (omega arith)) in
       let k₁ : one (left? v) ≡ one (some (leftSibling fs ls v)) = rw hv in
       let k₂ : one (child? v) ≡ 0 = rw (hv, path v (le-refl v) ∙ path-here f v) in
       let w : Went (suc v) s (parent fs ls v) s₂ 0 0 = record { list = w₂ .list ∙ w₁ .list; comparisons = omega (arith, w₁ .comparisons, w₂ .comparisons) } in
@@ -168,13 +150,10 @@ module _ (fs ls : List ℕ) (sorted : Sorted fs ls) (l : ℕ) (on : ℕ → Bool
       by-mark (parent fs ls v)
       (λ z. rw (ap (λ (m : ℕ). climb fs ls l f m s₂) z ∙ climb-none fs ls l f s₂) (rw z at w))
       (λ u z.
-      let a : u < v = omega (arith, i .within) in
-      let ih = climb-went f u s₂ (omega arith) (omega arith) (i .hit u z .0)
-      (le-leb l (dayAt ls u) (omega (arith, i .hit u z .1, leb-true l (dayAt ls v) t)))
-      (λ x le. rw z at (path′ x (omega arith))) in
+      let ih = climb-went f u s₂ (omega (arith, i .within)) (omega (arith, i .within)) (i .hit u z .0)
+      (le-leb l (dayAt ls u) (omega (arith, i .hit u z .1, leb-true l (dayAt ls v) t))) (λ x le. rw z at (path′ x (omega (arith, i .within)))) in
       let w′ : Went (suc v) s (suc u) s₂ 0 0 = rw z at w in
-      rw (ap (λ (m : ℕ). climb fs ls l f m s₂) z)
-      (record { list = ih .list ∙ w′ .list; comparisons = omega (arith, ih .comparisons, w′ .comparisons) }))
+      rw (ap (λ (m : ℕ). climb fs ls l f m s₂) z) (record { list = ih .list ∙ w′ .list; comparisons = omega (arith, ih .comparisons, w′ .comparisons) }))
 
 module _ (fs ls : List ℕ) (sorted : Sorted fs ls) where
   pub days-rise : (x v : ℕ) → x ≤ v → v < length fs → dayAt fs x ≤ dayAt fs v
@@ -199,41 +178,31 @@ module _ (fs ls : List ℕ) (sorted : Sorted fs ls) where
 
     pub start-is : Start (start fs ls h l)
     unfolding start
-    start-is = let t : ℕ → Bool = λ p. head fs ls p && fitsAt fs ls h l p in
-        let i : Below t (length fs) (below t (length fs)) = below-is t (length fs) in record {
-          within = i .within;
-          hit = λ v e. let q = both (head fs ls v) (fitsAt fs ls h l v) (i .hit v e) in let r = fits-of v (q .1) in (q .0, r .0, r .1);
-          miss = λ x a b e.
-              let q = top fs ls sorted x b in
-              let y : Top fs ls sorted x (q .0) = q .1 in
-              let r = fits-of x e in
-              i .miss (q .0) (omega (arith, y .above)) (y .inside) (rw (y .is) (of-fits (q .0) (rw (y .first) at (r .0)) (omega (arith, y .last))));
-        }
+    start-is = let i = below-is (λ p. head fs ls p && fitsAt fs ls h l p) (length fs) in record {
+      within = i .within;
+      hit = λ v e. let q = both (head fs ls v) (fitsAt fs ls h l v) (i .hit v e) in let r = fits-of v (q .1) in (q .0, r .0, r .1);
+      miss = λ x a b e.
+          let q = top fs ls sorted x b in
+          let y : Top fs ls sorted x (q .0) = q .1 in
+          let r = fits-of x e in
+          i .miss (q .0) (omega (arith, y .above)) (y .inside) (rw (y .is) (of-fits (q .0) (rw (y .first) at (r .0)) (omega (arith, y .last))));
+    }
 
     -- THE LISTING and THE LOOKS
     pub record Right (m : ℕ) (w : Progress) : Type 0 where
       pub list : w .list ≡ keep (fitsAt fs ls h l) (length fs)
       pub comparisons : w .comparisons ≡ formula fs ls m (w .list)
 
-    walk-none : Start 0 → Right 0 (walk fs ls l 0)
-    walk-none i = unfold walk formula count keep in rw (climb-none fs ls l (length fs) nothing)
-        (record { list = sym (keep-skip (fitsAt fs ls h l) 0 (length fs) zero-le (i .miss)); comparisons = refl })
-
-    walk-some : (v : ℕ) → Start (suc v) → Right (suc v) (walk fs ls l (suc v))
-    walk-some v i = unfold walk formula keep due count in let q = i .hit v refl in
-        let inside : v < length fs = i .within in
+    pub walk-right : (m : ℕ) → Start m → Right m (walk fs ls l m)
+    unfolding walk formula count keep due
+    walk-right zero i = rw (climb-none fs ls l (length fs) nothing) (record { list = sym (keep-skip (fitsAt fs ls h l) 0 (length fs) zero-le (i .miss)); comparisons = refl })
+    walk-right (suc v) i = let q = i .hit v refl in
         let on : ℕ → Bool = onPath fs ls (length fs) (suc v) in
         let r : ℕ → Bool = reach fs ls l in
-        let w = climb-went fs ls sorted l on (length fs) v nothing inside inside (q .0) (le-leb l (dayAt ls v) (q .2)) (λ x _. refl) in
+        let w = climb-went fs ls sorted l on (length fs) v nothing (i .within) (i .within) (q .0) (le-leb l (dayAt ls v) (q .2)) (λ x _. refl) in
         let a : walk fs ls l (suc v) .list ≡ keep r (suc v) = w .list ∙ append-nil (keep r (suc v)) in
-        let b : keep r (suc v) ≡ keep (fitsAt fs ls h l) (suc v) = keep-ext r (fitsAt fs ls h l) (suc v) (λ p k.
-        reach-fits p (omega (arith, days-rise p v (omega arith) inside, q .1))) in
-        let c : keep (fitsAt fs ls h l) (length fs) ≡ keep (fitsAt fs ls h l) (suc v) = keep-skip (fitsAt fs ls h l) (suc v) (length fs) (i .within) (i .miss) in
-        record { list = a ∙ b ∙ sym c; comparisons = rw a (omega (arith, w .comparisons)) }
-
-    pub walk-right : (m : ℕ) → Start m → Right m (walk fs ls l m)
-    walk-right zero i = walk-none i
-    walk-right (suc v) i = walk-some v i
+        let b : keep r (suc v) ≡ keep (fitsAt fs ls h l) (suc v) = keep-ext r (fitsAt fs ls h l) (suc v) (λ p k. reach-fits p (omega (arith, days-rise p v (omega arith) (i .within), q .1))) in
+        record { list = a ∙ b ∙ sym (keep-skip (fitsAt fs ls h l) (suc v) (length fs) (i .within) (i .miss)); comparisons = rw a (omega (arith, w .comparisons)) }
 
 -- never more than three comparisons for each spell listed
 pub formula-le : (fs ls : List ℕ) (m : ℕ) (ps : List ℕ) → formula fs ls m ps ≤ 3 * length ps

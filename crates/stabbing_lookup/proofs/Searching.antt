@@ -1,6 +1,6 @@
 -- Going down a bucket to a number: the steps of `find`, apart from the code. Assumes nothing.
 use Rattle.basis.proofs.Prelude.{_∙_, _≡_, ap, refl, sym, _%_, _+_, _-_, _<_, _≤_, suc, ℕ, List, Bool, _≢_, eqb, getD, length, arith, eq-eqb, eqb-true, ne-eqb}
-use Rattle.stabbing.{specs.{Tree.below, Index.{bucketCount, bucketTable, lowerColumn, bucketOf, inBucket, named, numbers, firsts, lasts, markIn, rows, Block}}, proofs.{Marks.{Below, below-is, below-hit, below-miss, below-skip}, Block.{number-word, bucket-word, lower-word, fs-few, fs-rows, word-is}}}
+use Rattle.stabbing.{specs.{Tree.below, Index.{bucketCount, bucketTable, lowerColumn, bucketOf, inBucket, named, numbers, firsts, lasts, markIn, rows, Block}}, proofs.{Marks.{Below, below-is, below-hit, below-miss, below-skip}, Block.{nth, place, block-holds, fs-rows, word-at}, Marking.row-link}}
 
 -- the row p has the number x, and the bucket of x
 abbrev sought : List ℕ → ℕ → ℕ → Bool
@@ -37,9 +37,9 @@ module _ {ix : List ℕ} {x : ℕ} where
   }
 
   pub begins : Block ix → {i m : ℕ} → i ≡ x → m ≡ getD ix (i % bucketCount + bucketTable) 0 → Searching ix x m
-  unfolding named
+  unfolding named nth place
   begins b e z = at-latest b (length (firsts ix)) (omega (arith, fs-rows ix b)) refl
-      (z ∙ rw e (word-is ix b (bucketOf x + bucketTable) (bucket-word (numbers ix) (firsts ix) (lasts ix) (fs-few ix b) (bucketOf x) (omega arith))))
+      (z ∙ rw e (word-at ix b 12 (bucketOf x) (omega arith) (omega arith)))
 
   module _ {m : ℕ} (s : Searching ix x m) where
     pub ends : m ≤ 0 → m ≡ markIn ix x
@@ -50,7 +50,7 @@ module _ {ix : List ℕ} {x : ℕ} where
       row = omega arith
 
       number-is : getD ix (m - 1) 0 ≡ getD (numbers ix) (m - 1) 0
-      number-is = word-is ix (s .block) (m - 1) (number-word (numbers ix) (firsts ix) (lasts ix) (fs-few ix (s .block)) (m - 1) (omega (arith, s .within, s .block .few)))
+      number-is = block-holds ix (s .block) .numbers (m - 1) (omega (arith, s .within, fs-rows ix (s .block)))
 
       pub found : getD ix (m - 1) 0 ≡ x → m ≡ markIn ix x
       found e = sym (s .is ∙ ap (below (sought (numbers ix) x)) row ∙ below-hit (sought (numbers ix) x) (m - 1) (eq-eqb _ _ (sym number-is ∙ e)) ∙ sym row)
@@ -58,9 +58,8 @@ module _ {ix : List ℕ} {x : ℕ} where
       -- the mark of the row before, n
       module _ {n : ℕ} (z : n ≡ getD ix (m - 1 + lowerColumn) 0) where
         lower-is : n ≡ inBucket (numbers ix) (bucketOf x) (m - 1)
-        lower-is =
-            z ∙ word-is ix (s .block) (m - 1 + lowerColumn) (lower-word (numbers ix) (firsts ix) (lasts ix) (fs-few ix (s .block)) (m - 1) (omega (arith, s .within, fs-rows ix (s .block))))
-            ∙ ap (λ (b : ℕ). inBucket (numbers ix) b (m - 1)) (s .bucket (m - 1) row)
+        lower-is = unfold nth place in z ∙ word-at ix (s .block) 13 (m - 1) (omega arith) (omega (arith, s .within, s .block .few))
+            ∙ row-link (firsts ix) (lasts ix) (λ p. inBucket (numbers ix) (bucketOf (getD (numbers ix) p 0)) p) (m - 1) (omega (arith, s .within, fs-rows ix (s .block))) ∙ ap (λ (b : ℕ). inBucket (numbers ix) b (m - 1)) (s .bucket (m - 1) row)
 
         pub falls : n < m
         falls = omega (arith, lower-is, latest (numbers ix) x (m - 1) .within)
