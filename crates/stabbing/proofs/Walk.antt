@@ -115,10 +115,8 @@ module _ (fs ls : List ℕ) (sorted : Sorted fs ls) (l : ℕ) (on : ℕ → Bool
       let hc = c-head fs ls m v r c e in
       let s₁ : Progress = compare fs ls l (lastChild fs ls c) (descend fs ls l f) s in
       let w₁ = rw (← c-child fs ls m v r c e) at (compare-went f (descend-went f) (suc c) v s (child-stretch fs ls m v r c e) (λ x a b. off x (omega arith) b) (omega arith)) in
-      let w₂ = chain-of c s₁ hc (omega (arith, r .inside)) t in
+      let w₂ = rw (hc, off c over under hc) at (chain-of c s₁ hc (omega (arith, r .inside)) t) in
       let w₃ = rw (← c-left fs ls m v r c e) at (compare-went f (descend-went f) m c (chain fs ls l c s₁) (left-stretch fs ls m v r c e) (λ x a b. off x a (omega arith)) (omega arith)) in
-      let k₁ : one (left? c) ≡ one (some (leftSibling fs ls c)) = rw hc in
-      let k₂ : one (child? c) ≡ one (some (lastChild fs ls c)) = rw (hc, off c over under hc) in
       record { list = w₃ .list ∙ w₂ .list ∙ w₁ .list; comparisons = omega (arith, w₁ .comparisons, w₂ .comparisons, w₃ .comparisons) }
 
   -- the path upward from the head v, where `on` is that path
@@ -140,11 +138,9 @@ module _ (fs ls : List ℕ) (sorted : Sorted fs ls) (l : ℕ) (on : ℕ → Bool
   climb-went zero v s b h hv t path = absurd (omega arith)
   climb-went (suc f) v s b h hv t path = let s₁ : Progress = chain fs ls l v s in
       let s₂ : Progress = compare fs ls l (leftSibling fs ls v) (descend fs ls l (length fs)) s₁ in
-      let w₁ = chain-of v s hv h t in
+      let w₁ = rw (hv, path v (le-refl v) ∙ path-here f v) at (chain-of v s hv h t) in
       let path′ : (x : ℕ) → x < v → on x ≡ onPath fs ls f (parent fs ls v) x = λ x lt. path x (omega arith) ∙ path-up f v x lt in
       let w₂ = rw (← left-is fs ls v) at (compare-went (length fs) (descend-went (length fs)) (parent fs ls v) v s₁ (own fs ls v hv h) (λ x a b _. path′ x b ∙ path-under f _ x a) (omega arith)) in
-      let k₁ : one (left? v) ≡ one (some (leftSibling fs ls v)) = rw hv in
-      let k₂ : one (child? v) ≡ 0 = rw (hv, path v (le-refl v) ∙ path-here f v) in
       let w : Went (suc v) s (parent fs ls v) s₂ 0 0 = record { list = w₂ .list ∙ w₁ .list; comparisons = omega (arith, w₁ .comparisons, w₂ .comparisons) } in
       let i = parent-is fs ls v in
       by-mark (parent fs ls v)

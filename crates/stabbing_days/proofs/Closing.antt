@@ -18,10 +18,8 @@ module _ {l xs : List ℕ} {f i : ℕ} (g : Closing l f xs i) where
   -- what is read was not written over
   ahead : getD xs (i + f) 0 ≡ getD (drop f l) i 0
   ahead = let n : length (take i (drop f l)) ≡ i = length-take-le i (drop f l) (omega (arith, length-drop f l, g .within)) in
-      let p : i + f ≡ length (take i (drop f l)) + f = omega (arith, n) in
-      let q : i + f ≡ f + i = omega arith in
-      ap (λ (ys : List ℕ). getD ys (i + f) 0) (g .places) ∙ ap (λ (j : ℕ). getD (take i (drop f l) ++ drop i l) j 0) p
-      ∙ getD-append-add (take i (drop f l)) (drop i l) f 0 ∙ getD-drop i l f 0 ∙ ap (λ (j : ℕ). getD l j 0) q ∙ sym (getD-drop f l i 0)
+      let q : f + i ≡ i + f = omega arith in
+      rw (g .places, getD-drop f l i 0, q) (rw (n, getD-drop) at (getD-append-add (take i (drop f l)) (drop i l) f 0))
 
   pub goes-on : i + f < length l → Closing l f (set xs i (getD xs (i + f) 0)) (i + 1)
   goes-on h = record {
@@ -41,6 +39,4 @@ pub closed : (xs : List ℕ) (k f : ℕ) → k ≤ length xs → f ≤ k → ove
 closed xs k f h z = let ns : List ℕ = take k xs in
     let l : length ns ≡ k = length-take-le k xs h in
     let n : length (drop f ns) ≡ k - f = length-drop f ns ∙ omega (arith, l) in
-    ap (λ (ys : List ℕ). ys ++ drop k xs) (overlaid-all (drop f ns) ns (omega (arith, n, l)) ∙ ap (λ (j : ℕ). drop f ns ++ drop j ns) n)
-    ∙ append-assoc (drop f ns) (drop (k - f) ns) (drop k xs)
-    ∙ ap (λ (ys : List ℕ). drop f ns ++ ys) (sym (drop-append-le (k - f) ns (drop k xs) (omega (arith, l))) ∙ ap (drop (k - f)) (take-append-drop k xs))
+    rw (overlaid-all (drop f ns) ns (omega (arith, n, l)), n, append-assoc, ← drop-append-le (k - f) ns (drop k xs) (omega (arith, l)), take-append-drop)

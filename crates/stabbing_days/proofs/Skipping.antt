@@ -1,5 +1,5 @@
 -- The rows of a list that lie past the first m, found by halving: the steps of `skip`, apart from the code. Assumes nothing.
-use Rattle.basis.proofs.Prelude.{_∙_, _≡_, ap, refl, sym, _+_, _-_, _<_, _≤_, suc, zero, zero-le, ℕ, List, [], _++_, _∷_, map, Bool, _&&_, _≢_, leb, ltb, List·getD-append, drop, getD, length, length-append, length-map, drop-at, getD-append-add, le-refl, arith, le-ltb, leb-true, lt-ltb, ltb-false, ltb-true, both, by-eq, by-test}
+use Rattle.basis.proofs.Prelude.{_∙_, _≡_, ap, refl, sym, _+_, _-_, _<_, _≤_, suc, zero, zero-le, ℕ, List, [], _++_, _∷_, map, Bool, _&&_, _≢_, leb, ltb, List·getD-append, drop, getD, length, length-append, length-map, drop-at, getD-append-add, le-refl, add-zero, arith, le-ltb, leb-true, lt-ltb, ltb-false, ltb-true, both, by-eq, by-test}
 use Rattle.stabbing.{specs.Tree.keep, specs.Contracts.from, proofs.Days.keep-parts, proofs.Listing.lists, specs.Index.{Built, numbers, firsts, markIn}, proofs.Block.{built-holds, leads-back}}
 use Rattle.stabbing_query.specs.Contracts.{numbered}
 use Rattle.stabbing_days.specs.Contracts.{InRows, Parted, Skips}
@@ -8,24 +8,19 @@ use Rattle.stabbing_days.specs.Contracts.{InRows, Parted, Skips}
 
 -- the place r is where a list's parts meet, of which the first is below m and the second is not
 meets : (m r : ℕ) (us vs : List ℕ) → ((k : ℕ) → k < length us → getD us k 0 < m) → ((k : ℕ) → k < length vs → m ≤ getD vs k 0) → Parted m r (us ++ vs) → r ≡ length us
-meets m r us vs low high q = by-test (ltb r (length us))
-    (λ e.
-    let h : r < length us = ltb-true r (length us) e in
-    absurd (omega (arith, low r h, List·getD-append us vs 0 r h, q .high r (le-refl r) (omega (arith, length-append us vs)))))
-    (λ e. by-eq (length us) r (omega (arith, ltb-false r (length us) e)) (λ z. sym z) (λ h.
-    let z : length us + 0 ≡ length us = omega arith in
-    let first : getD (us ++ vs) (length us) 0 ≡ getD vs 0 0 = ap (λ (n : ℕ). getD (us ++ vs) n 0) (sym z) ∙ getD-append-add us vs 0 0 in
-    absurd (omega (arith, q .low (length us) h, first, high 0 (omega (arith, q .within, length-append us vs))))))
+meets m r us vs low high q = let l = length-append us vs in
+    let first = rw add-zero at (getD-append-add us vs 0 0) in
+    let n₁ : r < length us → ⊥ = λ h. omega (arith, low r h, List·getD-append us vs 0 r h, q .high r (le-refl r) (omega arith)) in
+    let n₂ : length us < r → ⊥ = λ h. omega (arith, q .low (length us) h, high 0 (omega (arith, q .within))) in omega arith
 
 -- of the positions that pass a test, those from the place r on are those from m on
 pub rest-from : (t : ℕ → Bool) (m n r : ℕ) → Parted m r (keep t n) → drop r (keep t n) ≡ keep (from m t) n
 rest-from t m n r q = let a : ℕ → Bool = λ p. ltb p m && t p in
-    let parts : keep t n ≡ keep a n ++ keep (from m t) n = keep-parts t a t m n (λ p h. rw (lt-ltb p m h)) (λ p h _. rw (le-ltb p m h)) (λ p _ _. refl) in
-    let place : r ≡ length (keep a n) = meets m r (keep a n) (keep (from m t) n)
-    (λ k h. ltb-true _ m (both (ltb (getD (keep a n) k 0) m) (t (getD (keep a n) k 0)) (lists a n .passes k h .1) .0))
-    (λ k h. leb-true m _ (both (leb m (getD (keep (from m t) n) k 0)) (t (getD (keep (from m t) n) k 0)) (lists (from m t) n .passes k h .1) .0))
-    (rw parts at q) in
-    ap (drop r) parts ∙ drop-at (keep a n) (keep (from m t) n) r (sym place)
+    let parts = keep-parts t a t m n (λ p h. rw (lt-ltb p m h)) (λ p h _. rw (le-ltb p m h)) (λ p _ _. refl) in
+    let place = meets m r (keep a n) (keep (from m t) n)
+    (λ k h. ltb-true _ m (both (ltb (getD (keep a n) k 0) m) _ (lists a n .passes k h .1) .0))
+    (λ k h. leb-true m _ (both (leb m (getD (keep (from m t) n) k 0)) _ (lists (from m t) n .passes k h .1) .0)) (rw parts at q) in
+    rw parts (drop-at (keep a n) (keep (from m t) n) r (sym place))
 
 -- the positions that pass a test below as many as there are rows are those of rows
 pub kept-rows : (ix : List ℕ) (t : ℕ → Bool) → InRows ix (keep t (length (firsts ix)))
@@ -60,52 +55,31 @@ none-found ix xs z = record { skips = λ ps r e. record { within = zero-le; low 
 -- the place sought is from lo to hi, whatever rows these are
 pub record Halving (ix xs : List ℕ) (m lo hi : ℕ) : Type 0 where
   pub built : Built ix
-  pub ordered : lo ≤ hi
-  pub within : hi ≤ length xs
-  pub low : (ps : List ℕ) → InRows ix ps → xs ≡ numbered ix ps → (k : ℕ) → k < lo → getD ps k 0 < m
-  pub high : (ps : List ℕ) → InRows ix ps → xs ≡ numbered ix ps → (k : ℕ) → hi ≤ k → k < length ps → m ≤ getD ps k 0
+  pub within : (lo ≤ hi) × (hi ≤ length xs)
+  pub parts : (ps : List ℕ) → InRows ix ps → xs ≡ numbered ix ps → ((k : ℕ) → k < lo → getD ps k 0 < m) × ((k : ℕ) → hi ≤ k → k < length ps → m ≤ getD ps k 0)
 
 begins : (ix xs : List ℕ) (m : ℕ) → Built ix → Halving ix xs m 0 (length xs)
-begins ix xs m b = record {
-  built = b;
-  ordered = zero-le;
-  within = le-refl (length xs);
-  low = λ ps r e k h. absurd (omega arith);
-  high = λ ps r e k h g. absurd (omega (arith, long ix ps e));
-}
+begins ix xs m b = record { built = b; within = omega arith; parts = λ ps r e. ((λ k h. absurd (omega arith)), λ k h g. absurd (omega (arith, long ix ps e))) }
 
 module _ {ix xs : List ℕ} {m lo hi : ℕ} (g : Halving ix xs m lo hi) where
   pub ends : hi ≤ lo → Skips ix xs m lo
-  ends h = record { skips = λ ps r e. record { within = omega (arith, long ix ps e, g .ordered, g .within); low = g .low ps r e; high = λ k y z. g .high ps r e k (omega (arith, g .ordered)) z } }
+  ends h = record { skips = λ ps r e. record { within = omega (arith, long ix ps e); low = g .parts ps r e .0; high = λ k y z. g .parts ps r e .1 k (omega arith) z } }
 
   -- the row at a place j between, by the mark n of its number
   module _ {j n : ℕ} (above : lo ≤ j) (under : j < hi) (en : n ≡ markIn ix (getD xs j 0)) where
     module _ (ps : List ℕ) (r : InRows ix ps) (e : xs ≡ numbered ix ps) where
       inside : j < length ps
-      inside = omega (arith, long ix ps e, g .within)
+      inside = omega (arith, long ix ps e)
 
       mark-is : n ≡ suc (getD ps j 0)
       mark-is = let p : getD ps j 0 < length (firsts ix) = r .inside j inside in
-          en ∙ ap (markIn ix) (ap (λ (ys : List ℕ). getD ys j 0) e ∙ getD-map (λ (q : ℕ). getD ix q 0) ps j inside ∙ built-holds ix (g .built) .numbers (getD ps j 0) p)
-          ∙ leads-back ix (g .built) (getD ps j 0) p
+          en ∙ ap (markIn ix) (rw e (getD-map (λ (q : ℕ). getD ix q 0) ps j inside) ∙ built-holds ix (g .built) .numbers (getD ps j 0) p) ∙ leads-back ix (g .built) (getD ps j 0) p
 
     pub old : n ≤ m → Halving ix xs m (j + 1) hi
-    old h = record {
-      built = g .built;
-      ordered = omega arith;
-      within = g .within;
-      low = λ ps r e k y. omega (arith, rising r k j (omega arith) (inside ps r e), mark-is ps r e);
-      high = g .high;
-    }
+    old h = record { built = g .built; within = omega arith; parts = λ ps r e. ((λ k y. omega (arith, rising r k j (omega arith) (inside ps r e), mark-is ps r e)), g .parts ps r e .1) }
 
     pub new : m < n → Halving ix xs m lo j
-    new h = record {
-      built = g .built;
-      ordered = above;
-      within = omega (arith, g .within);
-      low = g .low;
-      high = λ ps r e k y z. omega (arith, rising r j k y z, mark-is ps r e);
-    }
+    new h = record { built = g .built; within = omega arith; parts = λ ps r e. (g .parts ps r e .0, λ k y z. omega (arith, rising r j k y z, mark-is ps r e)) }
 
 -- the last of them is looked at first, by the mark n of its number: where it is not new none is
 module _ {ix xs : List ℕ} {m : ℕ} (b : Built ix) (some : length xs ≢ 0) {n : ℕ} (e : n ≡ markIn ix (getD xs (length xs - 1) 0)) where

@@ -11,7 +11,7 @@ start-now {xs = xs} n = record { size = n; fits = zero-le; few = omega arith; is
 
 pub starts : {ix xs : List ℕ} {l m : ℕ} → WalkAsks ix l m → length xs ≡ 1024 → ClimbAsks ix l m xs 67108864
 starts {ix} {m = m} q n =
-    let i : (m ≤ length (firsts ix)) × (m ≤ 1024) = by-mark m (λ z. omega arith) (λ v z. let w = q .headed v z in omega (arith, w .built .few)) in record {
+    let i : (m ≤ length (firsts ix)) × (m ≤ 1024) = by-mark m (λ z. omega arith) (λ v z. let w = q .headed v z in omega (arith, w .held .built .few)) in record {
       headed = q .headed;
       at = nothing;
       now = start-now n;
@@ -69,8 +69,7 @@ module _ {ix : List ℕ} (b : Built ix) (h : ℕ) {l m : ℕ} (dates : 1 ≤ l) 
   pub asks-walk : WalkAsks ix l m
   asks-walk = let i = start-is (firsts ix) (lasts ix) (holding .sorted) h l in record {
     headed = λ v e. let p = i .hit v (sym z ∙ e) in record {
-      built = holding;
-      dated = dates;
+      held = record { built = holding; dated = dates };
       inside = omega (arith, i .within);
       top = p .0;
       lasting = p .2;

@@ -21,12 +21,7 @@ module _ {ix : List ℕ} {l p : ℕ} {xs : List ℕ} {s : ℕ} (q : ChainAsks ix
   m = next (firsts ix) (lasts ix) p
 
   near : Neighbour ix l m (getD ix (p + nextLastColumn) 0)
-  near = record {
-    built = q .built;
-    dated = q .dated;
-    within = omega (arith, next-le (firsts ix) (lasts ix) p, q .inside);
-    last = q .built .next-lasts p (q .inside);
-  }
+  near = record { held = q .held; within = omega (arith, next-le (firsts ix) (lasts ix) p, q .inside); last = q .held .built .next-lasts p (q .inside) }
 
   -- p is listed
   abbrev xs₁ : List ℕ
@@ -48,7 +43,7 @@ module _ {ix : List ℕ} {l p : ℕ} {xs : List ℕ} {s : ℕ} (q : ChainAsks ix
 
     module _ (h : l ≤ getD ix (p + nextLastColumn) 0) {k : ℕ} (z : k ≡ getD ix (p + nextColumn) 0) where
       k-is : k ≡ m
-      k-is = z ∙ q .built .nexts p (q .inside)
+      k-is = z ∙ q .held .built .nexts p (q .inside)
 
       pub linked : 1 ≤ k
       linked = Keeping.linked near h k-is
@@ -58,8 +53,7 @@ module _ {ix : List ℕ} {l p : ℕ} {xs : List ℕ} {s : ℕ} (q : ChainAsks ix
 
       pub asks : ChainAsks ix l (k - 1) xs₁ (s - 65536 + c)
       asks = let below = falls-on refl in record {
-        built = q .built;
-        dated = q .dated;
+        held = q .held;
         inside = omega (arith, q .inside);
         at = ticked m (push p (q .at));
         now = ticks near e now₁ (omega (arith, q .few)) now₁;
