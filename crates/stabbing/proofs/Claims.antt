@@ -1,10 +1,8 @@
 -- What the crate is for: the listing and the comparisons, shown once for any two days h and l, and cited for day, span and cover; and the
 -- links that publish stores. Assumes nothing.
-use Rattle.basis.proofs.Prelude.{_≡_, _*_, _<_, _≤_, ℕ, List, [], length}
-use Rattle.stabbing.specs.{Tree.{keep, dayAt, fitsAt, start, formula}, Walk.walk, Index.Built, Stored.{Sorted, latest, spanStart}}
-use Rattle.stabbing.proofs.Walk as Walk
-use Rattle.stabbing.proofs.Starts as Starts
-use Rattle.stabbing.proofs.{Listing.{Lists, lists}, StoredLinks.{StoredLinks, stored-links}}
+use Rattle.basis.proofs.Prelude.{_∙_, _≡_, ap, _*_, _<_, _≤_, zero-le, ℕ, List, [], length}
+use Rattle.stabbing.specs.{Tree.{count, keep, dayAt, fitsAt, start, formula}, Walk.walk, Index.Built, Stored.{Sorted, latest, spanStart}}
+use Rattle.stabbing.proofs.{Marks.keep-skip, Walk.{start-is, right, formula-le}, Starts.{start-span, cover-latest}, Listing.{Lists, lists}, StoredLinks.{StoredLinks, stored-links}}
 
 module _ (fs ls : List ℕ) (sorted : Sorted fs ls) where
   -- what the walk from the start of "first ≤ h, last ≥ l" finds
@@ -19,13 +17,13 @@ module _ (fs ls : List ℕ) (sorted : Sorted fs ls) where
     pub none : walk fs ls l (start fs ls h l) .list ≡ [] → walk fs ls l (start fs ls h l) .comparisons ≡ 0
 
   pub walked : (h l : ℕ) → Walked h l
-  walked h l = record {
-    listing = Walk.listing fs ls sorted h l;
-    listed = rw (Walk.listing fs ls sorted h l) (lists (fitsAt fs ls h l) (length fs));
-    unlisted = Walk.unlisted fs ls sorted h l;
-    comparisons = Walk.right fs ls sorted h l .comparisons;
-    few = Walk.comparisons-few fs ls sorted h l;
-    none = Walk.comparisons-none fs ls sorted h l;
+  walked h l = let i = start-is fs ls sorted h l in let r = right fs ls sorted h l in unfold formula count keep in record {
+    listing = r .list;
+    listed = rw (r .list) (lists (fitsAt fs ls h l) (length fs));
+    unlisted = λ e. r .list ∙ keep-skip (fitsAt fs ls h l) 0 (length fs) zero-le (λ p _ k. i .miss p (rw e zero-le) k);
+    comparisons = r .comparisons;
+    few = rw (r .comparisons) (formula-le fs ls (start fs ls h l) (walk fs ls l (start fs ls h l) .list));
+    none = λ e. r .comparisons ∙ ap (formula fs ls (start fs ls h l)) e;
   }
 
   -- DAY d, SPAN a to b, COVER of the row p
@@ -42,10 +40,10 @@ module _ (fs ls : List ℕ) (sorted : Sorted fs ls) where
   -- its first day; of a cover, the head of the row's chain, which is the latest by the row's first day
   pub span-start : ((p : ℕ) → p < length fs → dayAt fs p ≤ dayAt ls p) → (a b : ℕ) → a ≤ b
       → start fs ls b a ≡ spanStart fs ls a (latest fs ls b) (start fs ls a a)
-  span-start = Starts.start-span fs ls sorted
+  span-start = start-span fs ls sorted
 
   pub cover-start : (p : ℕ) → p < length fs → start fs ls (dayAt fs p) (dayAt ls p) ≡ latest fs ls (dayAt fs p)
-  cover-start = Starts.cover-latest fs ls sorted
+  cover-start = cover-latest fs ls sorted
 
 -- THE LINKS as publish stores them: each the definition's mark, or 0 for none, in 8,192 bytes
 pub links-stored : (ix : List ℕ) → Built ix → StoredLinks ix

@@ -214,12 +214,3 @@ module _ (fs ls : List ℕ) (sorted : Sorted fs ls) (h l : ℕ) where
 
   pub comparisons-formula : walk fs ls l (start fs ls h l) .comparisons ≡ formula fs ls (start fs ls h l) (keep (fitsAt fs ls h l) (length fs))
   comparisons-formula = right .comparisons ∙ ap (formula fs ls (start fs ls h l)) listing
-
-  pub comparisons-few : walk fs ls l (start fs ls h l) .comparisons ≤ 3 * length (walk fs ls l (start fs ls h l) .list)
-  comparisons-few = rw (right .comparisons) (formula-le fs ls (start fs ls h l) (walk fs ls l (start fs ls h l) .list))
-
-  pub comparisons-none : walk fs ls l (start fs ls h l) .list ≡ [] → walk fs ls l (start fs ls h l) .comparisons ≡ 0
-  comparisons-none e = unfold formula count in right .comparisons ∙ ap (formula fs ls (start fs ls h l)) e
-
-  pub unlisted : start fs ls h l ≡ 0 → walk fs ls l (start fs ls h l) .list ≡ []
-  unlisted e = unfold keep in listing ∙ keep-skip (fitsAt fs ls h l) 0 (length fs) zero-le (λ p _ k. start-is fs ls sorted h l .miss p (rw e zero-le) k)

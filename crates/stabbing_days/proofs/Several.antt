@@ -3,9 +3,8 @@ use Rattle.basis.proofs.Prelude.{_∙_, _≡_, ap, refl, sym, _+_, _-_, _<_, _�
 use borrow.Rule.Slice.PartMut.{putMid, postOf}
 use Rattle.stabbing.{specs.{Tree.{keep, fitsAt, start, formula}, Index.{latestTable, Built, numbers, firsts, lasts}, Answer.{Reported, Gave, give, question, risingFrom, containsAny, dayIn, daysOf, daysIn}, Contracts.{Holds, from}}, specs.Stored.latest, specs.declared.Listed.Listed, proofs.Starts.latest-is, proofs.Steps.keep-room, proofs.Block.built-holds, proofs.Days.{keep-from, added, added-room, added-none, added-all, latest-none}}
 use Rattle.buffer.{specs.Buffer.overlaid, proofs.Overlaid.overlaid-all}
-use Rattle.calendar.specs.Calendar.{isDay, daysOk}
+use Rattle.calendar.{specs.Calendar.{isDay, daysOk}, proofs.Calendar.dated}
 use Rattle.stabbing_query.{specs.Contracts.numbered, proofs.Answering.{give-all, give-none, refusal, keep-map, day-in}}
-use Rattle.stabbing_query.proofs.Answering as Answers
 use Rattle.stabbing_days.specs.Contracts.{Skips, Parted, dayFrom, daysFrom, asked, askedAll, AddAsks, GatherAsks, Added, Gathered}
 use Rattle.stabbing_days.proofs.{Skipping.{drop-map, rest-from, kept-rows}, Closing.closed}
 
@@ -134,16 +133,13 @@ module _ {ix ds answer₀ answer : List ℕ} {m at i : ℕ} (g : Going ix ds ans
     abbrev x : ℕ
     x = getD ds i 0
 
-    abbrev part : List ℕ
-    part = drop at answer
-
     dates : (isDay x ≡ true) × (daysOk (drop (i + 1) ds) ≡ true)
     dates = unfold daysOk in both (isDay x) (daysOk (drop (i + 1) ds)) (ap daysOk (sym (split ds i h)) ∙ g .asks .dated)
 
     rises : (ltb (g .asks .b) x ≡ true) × (risingFrom x (drop (i + 1) ds) ≡ true)
     rises = unfold risingFrom in both (ltb (g .asks .b) x) (risingFrom x (drop (i + 1) ds)) (ap (risingFrom (g .asks .b)) (sym (split ds i h)) ∙ g .asks .rising)
 
-    asks-x : AddAsks ix x part
+    asks-x : AddAsks ix x (drop at answer)
     asks-x = let w : m ≤ length (firsts ix) = rw (g .asks .begun) (latest-is (firsts ix) (lasts ix) (holds .sorted) (g .asks .b) .within) in
         record { built = g .asks .built; dated = dates .0; room = omega (arith, g .asks .room) }
 
@@ -154,16 +150,15 @@ module _ {ix ds answer₀ answer : List ℕ} {m at i : ℕ} (g : Going ix ds ans
     today : getD (take (length ds - i) (drop i ds)) 0 0 ≡ x
     today = rw (lent ds i, split ds i h)
 
-    pub asks-day : AddAsks ix (getD (take (length ds - i) (drop i ds)) 0 0) (take (length answer - at) part)
+    pub asks-day : AddAsks ix (getD (take (length ds - i) (drop i ds)) 0 0) (take (length answer - at) (drop at answer))
     asks-day = rw (today, lent answer at) asks-x
 
     -- how many rows begin by it, as it is stored
-    module _ {y : ℕ} (z : y ≡ x) where
-      pub begun-word : (w : ℕ) → 18242 ≤ w → y + latestTable < w
-      begun-word w k = omega (arith, Answers.dated x (dates .0) .1)
+    pub begun-word : {y : ℕ} → y ≡ x → (w : ℕ) → 18242 ≤ w → y + latestTable < w
+    begun-word z w k = omega (arith, dated x (dates .0) .1)
 
-    module _ {ys : List ℕ} {k : ℕ} (a′ : Added (dayFrom ix m (getD (take (length ds - i) (drop i ds)) 0 0)) (asked ix (getD (take (length ds - i) (drop i ds)) 0 0) (take (length answer - at) part)) ys k) where
-      a : Added (dayFrom ix m x) (asked ix x part) ys k
+    module _ {ys : List ℕ} {k : ℕ} (a′ : Added (dayFrom ix m (getD (take (length ds - i) (drop i ds)) 0 0)) (asked ix (getD (take (length ds - i) (drop i ds)) 0 0) (take (length answer - at) (drop at answer))) ys k) where
+      a : Added (dayFrom ix m x) (asked ix x (drop at answer)) ys k
       a = rw (today, lent answer at) at a′
 
       abbrev M : ℕ
@@ -184,7 +179,7 @@ module _ {ix ds answer₀ answer : List ℕ} {m at i : ℕ} (g : Going ix ds ans
       so-far = take at answer ++ dayFrom ix m x
 
       abbrev left : List ℕ
-      left = drop k (asked ix x part)
+      left = drop k (asked ix x (drop at answer))
 
       after-is : putMid at (length answer - at) answer ys ≡ so-far ++ left
       after-is =
@@ -205,9 +200,9 @@ module _ {ix ds answer₀ answer : List ℕ} {m at i : ℕ} (g : Going ix ds ans
       unwritten = drop-at so-far left (at + k) long
 
       pub goes-on : {y M′ : ℕ} → y ≡ x → M′ ≡ getD ix (y + latestTable) 0 → Going ix ds answer₀ (putMid at (length answer - at) answer ys) M′ (at + k) (i + 1)
-      goes-on {y} {M′} z u = let e : M′ ≡ M = u ∙ rw z (holds .begun x (Answers.dated x (dates .0) .1)) in
+      goes-on {y} {M′} z u = let e : M′ ≡ M = u ∙ rw z (holds .begun x (dated x (dates .0) .1)) in
           rw (e, after-is) (record {
-            same = rw length-append (omega (arith, long, length-drop k (asked ix x part), asked-length asks-x, room, M-in, asks-x .room, length-drop at answer, g .within, g .same));
+            same = rw length-append (omega (arith, long, length-drop k (asked ix x (drop at answer)), asked-length asks-x, room, M-in, asks-x .room, length-drop at answer, g .within, g .same));
             within = rw length-append (omega (arith, long));
             few = omega (arith, room, g .few);
             asks = rw unwritten (record {
@@ -216,7 +211,7 @@ module _ {ix ds answer₀ answer : List ℕ} {m at i : ℕ} (g : Going ix ds ans
               b = x;
               rising = rises .1;
               begun = refl;
-              room = omega (arith, length-drop k (asked ix x part), asked-length asks-x, room, g .asks .room);
+              room = omega (arith, length-drop k (asked ix x (drop at answer)), asked-length asks-x, room, g .asks .room);
             });
             part = g .part ∙ rw (both-are, written) (sym (append-assoc (take at answer) (dayFrom ix m x) _));
             places = unfold askedAll in g .places ∙ rw (split ds i h, ← a .count, written, unwritten) (sym (append-assoc (take at answer) (dayFrom ix m x) _));

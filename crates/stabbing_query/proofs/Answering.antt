@@ -3,7 +3,7 @@ use Rattle.basis.proofs.Prelude.{_∙_, _≡_, ap, refl, sym, _%_, _*_, _+_, _-
 use Rattle.buffer.{specs.Buffer.overlaid, proofs.Overlaid.overlaid-all}
 use Rattle.stabbing.{specs.declared.Listed.Listed, proofs.Block.built-holds, proofs.{Marks.{below-is, keep-hit, keep-miss}, Starts.{latest-is, start-span, cover-latest}}, specs.Answer.{Reported, refused, give, question, dayOf, dayIn, Gave, spanOf, spanIn, covering, coverOf, coverIn}}
 use Rattle.stabbing_query.proofs.Names.{keep, dayAt, fitsAt, start, nothing, walk, latest, spanStart, start-is, listing, comparisons-formula, firstColumn, lastColumn, startTable, latestTable, Built, named, numbers, firsts, lasts, markIn, isDay, Holds, Now, Does, ClimbAsks, WalkAsks, numbered, decoded, listedOf, climbOf, walkOf, startOf}
-pub use Rattle.calendar.proofs.Calendar.{dated}
+use Rattle.calendar.proofs.Calendar.{dated}
 
 -- ---- The walk's beginning and its end
 start-now : {ix xs : List ℕ} → length xs ≡ 1024 → Now ix xs 67108864 nothing

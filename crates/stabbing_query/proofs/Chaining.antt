@@ -1,20 +1,12 @@
 -- The steps of `chain` over what it asks and gives, apart from the code. Assumes nothing.
-use Rattle.basis.proofs.Prelude.{_∙_, _≡_, ap, refl, sym, _%_, _+_, _-_, _/_, _<_, _≤_, suc, zero, ℕ, List, eqb, getD, length, set, arith, by-test}
-use Rattle.stabbing_query.proofs.{Names.{one, some, dayAt, next, Progress, push, compare, chain, next-le, compare-none, compare-same, nextColumn, nextLastColumn, Now, Does, ChainAsks, chainOf, firsts, lasts}, Keeping.{one-le, ticked, as-many, now-push, then, Neighbour, ticks, misses, hits}}
-use Rattle.stabbing_query.proofs.Keeping as Keeping
-
--- the next in a chain is one position down
-next-only : (fs ls : List ℕ) (p x : ℕ) → next fs ls (suc p) ≡ suc x → p ≡ x
-next-only fs ls p x z = unfold next in by-test (eqb (dayAt fs p) (dayAt fs (suc p)))
-    (λ e. let y : suc p ≡ suc x = rw (e, next) at z in omega arith)
-    (λ e. let y : 0 ≡ suc x = rw (e, next) at z in absurd (omega arith))
+use Rattle.basis.proofs.Prelude.{_∙_, _≡_, refl, _%_, _+_, _-_, _/_, _<_, _≤_, suc, zero, ℕ, List, eqb, getD, length, set, arith, by-test}
+use Rattle.stabbing_query.proofs.{Names.{one, some, dayAt, next, Progress, push, compare, chain, next-le, nextColumn, nextLastColumn, Now, Does, ChainAsks, chainOf, firsts, lasts}, Keeping.{one-le, ticked, as-many, now-push, then, Neighbour, linked, ticks, misses, hits}}
 
 -- one position of a chain, by its link
 chain-step : (fs ls : List ℕ) (l p : ℕ) (f : Progress) → chain fs ls l p f ≡ compare fs ls l (next fs ls p) (chain fs ls l) (push p f)
-unfolding chain next
-chain-step fs ls l zero f = sym (compare-none fs ls l 0 (chain fs ls l) (push 0 f) refl)
-chain-step fs ls l (suc p) f =
-    compare-same fs ls l (next fs ls (suc p)) (λ _. chain fs ls l p) (chain fs ls l) (push (suc p) f) (λ x z t. ap (λ (y : ℕ). chain fs ls l y t) (next-only fs ls p x z))
+unfolding chain next compare
+chain-step fs ls l zero f = refl
+chain-step fs ls l (suc p) f = by-test (eqb (dayAt fs p) (dayAt fs (suc p))) (λ e. rw (e, next)) (λ e. rw (e, next))
 
 module _ {ix : List ℕ} {l p : ℕ} {xs : List ℕ} {s : ℕ} (q : ChainAsks ix l p xs s) where
   abbrev m : ℕ
@@ -45,11 +37,11 @@ module _ {ix : List ℕ} {l p : ℕ} {xs : List ℕ} {s : ℕ} (q : ChainAsks ix
       k-is : k ≡ m
       k-is = z ∙ q .held .built .nexts p (q .inside)
 
-      pub linked : 1 ≤ k
-      linked = Keeping.linked near h k-is
+      pub linked-next : 1 ≤ k
+      linked-next = linked near h k-is
 
       pub falls-on : {n : ℕ} → p ≡ n → k - 1 < n
-      falls-on i = omega (arith, k-is, linked, next-le (firsts ix) (lasts ix) p)
+      falls-on i = omega (arith, k-is, linked-next, next-le (firsts ix) (lasts ix) p)
 
       pub asks : ChainAsks ix l (k - 1) xs₁ (s - 65536 + c)
       asks = let below = falls-on refl in record {
