@@ -126,30 +126,20 @@ module _ (fs ls : List ℕ) (sorted : Sorted fs ls) (l : ℕ) (on : ℕ → Bool
   path-under (suc f) zero x h = refl
   path-under (suc f) (suc v) x h = rw (ne-eqb x v (λ z. omega arith)) (path-under f (parent fs ls v) x (omega (arith, parent-is fs ls v .within)))
 
-  path-here : (f v : ℕ) → onPath fs ls (suc f) (suc v) v ≡ true
-  path-here f v = unfold onPath in rw (eq-eqb v v refl)
-
-  path-up : (f v x : ℕ) → x < v → onPath fs ls (suc f) (suc v) x ≡ onPath fs ls f (parent fs ls v) x
-  path-up f v x h = unfold onPath in rw (ne-eqb x v (λ z. omega arith))
-
-  climb-went : (f v : ℕ) (s : Progress) → v < f → v < length fs → Head fs ls v → reach fs ls l v ≡ true
-      → ((x : ℕ) → x ≤ v → on x ≡ onPath fs ls f (suc v) x) → Went (suc v) s 0 (climb fs ls l f (suc v) s) 0 0
-  unfolding climb
-  climb-went zero v s b h hv t path = absurd (omega arith)
-  climb-went (suc f) v s b h hv t path = let s₁ : Progress = chain fs ls l v s in
-      let s₂ : Progress = compare fs ls l (leftSibling fs ls v) (descend fs ls l (length fs)) s₁ in
-      let w₁ = rw (hv, path v (le-refl v) ∙ path-here f v) at (chain-of v s hv h t) in
-      let path′ : (x : ℕ) → x < v → on x ≡ onPath fs ls f (parent fs ls v) x = λ x lt. path x (omega arith) ∙ path-up f v x lt in
-      let w₂ = rw (← left-is fs ls v) at (compare-went (length fs) (descend-went (length fs)) (parent fs ls v) v s₁ (own fs ls v hv h) (λ x a b _. path′ x b ∙ path-under f _ x a) (omega arith)) in
-      let w : Went (suc v) s (parent fs ls v) s₂ 0 0 = record { list = w₂ .list ∙ w₁ .list; comparisons = omega (arith, w₁ .comparisons, w₂ .comparisons) } in
+  climb-went : (f m : ℕ) (s : Progress) → m ≤ f → m ≤ length fs → ((v : ℕ) → m ≡ suc v → Head fs ls v × (reach fs ls l v ≡ true))
+      → ((x : ℕ) → x < m → on x ≡ onPath fs ls f m x) → Went m s 0 (climb fs ls l f m s) 0 0
+  unfolding climb onPath
+  climb-went zero m s b h top path = let z : m ≡ 0 = omega arith in rw z (record { list = refl; comparisons = refl })
+  climb-went (suc f) zero s b h top path = record { list = refl; comparisons = refl }
+  climb-went (suc f) (suc v) s b h top path = let q = top v refl in
+      let s₁ : Progress = chain fs ls l v s in
+      let w₁ = rw (q .0, rw (eq-eqb v v refl) at (path v (le-refl (suc v)))) at (chain-of v s (q .0) h (q .1)) in
+      let path′ : (x : ℕ) → x < v → on x ≡ onPath fs ls f (parent fs ls v) x = λ x lt. rw (ne-eqb x v (λ z. omega arith)) at (path x (omega arith)) in
+      let w₂ = rw (← left-is fs ls v) at (compare-went (length fs) (descend-went (length fs)) (parent fs ls v) v s₁ (own fs ls v (q .0) h) (λ x a b _. path′ x b ∙ path-under f _ x a) (omega arith)) in
       let i = parent-is fs ls v in
-      by-mark (parent fs ls v)
-      (λ z. rw (ap (λ (m : ℕ). climb fs ls l f m s₂) z ∙ climb-none fs ls l f s₂) (rw z at w))
-      (λ u z.
-      let ih = climb-went f u s₂ (omega (arith, i .within)) (omega (arith, i .within)) (i .hit u z .0)
-      (le-leb l (dayAt ls u) (omega (arith, i .hit u z .1, leb-true l (dayAt ls v) t))) (λ x le. rw z at (path′ x (omega (arith, i .within)))) in
-      let w′ : Went (suc v) s (suc u) s₂ 0 0 = rw z at w in
-      rw (ap (λ (m : ℕ). climb fs ls l f m s₂) z) (record { list = ih .list ∙ w′ .list; comparisons = omega (arith, ih .comparisons, w′ .comparisons) }))
+      let w₃ = climb-went f (parent fs ls v) (compare fs ls l (leftSibling fs ls v) (descend fs ls l (length fs)) s₁) (omega (arith, i .within)) (omega (arith, i .within))
+      (λ u z. (i .hit u z .0, le-leb l (dayAt ls u) (omega (arith, i .hit u z .1, leb-true l (dayAt ls v) (q .1))))) (λ x lt. path′ x (omega (arith, i .within))) in
+      record { list = w₃ .list ∙ w₂ .list ∙ w₁ .list; comparisons = omega (arith, w₁ .comparisons, w₂ .comparisons, w₃ .comparisons) }
 
 module _ (fs ls : List ℕ) (sorted : Sorted fs ls) where
   pub days-rise : (x v : ℕ) → x ≤ v → v < length fs → dayAt fs x ≤ dayAt fs v
@@ -190,15 +180,12 @@ module _ (fs ls : List ℕ) (sorted : Sorted fs ls) where
       pub comparisons : w .comparisons ≡ formula fs ls m (w .list)
 
     pub walk-right : (m : ℕ) → Start m → Right m (walk fs ls l m)
-    unfolding walk formula count keep due
-    walk-right zero i = rw (climb-none fs ls l (length fs) nothing) (record { list = sym (keep-skip (fitsAt fs ls h l) 0 (length fs) zero-le (i .miss)); comparisons = refl })
-    walk-right (suc v) i = let q = i .hit v refl in
-        let on : ℕ → Bool = onPath fs ls (length fs) (suc v) in
-        let r : ℕ → Bool = reach fs ls l in
-        let w = climb-went fs ls sorted l on (length fs) v nothing (i .within) (i .within) (q .0) (le-leb l (dayAt ls v) (q .2)) (λ x _. refl) in
-        let a : walk fs ls l (suc v) .list ≡ keep r (suc v) = w .list ∙ append-nil (keep r (suc v)) in
-        let b : keep r (suc v) ≡ keep (fitsAt fs ls h l) (suc v) = keep-ext r (fitsAt fs ls h l) (suc v) (λ p k. reach-fits p (omega (arith, days-rise p v (omega arith) (i .within), q .1))) in
-        record { list = a ∙ b ∙ sym (keep-skip (fitsAt fs ls h l) (suc v) (length fs) (i .within) (i .miss)); comparisons = rw a (omega (arith, w .comparisons)) }
+    walk-right m i = unfold walk formula due count keep in
+        let w = climb-went fs ls sorted l (onPath fs ls (length fs) m) (length fs) m nothing (i .within) (i .within) (λ v z. let q = i .hit v z in (q .0, le-leb l (dayAt ls v) (q .2))) (λ x _. refl) in
+        let a : walk fs ls l m .list ≡ keep (reach fs ls l) m = w .list ∙ append-nil (keep (reach fs ls l) m) in
+        let b = keep-ext (reach fs ls l) (fitsAt fs ls h l) m (λ p k. by-mark m (λ z. absurd (omega arith)) (λ v z.
+        reach-fits p (omega (arith, days-rise p v (omega arith) (omega (arith, i .within)), i .hit v z .1)))) in
+        record { list = a ∙ b ∙ sym (keep-skip (fitsAt fs ls h l) m (length fs) (i .within) (i .miss)); comparisons = rw a (omega (arith, w .comparisons)) }
 
 -- never more than three comparisons for each spell listed
 pub formula-le : (fs ls : List ℕ) (m : ℕ) (ps : List ℕ) → formula fs ls m ps ≤ 3 * length ps

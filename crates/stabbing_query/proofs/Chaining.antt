@@ -12,8 +12,8 @@ module _ {ix : List ℕ} {l p : ℕ} {xs : List ℕ} {s : ℕ} (q : ChainAsks ix
   abbrev m : ℕ
   m = next (firsts ix) (lasts ix) p
 
-  near : Neighbour ix l m (getD ix (p + nextLastColumn) 0)
-  near = record { held = q .held; within = omega (arith, next-le (firsts ix) (lasts ix) p, q .inside); last = q .held .built .next-lasts p (q .inside) }
+  near : Neighbour ix l m (getD ix (p + nextLastColumn) 0) (getD ix (p + nextColumn) 0)
+  near = record { held = q .held; within = omega (arith, next-le (firsts ix) (lasts ix) p, q .inside); stored = (q .held .built .next-lasts p (q .inside), q .held .built .nexts p (q .inside)) }
 
   -- p is listed
   abbrev xs₁ : List ℕ
@@ -34,14 +34,11 @@ module _ {ix : List ℕ} {l p : ℕ} {xs : List ℕ} {s : ℕ} (q : ChainAsks ix
     ends h = stepped (misses near e now₁ (omega (arith, q .few)) h (chainOf ix l))
 
     module _ (h : l ≤ getD ix (p + nextLastColumn) 0) {k : ℕ} (z : k ≡ getD ix (p + nextColumn) 0) where
-      k-is : k ≡ m
-      k-is = z ∙ q .held .built .nexts p (q .inside)
-
       pub linked-next : 1 ≤ k
-      linked-next = linked near h k-is
+      linked-next = linked near h z
 
       pub falls-on : {n : ℕ} → p ≡ n → k - 1 < n
-      falls-on i = omega (arith, k-is, linked-next, next-le (firsts ix) (lasts ix) p)
+      falls-on i = omega (arith, near .stored .1, linked-next, next-le (firsts ix) (lasts ix) p)
 
       pub asks : ChainAsks ix l (k - 1) xs₁ (s - 65536 + c)
       asks = let below = falls-on refl in record {
@@ -54,4 +51,4 @@ module _ {ix : List ℕ} {l p : ℕ} {xs : List ℕ} {s : ℕ} (q : ChainAsks ix
       }
 
       pub goes-on : {xs₂ : List ℕ} {r : ℕ} → Does ix xs₁ (s - 65536 + c) xs₂ r (chainOf ix l (k - 1)) → Does ix xs s xs₂ r (chainOf ix l p)
-      goes-on t = stepped (hits near e now₁ (omega (arith, q .few)) h k-is (chainOf ix l) t)
+      goes-on t = stepped (hits near e now₁ (omega (arith, q .few)) h z (chainOf ix l) t)
