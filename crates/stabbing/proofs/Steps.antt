@@ -1,15 +1,11 @@
 -- The walk's recursions with no fuel to follow: what code that goes by the links is proved against. Assumes nothing.
 use Rattle.basis.proofs.Prelude.{_∙_, _≡_, ap, refl, sym, _+_, _-_, _<_, _≤_, suc, zero, ℕ, List, [], _∷_, Bool, false, true, length, length-append, le-refl, arith, le-leb, lt-leb, by-eq, by-mark, by-test}
 use Rattle.stabbing.specs.{Tree.{keep, dayAt, head, parent, child, leftSibling, lastChild}, Walk.{Progress, tick, compare, chain, descend, climb}, Contracts.{Stretch, above, over}}
-use Rattle.stabbing.proofs.{Marks.{keep-hit, keep-miss}, Links.{parent-is, child-stretch, left-stretch, c-head, c-under, c-over, c-longest, c-child, c-left}, Walk.{reach, compare-none, compare-yes, compare-no}}
+use Rattle.stabbing.proofs.{Marks.{keep-hit, keep-miss}, Links.{parent-is, child-stretch, left-stretch, c-head, c-under, c-over, c-longest, c-child, c-left}, Walk.reach}
 
 module _ (fs ls : List ℕ) (l : ℕ) where
   pub compare-same : (m : ℕ) (go go′ : ℕ → Progress → Progress) (s : Progress) → ((p : ℕ) → m ≡ suc p → (t : Progress) → go p t ≡ go′ p t) → compare fs ls l m go s ≡ compare fs ls l m go′ s
-  compare-same m go go′ s f = by-mark m
-      (λ z. compare-none fs ls l m go s z ∙ sym (compare-none fs ls l m go′ s z))
-      (λ p z. by-test (reach fs ls l p)
-      (λ e. compare-yes fs ls l m p go s z e ∙ f p z (tick s) ∙ sym (compare-yes fs ls l m p go′ s z e))
-      (λ e. compare-no fs ls l m p go s z e ∙ sym (compare-no fs ls l m p go′ s z e)))
+  compare-same m go go′ s f = unfold compare in by-mark m (λ z. rw z) (λ p z. rw z (by-test (reach fs ls l p) (λ e. rw (e, compare) (f p z (tick s))) (λ e. rw (e, compare))))
 
   descend-more : (f m v c : ℕ) (s : Progress) → Stretch fs ls m v → v ≤ m + f → child fs ls m v ≡ suc c → descend fs ls l (suc f) c s ≡ descend fs ls l f c s
   unfolding descend

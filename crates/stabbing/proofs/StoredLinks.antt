@@ -33,28 +33,19 @@ pub record StoredLinks (ix : List ℕ) : Type 0 where
   pub words : length (linksOf ix) ≡ 4096
   pub bytes : 2 * length (linksOf ix) ≡ 8192
 
-four-long : (a b c d : List ℕ) → length a ≡ capacity → length b ≡ capacity → length c ≡ capacity → length d ≡ capacity → length (a ++ b ++ c ++ d) ≡ 4096
-four-long a b c d ea eb ec ed = simp length-append (omega arith)
-
 module _ (ix : List ℕ) (b : Block ix) where
-  abbrev js : List ℕ
-  js = firsts ix
-
-  abbrev es : List ℕ
-  es = lasts ix
-
-  head-links : (base : ℕ) (link : ℕ → ℕ) → ((p : ℕ) → p < capacity → getD ix (p + base) 0 ≡ headLink js es link p) → ((p : ℕ) → headLink js es link p ≤ length js) → HeadLinks ix base link
+  head-links : (base : ℕ) (link : ℕ → ℕ) → ((p : ℕ) → p < capacity → getD ix (p + base) 0 ≡ headLink (firsts ix) (lasts ix) link p) → ((p : ℕ) → headLink (firsts ix) (lasts ix) link p ≤ length (firsts ix)) → HeadLinks ix base link
   head-links base link word small = record {
-    heads = λ p h hp. word p (omega (arith, b .few)) ∙ head-link js es link p (omega (arith, fs-rows ix b)) hp;
-    others = λ p h hp. word p (omega (arith, b .few)) ∙ head-none js es link p (omega (arith, fs-rows ix b)) hp;
-    past = λ p h g. word p g ∙ head-past js es link p (omega (arith, fs-rows ix b));
+    heads = λ p h hp. word p (omega (arith, b .few)) ∙ head-link (firsts ix) (lasts ix) link p (omega (arith, fs-rows ix b)) hp;
+    others = λ p h hp. word p (omega (arith, b .few)) ∙ head-none (firsts ix) (lasts ix) link p (omega (arith, fs-rows ix b)) hp;
+    past = λ p h g. word p g ∙ head-past (firsts ix) (lasts ix) link p (omega (arith, fs-rows ix b));
     marks = λ p h. omega (arith, word p h, small p, fs-few ix b);
   }
 
-  row-links : (base : ℕ) (link : ℕ → ℕ) → ((p : ℕ) → p < capacity → getD ix (p + base) 0 ≡ rowLink js es link p) → ((p : ℕ) → rowLink js es link p ≤ length js) → RowLinks ix base link
+  row-links : (base : ℕ) (link : ℕ → ℕ) → ((p : ℕ) → p < capacity → getD ix (p + base) 0 ≡ rowLink (firsts ix) (lasts ix) link p) → ((p : ℕ) → rowLink (firsts ix) (lasts ix) link p ≤ length (firsts ix)) → RowLinks ix base link
   row-links base link word small = record {
-    all = λ p h. word p (omega (arith, b .few)) ∙ row-link js es link p (omega (arith, fs-rows ix b));
-    past = λ p h g. word p g ∙ row-past js es link p (omega (arith, fs-rows ix b));
+    all = λ p h. word p (omega (arith, b .few)) ∙ row-link (firsts ix) (lasts ix) link p (omega (arith, fs-rows ix b));
+    past = λ p h g. word p g ∙ row-past (firsts ix) (lasts ix) link p (omega (arith, fs-rows ix b));
     marks = λ p h. omega (arith, word p h, small p, fs-few ix b);
   }
 
@@ -62,15 +53,14 @@ module _ (ix : List ℕ) (b : Block ix) where
   column-long base h = length-take-le capacity (drop base ix) (omega (arith, length-drop base ix, words-long ix b))
 
   links-long : length (linksOf ix) ≡ 4096
-  links-long = four-long (columnOf ix parentColumn) (columnOf ix leftColumn) (columnOf ix childColumn) (columnOf ix nextColumn)
-      (column-long parentColumn (omega arith)) (column-long leftColumn (omega arith)) (column-long childColumn (omega arith)) (column-long nextColumn (omega arith))
+  links-long = simp (length-append, column-long parentColumn (omega arith), column-long leftColumn (omega arith), column-long childColumn (omega arith), column-long nextColumn (omega arith))
 
   pub stored-links : StoredLinks ix
   stored-links = unfold nth place in record {
-    parents = head-links parentColumn (parent js es) (λ p h. word-at ix b 3 p (omega arith) h) (parent-small js es);
-    lefts = head-links leftColumn (leftSibling js es) (λ p h. word-at ix b 4 p (omega arith) h) (left-small js es);
-    children = head-links childColumn (lastChild js es) (λ p h. word-at ix b 6 p (omega arith) h) (child-small js es);
-    nexts = row-links nextColumn (next js es) (λ p h. word-at ix b 8 p (omega arith) h) (next-small js es);
+    parents = head-links parentColumn (parent (firsts ix) (lasts ix)) (λ p h. word-at ix b 3 p (omega arith) h) (parent-small (firsts ix) (lasts ix));
+    lefts = head-links leftColumn (leftSibling (firsts ix) (lasts ix)) (λ p h. word-at ix b 4 p (omega arith) h) (left-small (firsts ix) (lasts ix));
+    children = head-links childColumn (lastChild (firsts ix) (lasts ix)) (λ p h. word-at ix b 6 p (omega arith) h) (child-small (firsts ix) (lasts ix));
+    nexts = row-links nextColumn (next (firsts ix) (lasts ix)) (λ p h. word-at ix b 8 p (omega arith) h) (next-small (firsts ix) (lasts ix));
     words = links-long;
     bytes = ap (λ (n : ℕ). 2 * n) links-long;
   }

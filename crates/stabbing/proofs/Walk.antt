@@ -1,7 +1,7 @@
 -- The walk lists what lasts to l, falling, and its comparisons are the formula's. Assumes nothing.
 use Rattle.basis.proofs.Prelude.{_∙_, _≡_, ap, refl, sym, _*_, _+_, _<_, _≤_, suc, zero, zero-le, ℕ, List, [], _++_, _∷_, append-assoc, append-nil, Bool, _&&_, false, true, leb, length, le-refl, arith, eq-eqb, le-leb, leb-false, leb-true, ne-eqb, both, by-eq, by-mark, by-test, untrue}
 use Rattle.stabbing.specs.{Tree.{below, keep, count, one, some, dayAt, head, next, parent, child, leftSibling, lastChild, fitsAt, start, onPath, hasNext, hasLeft, hasChild, formula}, Walk.{Progress, nothing, push, tick, compare, chain, descend, climb, walk}, Stored.Sorted, Contracts.{Head, bottom, Stretch}}
-use Rattle.stabbing.proofs.{Marks.{Below, below-is, keep-hit, keep-miss, keep-skip, keep-ext, count-last, count-le}, Links.{bottom-is, parent-is, own, child-stretch, left-stretch, c-head, c-under, c-over, c-child, c-left, next-some, next-bottom, chain-up, Top, top, barren, left-is}}
+use Rattle.stabbing.proofs.{Marks.{Below, below-is, keep-hit, keep-miss, keep-skip, keep-ext, count-last, count-le}, Links.{bottom-is, parent-is, path-under, own, child-stretch, left-stretch, c-head, c-under, c-over, c-child, c-left, next-some, next-bottom, chain-up, Top, top, barren, left-is}}
 
 module _ (fs ls : List ℕ) (l : ℕ) where
   abbrev pub reach : ℕ → Bool
@@ -119,13 +119,7 @@ module _ (fs ls : List ℕ) (sorted : Sorted fs ls) (l : ℕ) (on : ℕ → Bool
       let w₃ = rw (← c-left fs ls m v r c e) at (compare-went f (descend-went f) m c (chain fs ls l c s₁) (left-stretch fs ls m v r c e) (λ x a b. off x a (omega arith)) (omega arith)) in
       record { list = w₃ .list ∙ w₂ .list ∙ w₁ .list; comparisons = omega (arith, w₁ .comparisons, w₂ .comparisons, w₃ .comparisons) }
 
-  -- the path upward from the head v, where `on` is that path
-  path-under : (f m x : ℕ) → m ≤ x → onPath fs ls f m x ≡ false
-  unfolding onPath
-  path-under zero m x h = refl
-  path-under (suc f) zero x h = refl
-  path-under (suc f) (suc v) x h = rw (ne-eqb x v (λ z. omega arith)) (path-under f (parent fs ls v) x (omega (arith, parent-is fs ls v .within)))
-
+  -- the path upward from the mark m, where `on` is that path
   climb-went : (f m : ℕ) (s : Progress) → m ≤ f → m ≤ length fs → ((v : ℕ) → m ≡ suc v → Head fs ls v × (reach fs ls l v ≡ true))
       → ((x : ℕ) → x < m → on x ≡ onPath fs ls f m x) → Went m s 0 (climb fs ls l f m s) 0 0
   unfolding climb onPath
@@ -135,7 +129,7 @@ module _ (fs ls : List ℕ) (sorted : Sorted fs ls) (l : ℕ) (on : ℕ → Bool
       let s₁ : Progress = chain fs ls l v s in
       let w₁ = rw (q .0, rw (eq-eqb v v refl) at (path v (le-refl (suc v)))) at (chain-of v s (q .0) h (q .1)) in
       let path′ : (x : ℕ) → x < v → on x ≡ onPath fs ls f (parent fs ls v) x = λ x lt. rw (ne-eqb x v (λ z. omega arith)) at (path x (omega arith)) in
-      let w₂ = rw (← left-is fs ls v) at (compare-went (length fs) (descend-went (length fs)) (parent fs ls v) v s₁ (own fs ls v (q .0) h) (λ x a b _. path′ x b ∙ path-under f _ x a) (omega arith)) in
+      let w₂ = rw (← left-is fs ls v) at (compare-went (length fs) (descend-went (length fs)) (parent fs ls v) v s₁ (own fs ls v (q .0) h) (λ x a b _. path′ x b ∙ path-under fs ls f _ x a) (omega arith)) in
       let i = parent-is fs ls v in
       let w₃ = climb-went f (parent fs ls v) (compare fs ls l (leftSibling fs ls v) (descend fs ls l (length fs)) s₁) (omega (arith, i .within)) (omega (arith, i .within))
       (λ u z. (i .hit u z .0, le-leb l (dayAt ls u) (omega (arith, i .hit u z .1, leb-true l (dayAt ls v) (q .1))))) (λ x lt. path′ x (omega (arith, i .within))) in
