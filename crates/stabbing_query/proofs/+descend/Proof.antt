@@ -1,7 +1,7 @@
--- `stabbing_query::descend` meets its contract: each need is a step of `proofs/Descending.antt`, taken for w and for its last child c. The
+-- `stabbing_query::descend` meets its contract: each need is a step of `proofs/Walking.antt`, taken for w and for its last child c. The
 -- measure is the number of heads not yet visited. Assumes nothing.
 use Rattle.basis.proofs.Prelude.{_+_, _-_, _<_, ℕ, ⊎-elim, needs}
-use Rattle.stabbing_query.proofs.{Names.{Does, belowOf}, Descending.{unvisited, linked-below, headed-below, word-below, linked-beside, asks-chain, none-beside, all-beside, none-below, asks-below, all-below, visit, stepped, calls-beside, calls-deep, calls-aside}, chain.Reads.{Asked, Learnt}, comparison.Reads.{Asked as Compared, Learnt as ComparedLearnt}, descend.{Reads.Pre, Reads.Post, Kinds.ps}, +descend.{statement, Tie.close, Lts-descend.Claims, Lts-descend.Joined1, Lts-descend.Joined2, Lts-descend.spec}}
+use Rattle.stabbing_query.proofs.{Names.{Does, belowOf}, Walking.{unvisited, linked-below, headed-below, word-below, linked-beside, asks-chain, none-beside, all-beside, none-below, asks-below, all-below, visit, stepped, calls-beside, calls-deep, calls-aside}, chain.Reads.{Asked, Learnt}, comparison.Reads.{Asked as Compared, Learnt as ComparedLearnt}, descend.{Reads.Pre, Reads.Post, Kinds.ps}, +descend.{statement, Tie.close, Lts-descend.Claims, Lts-descend.Joined1, Lts-descend.Joined2, Lts-descend.spec}}
 use borrow.{Fn.PlainCycle.{Measures, is, falls, and}, Fn.Kinds.In}
 use Rattle.stabbing_words.proofs.to_usize.Reads as to-usize
 
