@@ -33,6 +33,9 @@ pub record StoredLinks (ix : List ℕ) : Type 0 where
   pub words : length (linksOf ix) ≡ 4096
   pub bytes : 2 * length (linksOf ix) ≡ 8192
 
+four-long : (a b c d : List ℕ) → length a ≡ capacity → length b ≡ capacity → length c ≡ capacity → length d ≡ capacity → length (a ++ b ++ c ++ d) ≡ 4096
+four-long a b c d ea eb ec ed = simp length-append (omega arith)
+
 module _ (ix : List ℕ) (b : Block ix) where
   head-links : (base : ℕ) (link : ℕ → ℕ) → ((p : ℕ) → p < capacity → getD ix (p + base) 0 ≡ headLink (firsts ix) (lasts ix) link p) → ((p : ℕ) → headLink (firsts ix) (lasts ix) link p ≤ length (firsts ix)) → HeadLinks ix base link
   head-links base link word small = record {
@@ -53,7 +56,8 @@ module _ (ix : List ℕ) (b : Block ix) where
   column-long base h = length-take-le capacity (drop base ix) (omega (arith, length-drop base ix, words-long ix b))
 
   links-long : length (linksOf ix) ≡ 4096
-  links-long = simp (length-append, column-long parentColumn (omega arith), column-long leftColumn (omega arith), column-long childColumn (omega arith), column-long nextColumn (omega arith))
+  links-long = four-long (columnOf ix parentColumn) (columnOf ix leftColumn) (columnOf ix childColumn) (columnOf ix nextColumn)
+      (column-long parentColumn (omega arith)) (column-long leftColumn (omega arith)) (column-long childColumn (omega arith)) (column-long nextColumn (omega arith))
 
   pub stored-links : StoredLinks ix
   stored-links = unfold nth place in record {
