@@ -1,6 +1,6 @@
 -- Going down a bucket to a number: the steps of `find`, apart from the code. Assumes nothing.
 use Rattle.basis.proofs.Prelude.{_∙_, _≡_, ap, refl, sym, _%_, _+_, _-_, _<_, _≤_, suc, ℕ, List, Bool, _≢_, eqb, getD, length, arith, eq-eqb, eqb-true, ne-eqb}
-use Rattle.stabbing.{specs.{Tree.below, Index.{bucketCount, bucketTable, lowerColumn, bucketOf, inBucket, named, numbers, firsts, lasts, markIn, rows, Block}}, proofs.{Marks.{Below, below-is, below-hit, below-miss, below-skip}, Block.{nth, place, block-holds, fs-rows, word-at}, Marking.row-link}}
+use Rattle.stabbing.{specs.{Tree.below, Index.{bucketCount, bucketTable, lowerColumn, bucketOf, inBucket, named, numbers, firsts, lasts, markIn, rows, Block}}, proofs.{Marks.{Below, below-is, below-hit, below-miss, below-skip}, Block.{block-holds, fs-rows, bucket-word, lower-word}}}
 
 -- the row p has the number x, and the bucket of x
 abbrev sought : List ℕ → ℕ → ℕ → Bool
@@ -37,9 +37,9 @@ module _ {ix : List ℕ} {x : ℕ} where
   }
 
   pub begins : Block ix → {i m : ℕ} → i ≡ x → m ≡ getD ix (i % bucketCount + bucketTable) 0 → Searching ix x m
-  unfolding named nth place
+  unfolding named
   begins b e z = at-latest b (length (firsts ix)) (omega (arith, fs-rows ix b)) refl
-      (z ∙ rw e (word-at ix b 12 (bucketOf x) (omega arith) (omega arith)))
+      (z ∙ rw e (bucket-word ix b (bucketOf x) (omega arith)))
 
   module _ {m : ℕ} (s : Searching ix x m) where
     pub ends : m ≤ 0 → m ≡ markIn ix x
@@ -58,8 +58,7 @@ module _ {ix : List ℕ} {x : ℕ} where
       -- the mark of the row before, n
       module _ {n : ℕ} (z : n ≡ getD ix (m - 1 + lowerColumn) 0) where
         lower-is : n ≡ inBucket (numbers ix) (bucketOf x) (m - 1)
-        lower-is = unfold nth place in z ∙ word-at ix (s .block) 13 (m - 1) (omega arith) (omega (arith, s .within, s .block .few))
-            ∙ row-link (firsts ix) (lasts ix) (λ p. inBucket (numbers ix) (bucketOf (getD (numbers ix) p 0)) p) (m - 1) (omega (arith, s .within, fs-rows ix (s .block))) ∙ ap (λ (b : ℕ). inBucket (numbers ix) b (m - 1)) (s .bucket (m - 1) row)
+        lower-is = z ∙ lower-word ix (s .block) (m - 1) (omega (arith, s .within, fs-rows ix (s .block))) ∙ ap (λ (b : ℕ). inBucket (numbers ix) b (m - 1)) (s .bucket (m - 1) row)
 
         pub falls : n < m
         falls = omega (arith, lower-is, latest (numbers ix) x (m - 1) .within)
