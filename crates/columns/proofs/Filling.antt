@@ -1,5 +1,5 @@
 -- The positions, and a list that is filled place by place. Assumes nothing.
-use Rattle.basis.proofs.Prelude.{length-map, map-append, ℕ, zero, suc, _+_, _≤_, _<_, arith, add-one, _≡_, refl, sym, ap, _∙_, List, [], _∷_, _++_, map, length, getD, take, drop, set, length-set, drop-cons, set-at, append-snoc, take-at}
+use Rattle.basis.proofs.Prelude.{needs, length-map, map-append, ℕ, zero, suc, _+_, _≤_, _<_, arith, add-one, _≡_, refl, sym, ap, _∙_, List, [], _∷_, _++_, map, length, getD, take, drop, set, length-set, drop-cons, set-at, append-snoc, take-at}
 use Rattle.orders.proofs.Each.{Each}
 use Rattle.columns.specs.Columns.{positions, filled}
 
@@ -86,3 +86,5 @@ fill-on {f} {n} {i} {l₀} {l} q h v e = record {
 
 pub fill-ends : {f : ℕ → ℕ} {n i : ℕ} {l₀ l : List ℕ} → Filling f n l₀ l i → n ≤ i → l ≡ filled f n l₀
 fill-ends {f} {n} {i} {l₀} {l} q h = let z : i ≡ n = omega (arith, q .within) in rw z at (q .so-far)
+
+pub ruleset filling = (fill-begins, fill-on, fill-ends, needs)

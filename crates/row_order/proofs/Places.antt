@@ -15,18 +15,19 @@ positions-strict {t} o k (suc n) =
 
 -- ---- All below the limit
 
-module _ (l : List ℕ) (n : ℕ) (long : n ≤ length l) where
-  below-cons : (i : ℕ) → i < n → drop i (take n l) ≡ getD l i 0 ∷ drop (i + 1) (take n l)
-  below-cons i h = rw (add-one i) (drop-cons (take n l) i 0 (omega (arith, length-take-le n l long)) ∙ ap (λ (x : ℕ). x ∷ drop (suc i) (take n l)) (getD-take n l i 0 h))
+-- of the first n of a list those from i on are left to be tested
+module _ (l : List ℕ) (n i : ℕ) (long : n ≤ length l) (so : allBelow (take n l) ≡ allBelow (drop i (take n l))) where
+  below-cons : i < n → drop i (take n l) ≡ getD l i 0 ∷ drop (i + 1) (take n l)
+  below-cons h = rw (add-one i, drop-cons (take n l) i 0 (omega (arith, length-take-le n l long)), getD-take n l i 0 h)
 
-  pub below-on : (i : ℕ) → i < n → getD l i 0 < limit → allBelow (drop i (take n l)) ≡ allBelow (drop (i + 1) (take n l))
-  below-on i h k = unfold allBelow in ap allBelow (below-cons i h) ∙ ap (λ (b : Bool). b && allBelow (drop (i + 1) (take n l))) (lt-ltb (getD l i 0) limit k)
+  pub below-on : i < n → getD l i 0 < limit → allBelow (take n l) ≡ allBelow (drop (i + 1) (take n l))
+  below-on h k = unfold allBelow in so ∙ rw (below-cons h, lt-ltb (getD l i 0) limit k)
 
-  pub below-off : (i : ℕ) → i < n → limit ≤ getD l i 0 → allBelow (drop i (take n l)) ≡ false
-  below-off i h k = unfold allBelow in ap allBelow (below-cons i h) ∙ ap (λ (b : Bool). b && allBelow (drop (i + 1) (take n l))) (le-ltb (getD l i 0) limit k)
+  pub below-off : i < n → limit ≤ getD l i 0 → false ≡ allBelow (take n l)
+  below-off h k = unfold allBelow in sym (so ∙ rw (below-cons h, le-ltb (getD l i 0) limit k))
 
-  pub below-end : (i : ℕ) → n ≤ i → allBelow (drop i (take n l)) ≡ true
-  below-end i h = unfold allBelow in ap allBelow (drop-of-length-le (take n l) {i = i} (omega (arith, length-take-le n l long)))
+  pub below-end : n ≤ i → true ≡ allBelow (take n l)
+  below-end h = unfold allBelow in sym (so ∙ rw (drop-of-length-le (take n l) {i = i} (omega (arith, length-take-le n l long))))
 
 pub below-at : (l : List ℕ) (i : ℕ) → allBelow l ≡ true → i < length l → getD l i 0 < limit
 unfolding allBelow
@@ -36,15 +37,15 @@ below-at (x ∷ l) (suc i) h k = below-at l i (both (ltb x limit) (allBelow l) h
 
 -- ---- The positions in order, two by two
 
-module _ (t : ℕ → ℕ → Bool) (n : ℕ) where
-  two : (p : ℕ) {r b : Bool} → p + 1 < n → r ≡ t (p + 1) p → r ≡ b → t (getD (positions 0 n) (p + 1) 0) (getD (positions 0 n) p 0) ≡ b
-  two p h e d = rw (positions-at 0 n p (omega arith), positions-at 0 n (p + 1) h, zero-add p, zero-add (p + 1)) (sym e ∙ d)
+module _ (t : ℕ → ℕ → Bool) (n p : ℕ) (so : inOrderBy t (positions 0 n) ≡ inOrderBy t (drop p (positions 0 n))) where
+  two : {r b : Bool} → p + 1 < n → r ≡ t (p + 1) p → r ≡ b → t (getD (positions 0 n) (p + 1) 0) (getD (positions 0 n) p 0) ≡ b
+  two h e d = rw (positions-at 0 n p (omega arith), positions-at 0 n (p + 1) h, zero-add p, zero-add (p + 1)) (sym e ∙ d)
 
-  pub row-on : (p : ℕ) {r : Bool} → p + 1 < n → r ≡ t (p + 1) p → r ≡ false → inOrderBy t (drop p (positions 0 n)) ≡ inOrderBy t (drop (p + 1) (positions 0 n))
-  row-on p h e d = pass-on t 0 (positions 0 n) p (omega (arith, positions-length 0 n)) (two p h e d)
+  pub row-on : {r : Bool} → p + 1 < n → r ≡ t (p + 1) p → r ≡ false → inOrderBy t (positions 0 n) ≡ inOrderBy t (drop (p + 1) (positions 0 n))
+  row-on h e d = so ∙ pass-on t 0 (positions 0 n) p (omega (arith, positions-length 0 n)) (two h e d)
 
-  pub row-off : (p : ℕ) {r : Bool} → p + 1 < n → r ≡ t (p + 1) p → r ≡ true → inOrderBy t (drop p (positions 0 n)) ≡ false
-  row-off p h e d = pass-off t 0 (positions 0 n) p (omega (arith, positions-length 0 n)) (two p h e d)
+  pub row-off : {r : Bool} → p + 1 < n → r ≡ t (p + 1) p → r ≡ true → false ≡ inOrderBy t (positions 0 n)
+  row-off h e d = sym (so ∙ pass-off t 0 (positions 0 n) p (omega (arith, positions-length 0 n)) (two h e d))
 
-  pub row-end : (p : ℕ) → n ≤ p + 1 → inOrderBy t (drop p (positions 0 n)) ≡ true
-  row-end p h = pass-end t (positions 0 n) p (omega (arith, positions-length 0 n))
+  pub row-end : n ≤ p + 1 → true ≡ inOrderBy t (positions 0 n)
+  row-end h = sym (so ∙ pass-end t (positions 0 n) p (omega (arith, positions-length 0 n)))

@@ -1,2 +1,3 @@
+pub mod Names
 pub mod Building
 pub mod Owning

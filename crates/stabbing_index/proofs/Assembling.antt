@@ -1,12 +1,11 @@
 -- What the builder lays is the block of the definition: column by column, and then the whole. Assumes nothing.
-use Rattle.basis.proofs.Prelude.{_∙_, _≡_, ap, refl, sym, _+_, _-_, _<_, _≤_, suc, zero, ℕ, List, [], _++_, _∷_, append-assoc, Bool, false, true, eqb, ltb, getD, length, length-append, length-set, set, take, getD-append-add, getD-take, length-take-le, take-all, take-suc-set, le-refl, arith, le-leb, lt-leb, ltb-true, by-test}
-use Rattle.stabbing_index.proofs.{Names.{dayAt, parent, child, leftSibling, lastChild, next, start, latest, capacity, dayCount, bucketCount, firstColumn, lastColumn, parentColumn, leftColumn, childColumn, nextColumn, startTable, latestTable, bucketTable, rowCount, indexLength, rowsOk, column, lastOf, headLink, rowLink, bucketOf, inBucket, laid, blockOf, below-ext, head-link, head-past, row-past, left-small, child-small, next-small, column-at, column-length, column-only, Columns, ColumnsOf, FilledTo, LinkedOf, ChainedOf, Dayed, DaysAsks, Extends, lowerWord, nameWords, nameCount, MarksIn, markWords, Blank, beside, linkWords, dayWords, RowsOf}, Laying.{laid-more, column-ext}, Links.{held-at, held-same}}
+use Rattle.stabbing_index.proofs.{Names.{not, not-true, not-false, needs, RowsAt, Linked, Chained, DaysAt, replicate, _≢_, _∙_, _≡_, ap, refl, sym, _+_, _-_, _<_, _≤_, suc, zero, ℕ, List, [], _++_, _∷_, append-assoc, Bool, false, true, eqb, ltb, getD, length, length-append, length-set, set, take, getD-append-add, getD-take, length-take-le, take-all, take-suc-set, le-refl, arith, le-leb, lt-leb, ltb-true, by-test, dayAt, parent, child, leftSibling, lastChild, next, start, latest, capacity, dayCount, bucketCount, firstColumn, lastColumn, parentColumn, leftColumn, childColumn, nextColumn, startTable, latestTable, bucketTable, rowCount, indexLength, rowsOk, column, lastOf, headLink, rowLink, bucketOf, inBucket, laid, blockOf, below-ext, head-link, head-past, row-past, left-small, child-small, next-small, column-at, column-length, column-only, Columns, ColumnsOf, FilledTo, LinkedOf, ChainedOf, Dayed, DaysAsks, Extends, lowerWord, nameWords, nameCount, MarksIn, markWords, Blank, beside, linkWords, dayWords, RowsOf}, Laying.{laid-more, laid-over, column-ext}, Links.{held-at, held-same, unlinked, unchained}}
 use Rattle.stabbing_index.specs.Build.{Builds}
 use Rattle.stabbing.proofs.Block.{rows-sorted, rows-days}
 
 -- the last day of the row with the mark m, by the column
-pub last-some : (ys : List ℕ) (m : ℕ) → 1 ≤ m → getD ys (m - 1) 0 ≡ lastOf ys m
-last-some ys zero h = absurd (omega arith)
+pub last-some : (ys : List ℕ) (m : ℕ) → m ≢ 0 → getD ys (m - 1) 0 ≡ lastOf ys m
+last-some ys zero h = absurd (h refl)
 last-some ys (suc p) h = let z : suc p - 1 ≡ p = omega arith in rw z
 
 same-last : {xs ys fs ls : List ℕ} {n : ℕ} (m : ℕ) → Columns xs ys fs ls n → m ≤ n → lastOf ys m ≡ lastOf ls m
@@ -22,8 +21,8 @@ laid-at {e} {x} {a} {b} size f i t h j g = let l : length (take a e) ≡ a = len
     ∙ getD-append-add (take a e) (column size f) j 0
     ∙ column-at size f j g
 
-pub laid-blank : {e x : List ℕ} → Extends e bucketTable rowCount (column nameCount (λ _. 0)) x → rowCount ≤ length e → Blank x
-laid-blank i h = record { empty = laid-at nameCount (λ _. 0) i refl h }
+pub laid-blank : {e x : List ℕ} → Extends e bucketTable rowCount (column nameCount (λ _. 0)) x → length e ≡ indexLength → Blank x
+laid-blank i h = record { empty = laid-at nameCount (λ _. 0) i refl (omega arith) }
 
 -- the same words: a list and the column that it is; 0 after a list
 laid-column : {e x ws : List ℕ} {a : ℕ} (n : ℕ) (f : ℕ → ℕ) → length ws ≡ n → ((p : ℕ) → p < n → getD ws p 0 ≡ f p) → Extends e a (a + length ws) ws x → Extends e a (a + n) (column n f) x
@@ -38,6 +37,12 @@ padded (x ∷ xs) m zero = refl
 padded (x ∷ xs) m (suc p) = padded xs m p
 
 -- ---- a column of the rows
+pub taken : (n : ℕ) (xs : List ℕ) → n ≤ length xs → n ≡ length (take n xs)
+taken n xs h = sym (length-take-le n xs h)
+
+pub rows-fit : (a n : ℕ) {m : ℕ} (xs : List ℕ) → n ≤ 1024 → n ≤ length xs → a + 1024 ≤ m → a + length (take n xs) ≤ m
+rows-fit a n xs h g k = omega (arith, taken n xs g)
+
 pub rows-laid : {e m x : List ℕ} {a : ℕ} (xs : List ℕ) (n : ℕ) → n ≤ 1024 → n ≤ length xs → Extends e a (a + length (take n xs)) (take n xs) m
     → Extends m (a + n) (a + n + (1024 - n)) (column (1024 - n) (λ _. 0)) x → Extends e a (a + 1024) (column capacity (dayAt (take n xs))) x
 rows-laid {a = a} xs n h g i j = let l : length (take n xs) ≡ n = length-take-le n xs g in
@@ -74,50 +79,50 @@ pub days-laid : {fs ls ss bs : List ℕ} → Dayed fs ls ss bs dayCount → {e m
 unfolding dayWords
 days-laid {fs} {ls} q i j = laid-more (laid-column dayCount (λ d. start fs ls d d) (q .starts-size) (q .starts) i) (laid-column dayCount (latest fs ls) (q .begun-size) (q .begun) j)
 
--- ---- what the passes ask of rows that can be published
-module _ {xs ys : List ℕ} {n : ℕ} (q : RowsOf xs ys n) where
+-- ---- what the passes ask of rows that can be published, and what `link` found of them
+module _ (xs ys : List ℕ) (n : ℕ) (rows : RowsOf xs ys n) where
   pub columns-of : ColumnsOf xs ys n
   columns-of = record {
-    count = q .count;
-    few = q .few;
-    sorted = rows-sorted (take n xs) (take n ys) (q .in-order);
+    count = rows .count;
+    few = rows .few;
+    sorted = rows-sorted (take n xs) (take n ys) (rows .in-order);
     firsts = λ p h. sym (getD-take n xs p 0 h);
     lasts = λ p h. sym (getD-take n ys p 0 h);
   }
 
--- ---- what `link` found of rows that can be published, laid
-module _ {xs ys ps qs cs ns : List ℕ} {n : ℕ} (q : ColumnsOf xs ys n) (found : LinkedOf xs ys n ps qs cs n × ChainedOf xs ys n ns n) where
   abbrev fs : List ℕ
   fs = take n xs
 
   abbrev ls : List ℕ
   ls = take n ys
 
-  pub left-marks : MarksIn qs
-  left-marks = marked q (found .0 .lefts) (past-heads q (leftSibling fs ls)) (left-small fs ls)
+  module _ {ps qs cs : List ℕ} (found : Linked fs ls ps qs cs n) where
+    pub left-marks : MarksIn qs
+    left-marks = marked columns-of (found .lefts) (past-heads columns-of (leftSibling fs ls)) (left-small fs ls)
 
-  pub child-marks : MarksIn cs
-  child-marks = marked q (last-children q (found .0 .children)) (past-heads q (lastChild fs ls)) (child-small fs ls)
+    pub child-marks : MarksIn cs
+    child-marks = marked columns-of (last-children columns-of (found .children)) (past-heads columns-of (lastChild fs ls)) (child-small fs ls)
 
-  pub next-marks : MarksIn ns
-  next-marks = marked q (found .1) (past-rows q) (next-small fs ls)
+    pub days-asked : DaysAsks xs ys n ps
+    days-asked = record {
+      columns = columns-of;
+      begins = λ p h. rows-days fs ls (rows .in-order) p (omega (arith, rows .count)) .0;
+      forward = λ p h. rows-days fs ls (rows .in-order) p (omega (arith, rows .count)) .1;
+      parents = λ v h hv. found .parents .words v h ∙ head-link fs ls (parent fs ls) v (omega (arith, rows .count)) hv;
+    }
 
-  pub days-asked : RowsOf xs ys n → DaysAsks xs ys n ps
-  days-asked rows = record {
-    columns = q;
-    begins = λ p h. rows-days fs ls (rows .in-order) p (omega (arith, rows .count)) .0;
-    forward = λ p h. rows-days fs ls (rows .in-order) p (omega (arith, rows .count)) .1;
-    parents = λ v h hv. found .0 .parents .words v h ∙ head-link fs ls (parent fs ls) v (omega (arith, rows .count)) hv;
-  }
+    module _ {ns : List ℕ} (chains : Chained fs ls ns n) where
+      pub next-marks : MarksIn ns
+      next-marks = marked columns-of chains (past-rows columns-of) (next-small fs ls)
 
-  pub tree-laid : {e₀ e₁ e₂ e₃ e₄ e₅ : List ℕ} → Extends e₀ parentColumn (parentColumn + length ps) ps e₁ → Extends e₁ leftColumn childColumn (markWords ys qs) e₂ → Extends e₂ childColumn nextColumn (markWords ys cs) e₃
-      → Extends e₃ nextColumn startTable (markWords ys ns) e₄ → Extends e₄ startTable bucketTable (dayWords fs ls) e₅ → Extends e₀ parentColumn bucketTable (linkWords fs ls ++ dayWords fs ls) e₅
-  tree-laid parents left child chain days = unfold linkWords in laid-more (laid-more (laid-more (laid-more
-      (laid-column capacity (headLink fs ls (parent fs ls)) (found .0 .parents .size) (λ p _. held-at (found .0 .parents) (past-heads q (parent fs ls)) p) parents)
-      (marks-laid q (found .0 .lefts) (past-heads q (leftSibling fs ls)) (left-small fs ls) left))
-      (marks-laid q (last-children q (found .0 .children)) (past-heads q (lastChild fs ls)) (child-small fs ls) child))
-      (marks-laid q (found .1) (past-rows q) (next-small fs ls) chain))
-      days
+      pub tree-laid : {e₀ e₁ e₂ e₃ e₄ e₅ : List ℕ} → Extends e₀ parentColumn (parentColumn + length ps) ps e₁ → Extends e₁ leftColumn childColumn (markWords ys qs) e₂ → Extends e₂ childColumn nextColumn (markWords ys cs) e₃
+          → Extends e₃ nextColumn startTable (markWords ys ns) e₄ → Extends e₄ startTable bucketTable (dayWords fs ls) e₅ → Extends e₀ parentColumn bucketTable (linkWords fs ls ++ dayWords fs ls) e₅
+      tree-laid parents left child chain days = unfold linkWords in laid-more (laid-more (laid-more (laid-more
+          (laid-column capacity (headLink fs ls (parent fs ls)) (found .parents .size) (λ p _. held-at (found .parents) (past-heads columns-of (parent fs ls)) p) parents)
+          (marks-laid columns-of (found .lefts) (past-heads columns-of (leftSibling fs ls)) (left-small fs ls) left))
+          (marks-laid columns-of (last-children columns-of (found .children)) (past-heads columns-of (lastChild fs ls)) (child-small fs ls) child))
+          (marks-laid columns-of chains (past-rows columns-of) (next-small fs ls) chain))
+          days
 
 -- ---- the whole block
 -- the rows of a bucket, of the first n numbers
@@ -146,13 +151,6 @@ whole : (ns fs ls : List ℕ) (n : ℕ) → length fs ≡ n → column capacity 
 whole ns fs ls n e = unfold blockOf laid linkWords dayWords named in rw (sym e) (simp append-assoc)
 
 -- all that is laid, and the count, make the block
-module _ {e₀ e₁ e₂ e₃ e₄ e₅ us vs ws ts rs : List ℕ} {a b c d f g : ℕ} (numbers : Extends e₀ a b us e₁) (firsts : Extends e₁ b c vs e₂) (lasts : Extends e₂ c d ws e₃) (tree : Extends e₃ d f ts e₄) (names : Extends e₄ f g rs e₅) where
-  pub filled-size : (k v : ℕ) → length (set e₅ k v) ≡ length e₀
-  filled-size k v = length-set e₅ k v ∙ names .size ∙ tree .size ∙ lasts .size ∙ firsts .size ∙ numbers .size
-
-  all-laid : Extends e₀ a g (us ++ vs ++ ws ++ ts ++ rs) e₅
-  all-laid = laid-more (laid-more (laid-more (laid-more numbers firsts) lasts) tree) names
-
 pub filled : (ns xs ys : List ℕ) {n : ℕ} → RowsOf xs ys n → {e₀ e₁ e₂ e₃ e₄ e₅ : List ℕ} → length e₀ ≡ indexLength
     → Extends e₀ 0 firstColumn (column capacity (dayAt (take n ns))) e₁
     → Extends e₁ firstColumn lastColumn (column capacity (dayAt (take n xs))) e₂
@@ -160,19 +158,22 @@ pub filled : (ns xs ys : List ℕ) {n : ℕ} → RowsOf xs ys n → {e₀ e₁ e
     → Extends e₃ parentColumn bucketTable (linkWords (take n xs) (take n ys) ++ dayWords (take n xs) (take n ys)) e₄
     → Extends e₄ bucketTable rowCount (nameWords ns n) e₅ → set e₅ rowCount n ≡ blockOf (take n ns) (take n xs) (take n ys)
 filled ns xs ys {n} q h numbers firsts lasts tree names =
-    counted n (all-laid numbers firsts lasts tree (rw (names-laid ns (take n xs) (take n ys) n (q .count)) at names)) h ∙ whole (take n ns) (take n xs) (take n ys) n (q .count)
+    counted n (laid-more (laid-more (laid-more (laid-more numbers firsts) lasts) tree) (rw (names-laid ns (take n xs) (take n ys) n (q .count)) at names)) h
+    ∙ whole (take n ns) (take n xs) (take n ys) n (q .count)
 
 -- ---- rows that can be published, and those that can not
-module _ {ns xs ys e : List ℕ} {n : ℕ} where
+pub rows-of : (xs ys : List ℕ) {n : ℕ} → n ≤ capacity → {b : Bool} → b ≡ rowsOk (take n xs) (take n ys) → not b ≡ false → length xs ≡ capacity → RowsOf xs ys n
+rows-of xs ys {n} h {b} t z l = record { few = h; count = length-take-le n xs (omega arith); in-order = sym t ∙ not-false b z }
+
+module _ (ns xs ys : List ℕ) {e : List ℕ} {n : ℕ} where
   pub too-many : capacity < n → Builds ns xs ys n e false e
   too-many h = record { answer = sym (rw (lt-leb n capacity h)); block = sym (rw (lt-leb n capacity h)) }
 
   module _ (h : n ≤ capacity) {b : Bool} (t : b ≡ rowsOk (take n xs) (take n ys)) where
-    pub out-of-order : b ≡ false → Builds ns xs ys n e false e
-    out-of-order z = record { answer = sym (rw (le-leb n capacity h, sym t ∙ z)); block = sym (rw (le-leb n capacity h, sym t ∙ z)) }
+    pub out-of-order : not b ≡ true → Builds ns xs ys n e false e
+    out-of-order z = record { answer = sym (rw (le-leb n capacity h, sym t ∙ not-true b z)); block = sym (rw (le-leb n capacity h, sym t ∙ not-true b z)) }
 
-    pub built : b ≡ true → {x : List ℕ} → x ≡ blockOf (take n ns) (take n xs) (take n ys) → Builds ns xs ys n e true x
-    built z y = record { answer = sym (rw (le-leb n capacity h, sym t ∙ z)); block = y ∙ sym (rw (le-leb n capacity h, sym t ∙ z)) }
+    pub built : not b ≡ false → {x : List ℕ} → x ≡ blockOf (take n ns) (take n xs) (take n ys) → Builds ns xs ys n e true x
+    built z y = record { answer = sym (rw (le-leb n capacity h, sym t ∙ not-false b z)); block = y ∙ sym (rw (le-leb n capacity h, sym t ∙ not-false b z)) }
 
-pub rows-of : (xs ys : List ℕ) {n : ℕ} → n ≤ capacity → {b : Bool} → b ≡ rowsOk (take n xs) (take n ys) → b ≡ true → length xs ≡ capacity → RowsOf xs ys n
-rows-of xs ys {n} h t z l = record { few = h; count = length-take-le n xs (omega arith); in-order = sym t ∙ z }
+pub ruleset steps = (last-some, laid-blank, laid-over, taken, rows-fit, rows-laid, unlinked, unchained, columns-of, left-marks, child-marks, next-marks, days-laid, days-asked, tree-laid, filled, rows-of, too-many, out-of-order, built, needs)

@@ -1,6 +1,6 @@
 -- The steps of the tables by day, apart from the code. Assumes nothing.
-use Rattle.basis.proofs.Prelude.{_∙_, _≡_, ap, sym, _+_, _<_, _≤_, suc, zero-le, ℕ, List, _≢_, leb, getD, length, length-set, set, getD-set-other, getD-set-same, add-one, arith, le-leb, leb-false, leb-true, both, by-eq, by-mark, by-test}
-use Rattle.stabbing_index.proofs.Names.{dayCount, Way, below, dayAt, head, parent, start, Sorted, nearest, latest, below-is, below-skip, below-hit, latest-is, latest-before, lasting, nearest-is, start-nearest, Columns, ClimbAt, Climbed, Dayed, AdvanceAt, DaysAt, DayAt}
+use mir.{Val.Fits, Syntax.w16}
+use Rattle.stabbing_index.proofs.Names.{needs, _∙_, _≡_, ap, sym, _+_, _<_, _≤_, suc, zero-le, ℕ, List, _≢_, leb, getD, length, length-set, set, getD-set-other, getD-set-same, add-one, arith, le-leb, leb-false, leb-true, both, by-eq, by-mark, by-test, dayCount, Way, below, dayAt, head, parent, start, Sorted, nearest, latest, below-is, below-skip, below-hit, latest-is, latest-before, lasting, nearest-is, start-nearest, Columns, ClimbAt, Climbed, Dayed, AdvanceAt, DaysAt, DayAt}
 use Rattle.stabbing.{proofs.Walk.start-is, proofs.Days.{latest-after, latest-rises, latest-none}}
 
 module _ (fs ls : List ℕ) (sorted : Sorted fs ls) where
@@ -25,18 +25,15 @@ module _ {xs ys fs ls : List ℕ} {n d m : ℕ} (q : AdvanceAt xs ys fs ls n d m
   pub at-end : n ≤ m → m ≡ latest fs ls d
   at-end h = omega (arith, q .below, latest-is fs ls (q .columns .sorted) d .within, q .columns .count)
 
-  module _ (h : m < n) where
-    pub room : m < 1024
-    room = omega (arith, q .columns .few)
-
-    pub stops : d < getD xs m 0 → m ≡ latest fs ls d
+  module _ {r : ℕ} (h : m < n) (e : r ≡ getD xs m 0) where
+    pub stops : d < r → m ≡ latest fs ls d
     stops k = by-eq m (latest fs ls d) (q .below) (λ z. z) (λ lt. absurd (omega (arith, q .columns .firsts m h, latest-before fs ls (q .columns .sorted) d m lt)))
 
-    pub goes : getD xs m 0 ≤ d → AdvanceAt xs ys fs ls n d (m + 1)
+    pub goes : r ≤ d → AdvanceAt xs ys fs ls n d (m + 1)
     goes k = record {
       columns = q .columns;
       below = rw (add-one m) (by-test (leb (latest fs ls d) m)
-          (λ e. absurd (omega (arith, latest-after fs ls (q .columns .sorted) d m (leb-true (latest fs ls d) m e) (rw (q .columns .count) h), q .columns .firsts m h)))
+          (λ t. absurd (omega (arith, latest-after fs ls (q .columns .sorted) d m (leb-true (latest fs ls d) m t) (rw (q .columns .count) h), q .columns .firsts m h)))
           (leb-false (latest fs ls d) m));
     }
 
@@ -65,8 +62,8 @@ module _ {xs ys fs ls : List ℕ} {n : ℕ} {ps : List ℕ} {d m e s : ℕ} (q :
     parents = λ v h hv. q .rows .parents v (omega (arith, q .s-is, i .within, c .count)) hv;
   }
 
-  pub from-before : m ≡ e → (w : Way) → Climbed fs ls (d + 1) s 0 w → w .parent ≡ start fs ls (suc d) (suc d)
-  from-before z w g = g .parent ∙ rw (add-one d, q .s-is) (sym (start-next fs ls (c .sorted) d (sym (q .e-is) ∙ sym z ∙ q .m-is)))
+  pub from-before : m ≡ e → {w : Way} → Climbed fs ls (d + 1) s 0 w → w .parent ≡ start fs ls (suc d) (suc d)
+  from-before z g = g .parent ∙ rw (add-one d, q .s-is) (sym (start-next fs ls (c .sorted) d (sym (q .e-is) ∙ sym z ∙ q .m-is)))
 
 -- ---- the tables, day after day: those of the days up to d, of which m is the latest and s the start
 pub record Tabling (xs ys fs ls : List ℕ) (n : ℕ) (ps ss bs : List ℕ) (d m s : ℕ) : Type 0 where
@@ -111,13 +108,15 @@ module _ {xs ys fs ls : List ℕ} {n : ℕ} {ps ss bs : List ℕ} {d m s : ℕ} 
       pub asks-day : DayAt xs ys fs ls n ps d m e s
       asks-day = record { rows = i .rows; in-calendar = h; m-is = i .m-is; e-is = e-is ∙ ap (latest fs ls) (add-one d); s-is = i .s-is }
 
-      pub latest-small : e ≤ 1024
-      latest-small = omega (arith, e-is, latest-is fs ls (cs .sorted) (d + 1) .within, cs .count, cs .few)
+      pub latest-fits : Fits w16 e
+      latest-fits = record { fits = omega (arith, e-is, latest-is fs ls (cs .sorted) (d + 1) .within, cs .count, cs .few) }
 
       module _ {r : ℕ} (r-is : r ≡ start fs ls (suc d) (suc d)) where
-        pub start-small : r ≤ 1024
-        start-small = omega (arith, r-is, start-is fs ls (cs .sorted) (suc d) (suc d) .within, cs .count, cs .few)
+        pub start-fits : Fits w16 r
+        start-fits = record { fits = omega (arith, r-is, start-is fs ls (cs .sorted) (suc d) (suc d) .within, cs .count, cs .few) }
 
         pub next-day : Tabling xs ys fs ls n ps (set ss (d + 1) r) (set bs (d + 1) e) (d + 1) e r
         next-day = let s-is : r ≡ start fs ls (d + 1) (d + 1) = rw (add-one d) r-is in
             record { rows = i .rows; tables = day-more (i .tables) (omega arith) s-is e-is; m-is = e-is; s-is = s-is; within = omega arith }
+
+pub ruleset steps = (at-end, stops, goes, begins-here, asks-climb, from-before, starts, all-days, asks-advance, asks-day, latest-fits, start-fits, next-day, needs)

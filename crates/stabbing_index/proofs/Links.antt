@@ -1,6 +1,6 @@
 -- The steps of the builder over what it reads and has written, apart from the code. Assumes nothing.
-use Rattle.basis.proofs.Prelude.{_∙_, _≡_, refl, sym, _+_, _-_, _<_, _≤_, suc, zero, zero-le, ℕ, List, Bool, false, true, _≢_, eqb, leb, ltb, List·getD-eq-default, getD, getD-replicate, length, length-replicate, length-set, replicate, set, getD-set-other, getD-set-same, le-refl, add-one, arith, eqb-false, eqb-true, le-leb, lt-leb, lt-ltb, ltb-false, ltb-true, by-eq, by-mark, by-test, clash}
-use Rattle.stabbing_index.proofs.{Names.{Way, below, dayAt, head, next, parent, child, leftSibling, nearest, headLink, rowLink, Head, bottom, below-hit, below-miss, head-link, bottom-is, parent-is, child-is, left-is, head-false, next-none, next-some, passed, Columns, FilledTo, Linked, Chained, headAt, ClimbAt, Climbed, HeadAt}, Parents.{parent-nearest, left-passed, child-next, child-same}}
+use mir.{Val.Fits, Syntax.{w16, w64}}
+use Rattle.stabbing_index.proofs.{Names.{not, not-true, not-false, needs, _∙_, _≡_, refl, sym, _*_, _+_, _-_, _<_, _≤_, suc, zero, zero-le, ℕ, List, Bool, false, true, _≢_, eqb, leb, ltb, List·getD-eq-default, getD, getD-replicate, length, length-replicate, length-set, replicate, set, getD-set-other, getD-set-same, le-refl, add-one, arith, eqb-false, eqb-true, le-leb, lt-leb, lt-ltb, ltb-false, ltb-true, by-eq, by-mark, by-test, clash, Way, below, dayAt, head, next, parent, child, leftSibling, nearest, headLink, rowLink, Head, bottom, below-hit, below-miss, head-link, bottom-is, parent-is, child-is, left-is, head-false, next-none, next-some, passed, Columns, FilledTo, Linked, Chained, headAt, ClimbAt, Climbed, HeadAt}, Parents.{parent-nearest, left-passed, child-next, child-same}}
 
 -- a head by its column
 pub head-is : {xs ys fs ls : List ℕ} {n : ℕ} (k : ℕ) → Columns xs ys fs ls n → k < n → headAt xs n k ≡ head fs ls k
@@ -38,9 +38,6 @@ module _ {xs ys fs ls : List ℕ} {n : ℕ} {ps : List ℕ} {m : ℕ} (q : Climb
   pub ends : {l k : ℕ} → m ≡ 0 → Climbed fs ls l m k (record { parent = 0; left = k })
   ends {l} {k} z = let w = way-none fs ls l (length fs) k in rw z (record { parent = w .0; left = w .1 })
 
-  pub inside : m ≤ 1024
-  inside = omega (arith, q .within, q .columns .few)
-
   module _ (some : m ≢ 0) where
     abbrev v : ℕ
     v = m - 1
@@ -55,15 +52,15 @@ module _ {xs ys fs ls : List ℕ} {n : ℕ} {ps : List ℕ} {m : ℕ} (q : Climb
       j-is : j ≡ parent fs ls v
       j-is = y ∙ q .parents v (omega (arith, z .0)) (q .at-head v (z .0))
 
-      pub falls : j < m
-      falls = omega (arith, j-is, z .0, parent-is fs ls v .within)
+      pub falls : {t : ℕ} → m ≡ t → j < t
+      falls e = omega (arith, j-is, z .0, parent-is fs ls v .within)
 
       pub asks : ClimbAt xs ys fs ls n ps j
       asks = record {
         columns = q .columns;
-        within = omega (arith, falls, q .within);
+        within = omega (arith, falls refl, q .within);
         at-head = λ u e. parent-is fs ls v .hit u (sym j-is ∙ e) .0;
-        parents = λ u a hu. q .parents u (omega (arith, falls)) hu;
+        parents = λ u a hu. q .parents u (omega (arith, falls refl)) hu;
       }
 
       pub goes-up : {l k : ℕ} → getD ys v 0 < l → {w : Way} → Climbed fs ls l j m w → Climbed fs ls l m k w
@@ -120,11 +117,11 @@ module _ (fs ls : List ℕ) where
   next-link : (k : ℕ) → k < length fs → head fs ls k ≡ false → suc k ≡ rowLink fs ls (next fs ls) (suc k)
   next-link k h e = sym (rw (lt-ltb (suc k) (length fs) (head-false fs ls k h e .0), next-some fs ls k h e))
 
-pub none-yet : {fs ls : List ℕ} (size : ℕ) → size ≡ 1024 → Linked fs ls (replicate size 0) (replicate size 0) (replicate size 0) 0 × Chained fs ls (replicate size 0) 0
-none-yet {fs} size e = unfold next in (
-  record { parents = held-none size e; lefts = held-none size e; children = held-none size e },
-  held-skip (held-none size e) (by-test (ltb 0 (length fs)) (λ z. rw z) (λ z. rw z)),
-)
+pub unlinked : {fs ls : List ℕ} (size : ℕ) → size ≡ 1024 → Linked fs ls (replicate size 0) (replicate size 0) (replicate size 0) 0
+unlinked size e = record { parents = held-none size e; lefts = held-none size e; children = held-none size e }
+
+pub unchained : (fs ls : List ℕ) (size : ℕ) → size ≡ 1024 → Chained fs ls (replicate size 0) 0
+unchained fs ls size e = unfold next in held-skip (held-none size e) (by-test (ltb 0 (length fs)) (λ z. rw z) (λ z. rw z))
 
 -- a head
 module _ {xs ys fs ls : List ℕ} {n k prev : ℕ} {ps qs cs : List ℕ} (q : HeadAt xs ys fs ls n k prev ps qs cs) where
@@ -142,9 +139,9 @@ module _ {xs ys fs ls : List ℕ} {n k prev : ℕ} {ps qs cs : List ℕ} (q : He
     parents = λ v a hv. q .links .parents .words v (omega (arith, q .before, i .within)) ∙ head-link fs ls (parent fs ls) v (omega (arith, q .before, i .within, in-list)) hv;
   }
 
-  module _ {l : ℕ} (e : l ≡ getD ys k 0) {w : Way} (g : Climbed fs ls l prev 0 w) where
-    l-is : l ≡ dayAt ls k
-    l-is = e ∙ q .columns .lasts k (q .inside)
+  module _ {w : Way} (g : Climbed fs ls (getD ys k 0) prev 0 w) where
+    l-is : getD ys k 0 ≡ dayAt ls k
+    l-is = q .columns .lasts k (q .inside)
 
     parent-of : w .parent ≡ parent fs ls k
     parent-of = g .parent ∙ rw (l-is, q .before) (sym (parent-nearest fs ls (q .columns .sorted) k in-list))
@@ -152,11 +149,21 @@ module _ {xs ys fs ls : List ℕ} {n k prev : ℕ} {ps qs cs : List ℕ} (q : He
     left-of : w .left ≡ leftSibling fs ls k
     left-of = g .left ∙ rw (l-is, q .before) (sym (left-passed fs ls (q .columns .sorted) k in-list))
 
-    pub parent-small : w .parent ≤ k
-    parent-small = rw parent-of (parent-is fs ls k .within)
+    -- both are marks of rows before k
+    small : (w .parent ≤ k) × (w .left ≤ k)
+    small = (omega (arith, parent-of, parent-is fs ls k .within), omega (arith, left-of ∙ left-is fs ls k, child-is fs ls (parent fs ls k) k .within))
 
-    pub left-small : w .left ≤ k
-    left-small = rw (left-of ∙ left-is fs ls k) (child-is fs ls (parent fs ls k) k .within)
+    pub parent-fits : Fits w16 (w .parent)
+    parent-fits = record { fits = omega (arith, small, room) }
+
+    pub left-fits : Fits w16 (w .left)
+    left-fits = record { fits = omega (arith, small, room) }
+
+    pub place-fits : Fits w64 ((w .parent - 1) * 2)
+    place-fits = record { fits = omega (arith, small, room) }
+
+    pub parent-at : w .parent - 1 < 1024
+    parent-at = omega (arith, small, room)
 
     -- the children's column, by what was written there
     linked : (cs′ : List ℕ) → length cs′ ≡ 1024
@@ -189,7 +196,7 @@ module _ {xs ys fs ls : List ℕ} {n k prev : ℕ} {ps qs cs : List ℕ} (q : He
     pub linked-child : w .parent ≢ 0 → Linked fs ls (set ps k (w .parent)) (set qs k (w .left)) (set cs (w .parent - 1) (k + 1)) (suc k)
     linked-child z = let u : ℕ = w .parent - 1 in
         linked (set cs u (k + 1)) (length-set cs u _ ∙ q .links .children .size)
-        (λ v y. let x : u ≡ v = omega (arith, parent-of) in rw (← x) (getD-set-same cs u (k + 1) 0 (omega (arith, parent-small, room, q .links .children .size)) ∙ omega arith))
+        (λ v y. let x : u ≡ v = omega (arith, parent-of) in rw (← x) (getD-set-same cs u (k + 1) 0 (omega (arith, small, room, q .links .children .size)) ∙ omega arith))
         (λ v y. getD-set-other cs u v (k + 1) 0 (λ x. y (omega (arith, parent-of))))
 
 -- ---- `link`, position after position: the links of the heads before k, of which prev is the last, and of the chains
@@ -204,8 +211,11 @@ pub starts : {xs ys fs ls : List ℕ} {n : ℕ} {ps qs cs ns : List ℕ} → Col
 starts q l c = unfold below in record { columns = q; links = l; before = refl; chains = c; within = zero-le }
 
 module _ {xs ys fs ls : List ℕ} {n k prev : ℕ} {ps qs cs ns : List ℕ} (i : Linking xs ys fs ls n ps qs cs ns prev k) where
-  pub all-linked : n ≤ k → Linked fs ls ps qs cs n × Chained fs ls ns n
-  all-linked h = let e : k ≡ n = omega (arith, i .within) in (rw e at (i .links), rw e at (i .chains))
+  pub all-linked : n ≤ k → Linked fs ls ps qs cs n
+  all-linked h = let e : k ≡ n = omega (arith, i .within) in rw e at (i .links)
+
+  pub all-chained : n ≤ k → Chained fs ls ns n
+  all-chained h = let e : k ≡ n = omega (arith, i .within) in rw e at (i .chains)
 
   module _ (inside : k < n) {r : Bool} (e : r ≡ headAt xs n k) where
     is-head : r ≡ head fs ls k
@@ -238,3 +248,5 @@ module _ {xs ys fs ls : List ℕ} {n k prev : ℕ} {ps qs cs ns : List ℕ} (i :
         chains = held-set (i .chains) (suc k) (omega (arith, goes-on)) (next-link fs ls k (rw (i .columns .count) inside) np);
         within = inside;
       })
+
+pub ruleset steps = (ends, stays, falls, asks, goes-up, asks-climb, parent-fits, left-fits, place-fits, parent-at, linked-root, linked-child, starts, all-linked, all-chained, asks-head, turn-head, goes-on, turn-skip, needs)

@@ -1,6 +1,5 @@
 -- How the links are found when a list is published: each head climbs from the head before it. Assumes nothing.
-use Rattle.basis.proofs.Prelude.{_∙_, _≡_, refl, sym, _<_, _≤_, suc, zero, zero-le, ℕ, List, Bool, _&&_, _≢_, eqb, leb, length, arith, eq-eqb, eqb-true, leb-false, leb-true, both, by-eq, by-mark, by-test, untrue}
-use Rattle.stabbing_index.proofs.Names.{below, dayAt, head, parent, child, leftSibling, Sorted, nearest, Head, bottom, below-is, below-hit, below-miss, below-skip, below-only, bottom-is, parent-is, parent-ge, left-is, lasting, nearest-is, passed}
+use Rattle.stabbing_index.proofs.Names.{_∙_, _≡_, refl, sym, _<_, _≤_, suc, zero, zero-le, ℕ, List, Bool, _&&_, _≢_, eqb, leb, length, arith, eq-eqb, eqb-true, leb-false, leb-true, both, by-eq, by-mark, by-test, untrue, below, dayAt, head, parent, child, leftSibling, Sorted, nearest, Head, bottom, below-is, below-hit, below-miss, below-skip, below-only, bottom-is, parent-is, parent-ge, left-is, lasting, nearest-is, passed}
 
 module _ (fs ls : List ℕ) (sorted : Sorted fs ls) where
   -- a head's parent is the nearest that lasts as long, from the head before it upward

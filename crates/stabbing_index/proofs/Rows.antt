@@ -1,6 +1,5 @@
 -- Rows that can be published, row by row. Assumes nothing.
-use Rattle.basis.proofs.Prelude.{_∙_, _≡_, refl, sym, _+_, _<_, _≤_, zero-le, ℕ, List, Bool, _&&_, false, true, drop, drop-of-length-le, getD, length, take, drop-cons, getD-take, length-take-le, add-one, arith}
-use Rattle.stabbing_index.proofs.Names.{rowOk, mayFollow, rowsAfter, rowsOk}
+use Rattle.stabbing_index.proofs.Names.{not, not-true, not-false, needs, _∙_, _≡_, refl, sym, _+_, _<_, _≤_, zero-le, ℕ, List, Bool, _&&_, false, true, drop, drop-of-length-le, getD, length, take, drop-cons, getD-take, length-take-le, add-one, arith, rowOk, mayFollow, rowsAfter, rowsOk}
 
 -- what is still to be tested decides: of the first n rows, from the row k on, after a row with the days f and l
 pub record Rest (xs ys : List ℕ) (n f l k : ℕ) : Type 0 where
@@ -25,8 +24,10 @@ module _ {xs ys : List ℕ} {n f l k : ℕ} (r : Rest xs ys n f l k) where
     row = r .decides ∙ rw (drop-cons (take n xs) k 0 (omega (arith, long .0)), drop-cons (take n ys) k 0 (omega (arith, long .1)), getD-take n xs k 0 lt, getD-take n ys k 0 lt, add-one k)
 
     module _ {b : Bool} (e : b ≡ rowOk (getD xs k 0) (getD ys k 0) && mayFollow f l (getD xs k 0) (getD ys k 0)) where
-      pub row-wrong : b ≡ false → false ≡ rowsOk (take n xs) (take n ys)
-      row-wrong z = sym (row ∙ rw (sym e ∙ z))
+      pub row-wrong : not b ≡ true → false ≡ rowsOk (take n xs) (take n ys)
+      row-wrong z = sym (row ∙ rw (sym e ∙ not-true b z))
 
-      pub row-right : b ≡ true → Rest xs ys n (getD xs k 0) (getD ys k 0) (k + 1)
-      row-right z = record { firsts = r .firsts; lasts = r .lasts; within = omega arith; decides = row ∙ rw (sym e ∙ z) }
+      pub row-right : not b ≡ false → Rest xs ys n (getD xs k 0) (getD ys k 0) (k + 1)
+      row-right z = record { firsts = r .firsts; lasts = r .lasts; within = omega arith; decides = row ∙ rw (sym e ∙ not-false b z) }
+
+pub ruleset steps = (rest-all, rest-none, row-wrong, row-right, needs)

@@ -1,6 +1,5 @@
 -- The buckets of the numbers, row by row. Assumes nothing.
-use Rattle.basis.proofs.Prelude.{_∙_, _≡_, ap, refl, sym, _%_, _+_, _<_, suc, zero-le, ℕ, List, Bool, _≢_, eqb, ltb, getD, length, length-set, set, getD-set-other, getD-set-same, le-refl, add-one, arith, eqb-false, eqb-true, le-ltb, lt-ltb, ltb-false, ltb-true, by-test}
-use Rattle.stabbing_index.proofs.{Names.{below, capacity, bucketCount, bucketTable, lowerColumn, rowCount, indexLength, column, bucketOf, inBucket, below-hit, below-miss, Extends, lowerWord, nameWords, Blank}, Laying.{laying-all, laid-more}}
+use Rattle.stabbing_index.proofs.{Names.{_≤_, needs, _∙_, _≡_, ap, refl, sym, _%_, _+_, _<_, suc, zero-le, ℕ, List, Bool, _≢_, eqb, ltb, getD, length, length-set, set, getD-set-other, getD-set-same, le-refl, add-one, arith, eqb-false, eqb-true, le-ltb, lt-ltb, ltb-false, ltb-true, by-test, below, capacity, bucketCount, bucketTable, lowerColumn, rowCount, indexLength, column, bucketOf, inBucket, below-hit, below-miss, Extends, lowerWord, nameWords, Blank}, Laying.{laying-all, laid-more}}
 
 -- of the numbers xs the first k are in their buckets, and the words before the buckets are kept
 pub record Naming (entry xs : List ℕ) (k : ℕ) (now : List ℕ) : Type 0 where
@@ -9,8 +8,8 @@ pub record Naming (entry xs : List ℕ) (k : ℕ) (now : List ℕ) : Type 0 wher
   pub buckets : (b : ℕ) → b < bucketCount → getD now (bucketTable + b) 0 ≡ inBucket xs b k
   pub lowers : (j : ℕ) → j < capacity → getD now (lowerColumn + j) 0 ≡ lowerWord xs k j
 
-pub nobody : {entry : List ℕ} (xs : List ℕ) → Blank entry → Naming entry xs 0 entry
-nobody {entry} xs b = unfold inBucket below in record {
+pub nobody : {entry xs : List ℕ} → Blank entry → Naming entry xs 0 entry
+nobody {entry} b = unfold inBucket below in record {
   size = refl;
   kept = λ j h. refl;
   buckets = λ x h. b .empty x (omega arith);
@@ -19,10 +18,6 @@ nobody {entry} xs b = unfold inBucket below in record {
       ap (λ (n : ℕ). getD entry n 0) z ∙ b .empty (bucketCount + j) (omega arith) ∙ sym (rw (le-ltb j 0 zero-le));
 }
 
--- the buckets have their words, whatever word is written
-pub wide : {entry xs now : List ℕ} {k : ℕ} → Naming entry xs k now → length entry ≡ indexLength → (p v x : ℕ) → bucketTable + x % bucketCount < length (set now p v)
-wide {now = now} i long p v x = omega (arith, length-set now p v, i .size)
-
 -- what the rows before lead to stays
 lower-keep : (xs : List ℕ) (j k : ℕ) → j ≢ k → lowerWord xs k j ≡ lowerWord xs (suc k) j
 lower-keep xs j k n = by-test (ltb j k)
@@ -30,7 +25,7 @@ lower-keep xs j k n = by-test (ltb j k)
     (λ e. rw (e, le-ltb j (suc k) (omega (arith, ltb-false j k e))))
 
 -- one row more: the row k, with the number x
-module _ (xs : List ℕ) {entry now : List ℕ} {k x : ℕ} (i : Naming entry xs k now) (long : length entry ≡ indexLength) (h : k < capacity) (e : x ≡ getD xs k 0) where
+module _ {entry xs now : List ℕ} {k n x : ℕ} (i : Naming entry xs k now) (long : length entry ≡ indexLength) (h : k < n) (few : n ≤ 1024) (e : x ≡ getD xs k 0) where
   abbrev bucket : ℕ
   bucket = bucketTable + x % bucketCount
 
@@ -71,10 +66,9 @@ module _ (xs : List ℕ) {entry now : List ℕ} {k x : ℕ} (i : Naming entry xs
   })
 
 -- all rows: the words from the buckets on
-pub named : {entry now : List ℕ} (xs : List ℕ) {n : ℕ} → Naming entry xs n now → length entry ≡ indexLength → Extends entry bucketTable rowCount (nameWords xs n) now
-named {entry} {now} xs {n} i long =
-    let front : Extends entry bucketTable lowerColumn (column bucketCount (λ b. inBucket xs b n)) now
-    = laying-all (record { size = i .size; kept = i .kept; words = i .buckets }) refl refl (omega arith) in
-    let back : Extends now lowerColumn rowCount (column capacity (lowerWord xs n)) now
-    = laying-all (record { size = refl; kept = λ j h. refl; words = i .lowers }) refl refl (omega (arith, i .size)) in
-    laid-more front back
+pub named : {entry xs now : List ℕ} {k n : ℕ} → Naming entry xs k now → k ≤ n → n ≤ k → length entry ≡ indexLength → Extends entry bucketTable rowCount (nameWords xs n) now
+named {now = now} {k} {n} i a b long = let e : n ≡ k = omega arith in rw e (laid-more {m = now}
+    (laying-all (record { long = i .size; room = omega arith; within = le-refl bucketCount; kept = i .kept; words = i .buckets }) (le-refl bucketCount))
+    (laying-all (record { long = refl; room = omega arith; within = le-refl capacity; kept = λ j h. refl; words = i .lowers }) (le-refl capacity)))
+
+pub ruleset steps = (nobody, one-more, named, needs)

@@ -1,15 +1,8 @@
 -- `stabbing_cases::each` is safe and ends. Assumes nothing.
-use Rattle.basis.proofs.Prelude.{_-_, _≤_, needs}
-use Rattle.stabbing_cases.proofs.each.{Statement.statement, Tie.{InvT-loop, MeasureT-loop, close, spec}}
-
-abbrev Inv-loop : InvT-loop
-Inv-loop index number a b c kind t₀ i₀ t i = i ≤ kind .c
-
-abbrev μ-loop : MeasureT-loop
-μ-loop index number a b c kind t₀ i₀ t i = kind .c - i
+use Rattle.stabbing_cases.proofs.{Names.{_-_, _≤_, needs}, each.{Statement.statement, Tie.{close, spec}}}
 
 pub each-spec : {M : Type 1} → statement M
-each-spec = close (spec
-    Inv-loop
-    μ-loop
-    (λ c. search needs) (λ c. search needs) (λ c. search needs) (λ c. search needs) (λ c. search needs) (λ c. search needs) (λ c κs. search needs) (λ c. search needs) (λ c. search needs) (λ c. search needs) (λ c. search needs) (λ c κs. search needs) (λ c. search needs) (λ c. search needs) (λ c. search needs) (λ c. search needs))
+each-spec = close (spec (λ _ _ _ _ _ kind _ _ _ i. i ≤ kind .c) (λ _ _ _ _ _ kind _ _ _ i. kind .c - i)
+    (λ c. search needs) (λ c. search needs) (λ c. search needs) (λ c. search needs) (λ c. search needs) (λ c. search needs)
+    (λ c. search needs) (λ c. search needs) (λ c. search needs) (λ c. search needs) (λ c. search needs) (λ c. search needs)
+    (λ c. search needs) (λ c. search needs) (λ c. search needs) (λ c. search needs))

@@ -1,9 +1,7 @@
 -- `stabbing_cases::hear` is safe and ends. Assumes nothing.
-use Rattle.basis.proofs.Prelude.{sym, length-take-le, needs}
-use Rattle.stabbing_cases.proofs.hear.{Statement.statement, Tie.{close, spec}}
+use Rattle.stabbing_cases.proofs.{Names.{sym, length-take-le, needs}, hear.{Statement.statement, Tie.{close, spec}}}
 
 pub hear-spec : {M : Type 1} → statement M
 hear-spec = close (spec
-    (λ c. search needs) (λ c. sym (length-take-le _ _ (search needs))) (λ c κs. search needs) (λ c κs. search needs)
-    (λ c κs. search needs) (λ c κs. search needs) (λ c κs. search needs) (λ c κs. search needs)
-    (λ c κs. search needs) (λ c. search needs))
+    (λ c. search needs) (λ c. sym (length-take-le _ _ (search needs))) (λ c. search needs) (λ c. search needs) (λ c. search needs)
+    (λ c. search needs) (λ c. search needs) (λ c. search needs) (λ c. search needs) (λ c. search needs))

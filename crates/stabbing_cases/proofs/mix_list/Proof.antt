@@ -1,16 +1,7 @@
 -- `stabbing_cases::mix_list` is safe and ends. Assumes nothing.
-use Rattle.basis.proofs.Prelude.{_-_, _≤_, length, needs}
-use Rattle.stabbing_cases.proofs.mix_list.{Statement.statement, Tie.{InvT-loop, MeasureT-loop, close, spec}}
-
-abbrev Inv-loop : InvT-loop
-Inv-loop h list k s₀ i₀ s i = i ≤ length list
-
-abbrev μ-loop : MeasureT-loop
-μ-loop h list k s₀ i₀ s i = length list - i
+use Rattle.stabbing_cases.proofs.{Names.{_-_, _≤_, length, needs}, mix_list.{Statement.statement, Tie.{close, spec}}}
 
 pub mix-list-spec : {M : Type 1} → statement M
-mix-list-spec = close (spec
-    Inv-loop
-    μ-loop
-    (λ c. search needs) (λ c. search needs) (λ c. search needs) (λ c. search needs) (λ c κs. search needs)
-    (λ c κs. search needs) (λ c. search needs) (λ c. search needs) (λ c. search needs) (λ c. search needs))
+mix-list-spec = close (spec (λ _ list _ _ _ _ i. i ≤ length list) (λ _ list _ _ _ _ i. length list - i)
+    (λ c. search needs) (λ c. search needs) (λ c. search needs) (λ c. search needs) (λ c. search needs) (λ c. search needs)
+    (λ c. search needs) (λ c. search needs) (λ c. search needs) (λ c. search needs))
