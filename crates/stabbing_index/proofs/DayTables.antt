@@ -1,22 +1,19 @@
 -- The steps of the tables by day, apart from the code. Assumes nothing.
 use mir.{Val.Fits, Syntax.w16}
-use Rattle.stabbing_index.proofs.Names.{needs, _∙_, _≡_, ap, sym, _+_, _<_, _≤_, suc, zero-le, ℕ, List, _≢_, leb, getD, length, length-set, set, getD-set-other, getD-set-same, add-one, arith, le-leb, leb-false, leb-true, both, by-eq, by-mark, by-test, dayCount, Way, below, dayAt, head, parent, start, Sorted, nearest, latest, below-is, below-skip, below-hit, latest-is, latest-before, lasting, nearest-is, start-nearest, Columns, ClimbAt, Climbed, Dayed, AdvanceAt, DaysAt, DayAt}
+use Rattle.stabbing_index.proofs.Names.{needs, _∙_, _≡_, ap, sym, _+_, _<_, _≤_, suc, zero-le, ℕ, List, _≢_, leb, getD, length, length-set, set, getD-set-other, getD-set-same, add-one, arith, le-leb, leb-false, leb-true, both, by-eq, by-mark, by-test, dayCount, Way, below, dayAt, head, parent, start, Sorted, latest, below-is, below-skip, below-hit, latest-is, latest-before, lastsTo, nearest-is, start-nearest, Columns, ClimbAt, Climbed, Dayed, AdvanceAt, DaysAt, DayAt}
 use Rattle.stabbing.{proofs.Walk.start-is, proofs.Days.{latest-after, latest-rises, latest-none}}
 
 module _ (fs ls : List ℕ) (sorted : Sorted fs ls) where
   -- the start of a day, from the latest that begins by it
-  start-below : (d : ℕ) → start fs ls d d ≡ below (lasting fs ls sorted d) (latest fs ls d)
+  start-below : (d : ℕ) → start fs ls d d ≡ below (lastsTo fs ls d) (latest fs ls d)
   start-below d = let i = latest-is fs ls sorted d in
       start-nearest fs ls sorted d d ∙ nearest-is fs ls sorted d (length fs) (latest fs ls d) (i .within) (λ v z. i .hit v z .0)
 
   -- where no row begins on day d + 1, its start is the nearest that lasts to it from the start of day d upward
-  start-next : (d : ℕ) → latest fs ls (suc d) ≡ latest fs ls d → start fs ls (suc d) (suc d) ≡ nearest fs ls (suc d) (length fs) (start fs ls d d)
-  start-next d e = let m = latest fs ls d in let s = below (lasting fs ls sorted d) m in let b = below-is (lasting fs ls sorted d) m in
-      start-below (suc d) ∙ ap (below (lasting fs ls sorted (suc d))) e
-      ∙ below-skip (lasting fs ls sorted (suc d)) s m (b .within) (λ x g h z. let p = both (head fs ls x) (leb (suc d) (dayAt ls x)) z in
-      b .miss x g h (rw (p .0, le-leb d (dayAt ls x) (omega (arith, leb-true (suc d) (dayAt ls x) (p .1))))))
-      ∙ sym (ap (nearest fs ls (suc d) (length fs)) (start-below d) ∙ nearest-is fs ls sorted (suc d) (length fs) s
-      (omega (arith, b .within, latest-is fs ls sorted d .within)) (λ v z. both (head fs ls v) (leb d (dayAt ls v)) (b .hit v z) .0))
+  start-next : (d : ℕ) → latest fs ls (suc d) ≡ latest fs ls d → start fs ls (suc d) (suc d) ≡ below (lastsTo fs ls (suc d)) (start fs ls d d)
+  start-next d e = let m = latest fs ls d in let s = below (lastsTo fs ls d) m in let b = below-is (lastsTo fs ls d) m in
+      rw (start-below (suc d), e, start-below d) (below-skip (lastsTo fs ls (suc d)) s m (b .within) (λ x g h z. let p = both (head fs ls x) (leb (suc d) (dayAt ls x)) z in
+      b .miss x g h (rw (p .0, le-leb d (dayAt ls x) (omega (arith, leb-true (suc d) (dayAt ls x) (p .1)))))))
 
   later : (d : ℕ) → latest fs ls d ≤ latest fs ls (suc d)
   later d = latest-rises fs ls sorted d (suc d) (omega arith)
@@ -50,8 +47,8 @@ module _ {xs ys fs ls : List ℕ} {n : ℕ} {ps : List ℕ} {d m e s : ℕ} (q :
       let hit = i .hit v (sym (q .e-is) ∙ z) in
       let v-in : v < length fs = omega (arith, i .within, q .e-is) in
       let first : d < dayAt fs v = latest-is fs ls (c .sorted) d .miss v (omega (arith, later fs ls (c .sorted) d, q .m-is, q .e-is, ne)) v-in (hit .0) in
-      z ∙ sym (start-below fs ls (c .sorted) (suc d) ∙ ap (below (lasting fs ls (c .sorted) (suc d))) (sym (q .e-is) ∙ z)
-      ∙ below-hit (lasting fs ls (c .sorted) (suc d)) v (rw (hit .0, le-leb (suc d) (dayAt ls v) (omega (arith, q .rows .forward v (rw (c .count) at v-in)))))))
+      z ∙ sym (start-below fs ls (c .sorted) (suc d) ∙ ap (below (lastsTo fs ls (suc d))) (sym (q .e-is) ∙ z)
+      ∙ below-hit (lastsTo fs ls (suc d)) v (rw (hit .0, le-leb (suc d) (dayAt ls v) (omega (arith, q .rows .forward v (rw (c .count) at v-in)))))))
 
   -- none does
   pub asks-climb : ClimbAt xs ys fs ls n ps s

@@ -1,6 +1,6 @@
 -- The steps of the builder over what it reads and has written, apart from the code. Assumes nothing.
 use mir.{Val.Fits, Syntax.{w16, w64}}
-use Rattle.stabbing_index.proofs.{Names.{not, not-true, not-false, needs, _∙_, _≡_, refl, sym, _*_, _+_, _-_, _<_, _≤_, suc, zero, zero-le, ℕ, List, Bool, false, true, _≢_, eqb, leb, ltb, List·getD-eq-default, getD, getD-replicate, length, length-replicate, length-set, replicate, set, getD-set-other, getD-set-same, le-refl, add-one, arith, eqb-false, eqb-true, le-leb, lt-leb, lt-ltb, ltb-false, ltb-true, by-eq, by-mark, by-test, clash, Way, below, dayAt, head, next, parent, child, leftSibling, nearest, headLink, rowLink, Head, bottom, below-hit, below-miss, head-link, bottom-is, parent-is, child-is, left-is, head-false, next-none, next-some, passed, Columns, FilledTo, Linked, Chained, headAt, ClimbAt, Climbed, HeadAt}, Parents.{parent-nearest, left-passed, child-next, child-same}}
+use Rattle.stabbing_index.proofs.{Names.{ap, not, not-true, not-false, needs, _∙_, _≡_, refl, sym, _*_, _+_, _-_, _<_, _≤_, suc, zero, zero-le, ℕ, List, Bool, false, true, _≢_, eqb, leb, ltb, List·getD-eq-default, getD, getD-replicate, length, length-replicate, length-set, replicate, set, getD-set-other, getD-set-same, le-refl, add-one, arith, eqb-false, eqb-true, le-leb, lt-leb, lt-ltb, ltb-false, ltb-true, by-eq, by-mark, by-test, clash, Way, below, dayAt, head, next, parent, child, leftSibling, headLink, rowLink, Head, bottom, below-hit, below-miss, head-link, bottom-is, parent-is, child-is, left-is, head-false, next-none, next-some, lastsTo, Columns, FilledTo, Linked, Chained, headAt, ClimbAt, Climbed, HeadAt}, Parents.{parent-bottom, over-bottom, child-bottom, over-up, child-up, lasts-up, child-next, child-same}}
 
 -- a head by its column
 pub head-is : {xs ys fs ls : List ℕ} {n : ℕ} (k : ℕ) → Columns xs ys fs ls n → k < n → headAt xs n k ≡ head fs ls k
@@ -8,49 +8,30 @@ head-is {xs} {ys} {fs} {ls} {n} k q h = unfold head in by-test (eqb (suc k) n)
     (λ e. rw (q .count, e))
     (λ e. let ne : suc k ≢ n = eqb-false (suc k) n e in rw (q .count, e, q .firsts k h, q .firsts (suc k) (omega arith)))
 
--- ---- the way upward, with no fuel to follow
-module _ (fs ls : List ℕ) (l : ℕ) where
-  way-more : (f m : ℕ) → m ≤ f → (nearest fs ls l (suc f) m ≡ nearest fs ls l f m) × ((k : ℕ) → passed fs ls l (suc f) m k ≡ passed fs ls l f m k)
-  unfolding nearest passed
-  way-more zero zero h = (refl, λ k. refl)
-  way-more zero (suc v) h = absurd (omega arith)
-  way-more (suc f) zero h = (refl, λ k. refl)
-  way-more (suc f) (suc v) h = let r = way-more f (parent fs ls v) (omega (arith, parent-is fs ls v .within)) in by-test (leb l (dayAt ls v))
-      (λ e. (rw (e, nearest), λ k. rw (e, passed)))
-      (λ e. (rw (e, nearest) (r .0), λ k. rw (e, passed) (r .1 (suc v))))
-
-  way-none : (f k : ℕ) → (0 ≡ nearest fs ls l f 0) × (k ≡ passed fs ls l f 0 k)
-  unfolding nearest passed
-  way-none zero k = (refl, refl)
-  way-none (suc f) k = (refl, refl)
-
-  module _ (v k : ℕ) (h : v < length fs) where
-    way-here : l ≤ dayAt ls v → Climbed fs ls l (suc v) k (record { parent = suc v; left = k })
-    way-here e = unfold nearest passed in let w = way-more (length fs) (suc v) h in let t = le-leb l (dayAt ls v) e in
-        record { parent = sym (rw (t, nearest)) ∙ w .0; left = sym (rw (t, passed)) ∙ w .1 k }
-
-    way-up : dayAt ls v < l → {w : Way} → Climbed fs ls l (parent fs ls v) (suc v) w → Climbed fs ls l (suc v) k w
-    way-up e g = unfold nearest passed in let w = way-more (length fs) (suc v) h in let t = lt-leb l (dayAt ls v) e in
-        record { parent = g .parent ∙ sym (rw (t, nearest)) ∙ w .0; left = g .left ∙ sym (rw (t, passed)) ∙ w .1 k }
-
--- the steps of `climb`
+-- ---- the steps of `climb`
 module _ {xs ys fs ls : List ℕ} {n : ℕ} {ps : List ℕ} {m : ℕ} (q : ClimbAt xs ys fs ls n ps m) where
   pub ends : {l k : ℕ} → m ≡ 0 → Climbed fs ls l m k (record { parent = 0; left = k })
-  ends {l} {k} z = let w = way-none fs ls l (length fs) k in rw z (record { parent = w .0; left = w .1 })
+  ends z = unfold below in rw z (record { parent = refl; left = λ a o e. e })
 
   module _ (some : m ≢ 0) where
     abbrev v : ℕ
     v = m - 1
 
-    z : (m ≡ suc v) × (v < n) × (v < length fs)
-    z = (omega arith, omega (arith, q .within), omega (arith, q .within, q .columns .count))
+    z : (m ≡ suc v) × (v < n)
+    z = (omega arith, omega (arith, q .within))
+
+    top : Head fs ls v
+    top = q .at-head v (z .0)
 
     pub stays : {l k : ℕ} → l ≤ getD ys v 0 → Climbed fs ls l m k (record { parent = m; left = k })
-    stays {l} {k} e = rw (z .0) (way-here fs ls l v k (z .2) (rw (q .columns .lasts v (z .1)) at e))
+    stays {l} e = record {
+      parent = rw (z .0) (sym (below-hit (lastsTo fs ls l) v (rw (top, le-leb l (dayAt ls v) (rw (q .columns .lasts v (z .1)) at e)))));
+      left = λ a o e. e;
+    }
 
     module _ {j : ℕ} (y : j ≡ getD ps v 0) where
       j-is : j ≡ parent fs ls v
-      j-is = y ∙ q .parents v (omega (arith, z .0)) (q .at-head v (z .0))
+      j-is = y ∙ q .parents v (omega (arith, z .0)) top
 
       pub falls : {t : ℕ} → m ≡ t → j < t
       falls e = omega (arith, j-is, z .0, parent-is fs ls v .within)
@@ -64,7 +45,10 @@ module _ {xs ys fs ls : List ℕ} {n : ℕ} {ps : List ℕ} {m : ℕ} (q : Climb
       }
 
       pub goes-up : {l k : ℕ} → getD ys v 0 < l → {w : Way} → Climbed fs ls l j m w → Climbed fs ls l m k w
-      goes-up {l} {k} e g = rw (z .0) (way-up fs ls l v k (z .2) (rw (q .columns .lasts v (z .1)) at e) (rw (← z .0, ← j-is) g))
+      goes-up {l} e g = record {
+        parent = g .parent ∙ rw j-is (lasts-up fs ls v l (rw (q .columns .lasts v (z .1)) at e)) ∙ ap (below (lastsTo fs ls l)) (sym (z .0));
+        left = λ a o _. let o′ = rw (z .0) at o in g .left a (rw j-is (over-up fs ls v a top o′)) (rw (j-is, child-up fs ls v a top o′) (z .0));
+      }
 
 -- ---- a column, one word more
 held-none : {f : ℕ → ℕ} (size : ℕ) → size ≡ 1024 → FilledTo (replicate size 0) f 0
@@ -144,10 +128,10 @@ module _ {xs ys fs ls : List ℕ} {n k prev : ℕ} {ps qs cs : List ℕ} (q : He
     l-is = q .columns .lasts k (q .inside)
 
     parent-of : w .parent ≡ parent fs ls k
-    parent-of = g .parent ∙ rw (l-is, q .before) (sym (parent-nearest fs ls (q .columns .sorted) k in-list))
+    parent-of = g .parent ∙ rw (l-is, q .before) (parent-bottom fs ls k)
 
     left-of : w .left ≡ leftSibling fs ls k
-    left-of = g .left ∙ rw (l-is, q .before) (sym (left-passed fs ls (q .columns .sorted) k in-list))
+    left-of = g .left k (rw (q .before) (over-bottom fs ls k)) (rw (q .before) (child-bottom fs ls k)) ∙ rw parent-of (sym (left-is fs ls k))
 
     -- both are marks of rows before k
     small : (w .parent ≤ k) × (w .left ≤ k)

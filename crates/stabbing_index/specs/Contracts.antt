@@ -2,15 +2,15 @@
 -- its private functions cite. xs and ys are the columns of first and last days, fs and ls the days themselves. A record with `At` in
 -- its name is over any days; what the contracts cite, with `Of`, `In`, `Asks` or `Gives` in its name, is the same at the first n words
 -- of the columns. Assumes nothing.
-use Prim.Native.Nat.{ℕ, zero, suc, _+_, _≤_, _<_}
-use mathlib.Core.Bool.{Bool, true, false, not, _||_, cond}
+use Prim.Native.Nat.{ℕ, suc, _+_, _≤_, _<_}
+use mathlib.Core.Bool.{Bool, true, not, _&&_, _||_, cond}
 use mathlib.Core.List.{List, _++_}
 use mathlib.Core.Path.{_≡_}
 use lib.Dec.{eqb, leb, ltb}
 use lib.ListN.{length, getD, take}
 use Rattle.stabbing_index.specs.declared.Way.{Way}
-use Rattle.stabbing.specs.Tree.{dayAt, next, parent, child, leftSibling, lastChild, start}
-use Rattle.stabbing.specs.Stored.{Sorted, nearest, latest}
+use Rattle.stabbing.specs.Tree.{below, dayAt, head, next, parent, child, leftSibling, lastChild, start}
+use Rattle.stabbing.specs.Stored.{Sorted, latest}
 use Rattle.stabbing.specs.Index.{capacity, dayCount, bucketCount, bucketTable, rowsOk, column, lastOf, headLink, rowLink, bucketOf, inBucket}
 use Rattle.stabbing.specs.Contracts.{Head, bottom}
 
@@ -33,11 +33,14 @@ headAt xs n k = eqb (suc k) n || not (eqb (getD xs k 0) (getD xs (suc k) 0))
 
 -- ---- The way from the mark m up to the nearest that lasts to l
 
--- the head passed last on that way; k where none is passed
-unfoldable pub passed : List ℕ → List ℕ → ℕ → ℕ → ℕ → ℕ → ℕ
-passed fs ls l zero m k = k
-passed fs ls l (suc f) zero k = k
-passed fs ls l (suc f) (suc v) k = elim (leb l (dayAt ls v)) [ true ↦ k | false ↦ passed fs ls l f (parent fs ls v) (suc v) ]
+-- does the head b last to l?
+abbrev pub lastsTo : List ℕ → List ℕ → ℕ → ℕ → Bool
+lastsTo fs ls l b = head fs ls b && leb l (dayAt ls b)
+
+-- no head between the mark m and the position a lasts longer than that of m
+pub record Over (fs ls : List ℕ) (m a : ℕ) : Type 0 where
+  pub within : m ≤ a
+  pub long : (v : ℕ) → m ≡ suc v → (x : ℕ) → v < x → x < a → Head fs ls x → dayAt ls x ≤ dayAt ls v
 
 -- m is the mark of a head, and the column ps holds the parents of the heads below it
 pub record ClimbAt (xs ys fs ls : List ℕ) (n : ℕ) (ps : List ℕ) (m : ℕ) : Type 0 where
@@ -49,10 +52,10 @@ pub record ClimbAt (xs ys fs ls : List ℕ) (n : ℕ) (ps : List ℕ) (m : ℕ) 
 abbrev pub ClimbAsks : List ℕ → List ℕ → ℕ → List ℕ → ℕ → Type 0
 ClimbAsks xs ys n ps m = ClimbAt xs ys (take n xs) (take n ys) n ps m
 
--- where the way ends, and the head passed last
+-- where the way ends; and of a position a that the way begins under, k becomes the last child before a of where it ends
 pub record Climbed (fs ls : List ℕ) (l m k : ℕ) (w : Way) : Type 0 where
-  pub parent : w .parent ≡ nearest fs ls l (length fs) m
-  pub left : w .left ≡ passed fs ls l (length fs) m k
+  pub parent : w .parent ≡ below (lastsTo fs ls l) m
+  pub left : (a : ℕ) → Over fs ls m a → k ≡ child fs ls m a → w .left ≡ child fs ls (w .parent) a
 
 abbrev pub ClimbGives : List ℕ → List ℕ → ℕ → ℕ → ℕ → ℕ → Way → Type 0
 ClimbGives xs ys n l m k w = Climbed (take n xs) (take n ys) l m k w
