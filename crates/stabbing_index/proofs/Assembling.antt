@@ -1,5 +1,5 @@
 -- What the builder lays is the block of the definition: column by column, and then the whole. Assumes nothing.
-use Rattle.stabbing_index.proofs.{Names.{not, not-true, not-false, needs, RowsAt, Linked, Chained, DaysAt, replicate, _≢_, _∙_, _≡_, ap, refl, sym, _+_, _-_, _<_, _≤_, suc, zero, ℕ, List, [], _++_, _∷_, append-assoc, Bool, false, true, eqb, ltb, getD, length, length-append, length-set, set, take, getD-append-add, getD-take, length-take-le, take-all, take-suc-set, le-refl, arith, le-leb, lt-leb, ltb-true, by-test, dayAt, parent, child, leftSibling, lastChild, next, start, latest, capacity, dayCount, bucketCount, firstColumn, lastColumn, parentColumn, leftColumn, childColumn, nextColumn, startTable, latestTable, bucketTable, rowCount, indexLength, rowsOk, column, lastOf, headLink, rowLink, bucketOf, inBucket, laid, blockOf, below-ext, head-link, head-past, row-past, left-small, child-small, next-small, column-at, column-length, column-only, Columns, ColumnsOf, FilledTo, LinkedOf, ChainedOf, Dayed, DaysAsks, Extends, lowerWord, nameWords, nameCount, MarksIn, markWords, Blank, beside, linkWords, dayWords, RowsOf}, Laying.{laid-more, laid-over, column-ext}, Links.{held-at, held-same, unlinked, unchained}}
+use Rattle.stabbing_index.proofs.{Names.{lt-ltb, ltb-false, not, not-true, not-false, needs, RowsAt, Linked, Chained, DaysAt, replicate, _≢_, _∙_, _≡_, ap, refl, sym, _+_, _-_, _<_, _≤_, suc, zero, ℕ, List, [], _++_, _∷_, append-assoc, Bool, false, true, eqb, ltb, getD, length, length-append, length-set, set, take, getD-append-add, getD-take, length-take-le, take-all, take-suc-set, le-refl, arith, le-leb, lt-leb, ltb-true, by-test, dayAt, parent, child, leftSibling, lastChild, next, start, latest, capacity, dayCount, bucketCount, firstColumn, lastColumn, parentColumn, leftColumn, childColumn, nextColumn, startTable, latestTable, bucketTable, rowCount, indexLength, rowsOk, column, lastOf, headLink, rowLink, bucketOf, inBucket, laid, blockOf, below-ext, head-link, head-past, row-past, left-small, child-small, next-small, column-at, column-length, column-only, Columns, ColumnsOf, Holding, LinkedOf, ChainedOf, Dayed, DaysAsks, Extends, lowerWord, nameWords, nameCount, MarksIn, markWords, Blank, beside, linkWords, dayWords, RowsOf}, Laying.{laid-more, laid-over, column-ext}, Links.{holding-same, unlinked, unchained}}
 use Rattle.stabbing_index.specs.Build.{Builds}
 use Rattle.stabbing.proofs.Block.{rows-sorted, rows-days}
 
@@ -54,25 +54,15 @@ rows-laid {a = a} xs n h g i j = let l : length (take n xs) ≡ n = length-take-
 -- ---- the columns of links
 module _ {xs ys fs ls : List ℕ} {n : ℕ} (q : Columns xs ys fs ls n) where
   -- a column of marks, and the last days beside it
-  module _ {ws : List ℕ} {f : ℕ → ℕ} {k : ℕ} (w : FilledTo ws f k) (past : (p : ℕ) → k ≤ p → f p ≡ 0) (small : (p : ℕ) → f p ≤ length fs) where
+  module _ {ws : List ℕ} {f : ℕ → ℕ} (w : Holding ws f) (small : (p : ℕ) → f p ≤ length fs) where
     marked : MarksIn ws
-    marked = record { small = λ p g. omega (arith, held-at w past p, small p, q .count, q .few) }
+    marked = record { small = λ p g. omega (arith, w .words p, small p, q .count, q .few) }
 
     marks-laid : {e x : List ℕ} {a b : ℕ} → Extends e a b (markWords ys ws) x → Extends e a b (beside ls f) x
     marks-laid i = rw (
-      column-ext capacity (λ p. lastOf ys (getD ws p 0)) (λ p. lastOf ls (f p)) (λ p _. ap (lastOf ys) (held-at w past p) ∙ same-last (f p) q (omega (arith, small p, q .count))),
-      column-only capacity f ws (w .size) (λ p _. held-at w past p),
+      column-ext capacity (λ p. lastOf ys (getD ws p 0)) (λ p. lastOf ls (f p)) (λ p _. ap (lastOf ys) (w .words p) ∙ same-last (f p) q (omega (arith, small p, q .count))),
+      column-only capacity f ws (w .size) (λ p _. w .words p),
     ) at i
-
-  -- there is no link past the rows
-  past-heads : (link : ℕ → ℕ) (p : ℕ) → n ≤ p → headLink fs ls link p ≡ 0
-  past-heads link p h = head-past fs ls link p (omega (arith, q .count))
-
-  past-rows : (p : ℕ) → suc n ≤ p → rowLink fs ls (next fs ls) p ≡ 0
-  past-rows p h = row-past fs ls (next fs ls) p (omega (arith, q .count))
-
-  last-children : {cs : List ℕ} → FilledTo cs (headLink fs ls (λ v. child fs ls (suc v) n)) n → FilledTo cs (headLink fs ls (lastChild fs ls)) n
-  last-children w = unfold lastChild in held-same w (λ v. rw (q .count))
 
 -- ---- the links and the tables by day, one column after another
 pub days-laid : {fs ls ss bs : List ℕ} → Dayed fs ls ss bs dayCount → {e m x : List ℕ} → Extends e startTable (startTable + length ss) ss m → Extends m latestTable (latestTable + length bs) bs x → Extends e startTable bucketTable (dayWords fs ls) x
@@ -97,31 +87,38 @@ module _ (xs ys : List ℕ) (n : ℕ) (rows : RowsOf xs ys n) where
   ls = take n ys
 
   module _ {ps qs cs : List ℕ} (found : Linked fs ls ps qs cs n) where
+    -- the links of all heads
+    links : Linked fs ls ps qs cs (length fs)
+    links = rw (rows .count) found
+
     pub left-marks : MarksIn qs
-    left-marks = marked columns-of (found .lefts) (past-heads columns-of (leftSibling fs ls)) (left-small fs ls)
+    left-marks = marked columns-of (links .lefts) (left-small fs ls)
 
     pub child-marks : MarksIn cs
-    child-marks = marked columns-of (last-children columns-of (found .children)) (past-heads columns-of (lastChild fs ls)) (child-small fs ls)
+    child-marks = unfold lastChild in marked columns-of (links .children) (child-small fs ls)
 
     pub days-asked : DaysAsks xs ys n ps
     days-asked = record {
       columns = columns-of;
       begins = λ p h. rows-days fs ls (rows .in-order) p (omega (arith, rows .count)) .0;
       forward = λ p h. rows-days fs ls (rows .in-order) p (omega (arith, rows .count)) .1;
-      parents = λ v h hv. found .parents .words v h ∙ head-link fs ls (parent fs ls) v (omega (arith, rows .count)) hv;
+      parents = λ v h hv. found .parents .words v ∙ rw (lt-ltb v n h, hv);
     }
 
     module _ {ns : List ℕ} (chains : Chained fs ls ns n) where
+      nexts : Holding ns (rowLink fs ls (next fs ls))
+      nexts = holding-same (chains .nexts) (λ v. by-test (ltb v (suc n)) (λ e. rw e) (λ e. rw e (sym (row-past fs ls (next fs ls) v (omega (arith, rows .count, ltb-false v (suc n) e))))))
+
       pub next-marks : MarksIn ns
-      next-marks = marked columns-of chains (past-rows columns-of) (next-small fs ls)
+      next-marks = marked columns-of nexts (next-small fs ls)
 
       pub tree-laid : {e₀ e₁ e₂ e₃ e₄ e₅ : List ℕ} → Extends e₀ parentColumn (parentColumn + length ps) ps e₁ → Extends e₁ leftColumn childColumn (markWords ys qs) e₂ → Extends e₂ childColumn nextColumn (markWords ys cs) e₃
           → Extends e₃ nextColumn startTable (markWords ys ns) e₄ → Extends e₄ startTable bucketTable (dayWords fs ls) e₅ → Extends e₀ parentColumn bucketTable (linkWords fs ls ++ dayWords fs ls) e₅
-      tree-laid parents left child chain days = unfold linkWords in laid-more (laid-more (laid-more (laid-more
-          (laid-column capacity (headLink fs ls (parent fs ls)) (found .parents .size) (λ p _. held-at (found .parents) (past-heads columns-of (parent fs ls)) p) parents)
-          (marks-laid columns-of (found .lefts) (past-heads columns-of (leftSibling fs ls)) (left-small fs ls) left))
-          (marks-laid columns-of (last-children columns-of (found .children)) (past-heads columns-of (lastChild fs ls)) (child-small fs ls) child))
-          (marks-laid columns-of chains (past-rows columns-of) (next-small fs ls) chain))
+      tree-laid parents left child chain days = unfold linkWords lastChild in laid-more (laid-more (laid-more (laid-more
+          (laid-column capacity (headLink fs ls (parent fs ls)) (links .parents .size) (λ p _. links .parents .words p) parents)
+          (marks-laid columns-of (links .lefts) (left-small fs ls) left))
+          (marks-laid columns-of (links .children) (child-small fs ls) child))
+          (marks-laid columns-of nexts (next-small fs ls) chain))
           days
 
 -- ---- the whole block

@@ -1,6 +1,6 @@
 -- Words laid into a block from a place on. Assumes nothing.
 use Rattle.buffer.{specs.Buffer.overlaid, proofs.Overlaid.overlaid-all}
-use Rattle.stabbing_index.proofs.Names.{_∙_, _≡_, ap, refl, sym, _+_, _-_, _<_, _≤_, zero-le, ℕ, List, _++_, append-assoc, append-nil, drop, drop-of-length-le, getD, length, length-append, length-drop, length-set, set, take, ext-getD, getD-drop, getD-set-other, getD-set-same, getD-take, length-take-le, take-add, take-all, take-append-add, take-append-seam, take-at, take-take, arith, by-eq, needs, column, column-only, column-at, column-length, lastOf, markWords, MarksIn, Extends, bucketTable, rowCount, indexLength}
+use Rattle.stabbing_index.proofs.Names.{suc, _≢_, ltb, lt-ltb, le-ltb, ltb-true, ltb-false, by-test, _∙_, _≡_, ap, refl, sym, _+_, _-_, _<_, _≤_, zero-le, ℕ, List, _++_, append-assoc, append-nil, drop, drop-of-length-le, getD, length, length-append, length-drop, length-set, set, take, ext-getD, getD-drop, getD-set-other, getD-set-same, getD-take, length-take-le, take-add, take-all, take-append-add, take-append-seam, take-at, take-take, arith, by-eq, needs, column, column-only, column-at, column-length, lastOf, markWords, MarksIn, Extends, bucketTable, rowCount, indexLength}
 
 -- of `size` words from base on the first k are those of f, and the words before base are kept
 pub record Laying (entry : List ℕ) (base size : ℕ) (f : ℕ → ℕ) (k : ℕ) (now : List ℕ) : Type 0 where
@@ -61,6 +61,12 @@ laid-over {e} {m} {us = us} g i j =
 -- the same columns, word by word
 pub column-ext : (n : ℕ) (f g : ℕ → ℕ) → ((p : ℕ) → p < n → f p ≡ g p) → column n f ≡ column n g
 column-ext n f g e = column-only n g (column n f) (column-length n f) (λ p h. column-at n f p h ∙ e p h)
+
+-- a bound of one more is the same to all but one
+pub below-other : (v k : ℕ) → v ≢ k → ltb v k ≡ ltb v (suc k)
+below-other v k n = by-test (ltb v k)
+    (λ e. rw (e, lt-ltb v (suc k) (omega (arith, ltb-true v k e))))
+    (λ e. rw (e, le-ltb v (suc k) (omega (arith, ltb-false v k e))))
 
 -- ---- marks, and the last days of the rows that they name
 pub mark-small : {marks : List ℕ} {k m : ℕ} → MarksIn marks → k < 1024 → m ≡ getD marks k 0 → m ≤ 1024

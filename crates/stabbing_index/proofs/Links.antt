@@ -1,6 +1,6 @@
 -- The steps of the builder over what it reads and has written, apart from the code. Assumes nothing.
 use mir.{Val.Fits, Syntax.{w16, w64}}
-use Rattle.stabbing_index.proofs.{Names.{ap, not, not-true, not-false, needs, _∙_, _≡_, refl, sym, _*_, _+_, _-_, _<_, _≤_, suc, zero, zero-le, ℕ, List, Bool, false, true, _≢_, eqb, leb, ltb, List·getD-eq-default, getD, getD-replicate, length, length-replicate, length-set, replicate, set, getD-set-other, getD-set-same, le-refl, add-one, arith, eqb-false, eqb-true, le-leb, lt-leb, lt-ltb, ltb-false, ltb-true, by-eq, by-mark, by-test, clash, Way, below, dayAt, head, next, parent, child, leftSibling, headLink, rowLink, Head, bottom, below-hit, below-miss, head-link, bottom-is, parent-is, child-is, left-is, head-false, next-none, next-some, lastsTo, Columns, FilledTo, Linked, Chained, headAt, ClimbAt, Climbed, HeadAt}, Parents.{parent-bottom, over-bottom, child-bottom, over-up, child-up, lasts-up, child-next, child-same}}
+use Rattle.stabbing_index.proofs.{Laying.below-other, Names.{le-ltb, ap, not, not-true, not-false, needs, _∙_, _≡_, refl, sym, _*_, _+_, _-_, _<_, _≤_, suc, zero, zero-le, ℕ, List, Bool, false, true, _≢_, eqb, leb, ltb, List·getD-eq-default, getD, getD-replicate, length, length-replicate, length-set, replicate, set, getD-set-other, getD-set-same, le-refl, add-one, arith, eqb-false, eqb-true, le-leb, lt-leb, lt-ltb, ltb-false, ltb-true, by-eq, by-mark, by-test, clash, Way, below, dayAt, head, next, parent, child, leftSibling, headLink, rowLink, Head, bottom, below-hit, below-miss, bottom-is, parent-is, child-is, left-is, head-false, next-none, next-some, lastsTo, Columns, Holding, linksTo, Linked, Chained, headAt, ClimbAt, Climbed, HeadAt}, Parents.{parent-bottom, over-bottom, child-bottom, over-up, child-up, lasts-up, child-next, child-same}}
 
 -- a head by its column
 pub head-is : {xs ys fs ls : List ℕ} {n : ℕ} (k : ℕ) → Columns xs ys fs ls n → k < n → headAt xs n k ≡ head fs ls k
@@ -50,62 +50,76 @@ module _ {xs ys fs ls : List ℕ} {n : ℕ} {ps : List ℕ} {m : ℕ} (q : Climb
         left = λ a o _. let o′ = rw (z .0) at o in g .left a (rw j-is (over-up fs ls v a top o′)) (rw (j-is, child-up fs ls v a top o′) (z .0));
       }
 
--- ---- a column, one word more
-held-none : {f : ℕ → ℕ} (size : ℕ) → size ≡ 1024 → FilledTo (replicate size 0) f 0
-held-none size e = record {
-  size = length-replicate {A = ℕ} size 0 ∙ e;
-  words = λ v h. absurd (omega arith);
-  rest = λ v _. by-test (ltb v size)
-      (λ h. getD-replicate size v 0 0 (ltb-true v size h))
-      (λ h. List·getD-eq-default (replicate size 0) 0 {n = v} (omega (arith, length-replicate {A = ℕ} size 0, ltb-false v size h)));
-}
-
-module _ {ws : List ℕ} {f : ℕ → ℕ} {k : ℕ} (q : FilledTo ws f k) where
-  held-skip : f k ≡ 0 → FilledTo ws f (suc k)
-  held-skip z = record {
-    size = q .size;
-    words = λ v h. by-eq v k (omega arith) (λ e. rw e (q .rest k (le-refl k) ∙ sym z)) (q .words v);
-    rest = λ v h. q .rest v (omega arith);
+-- ---- a column, and one word more
+module _ {f : ℕ → ℕ} where
+  holding-none : (size : ℕ) → size ≡ 1024 → ((v : ℕ) → f v ≡ 0) → Holding (replicate size 0) f
+  holding-none size e z = record {
+    size = length-replicate {A = ℕ} size 0 ∙ e;
+    words = λ v. by-test (ltb v size)
+        (λ h. getD-replicate size v 0 0 (ltb-true v size h))
+        (λ h. List·getD-eq-default (replicate size 0) 0 {n = v} (omega (arith, length-replicate {A = ℕ} size 0, ltb-false v size h)))
+        ∙ sym (z v);
   }
 
-  held-set : (x : ℕ) → k < 1024 → x ≡ f k → FilledTo (set ws k x) f (suc k)
-  held-set x h z = record {
-    size = length-set ws k x ∙ q .size;
-    words = λ v g. by-eq v k (omega arith)
-        (λ e. rw e (getD-set-same ws k x 0 (omega (arith, q .size)) ∙ z))
-        (λ lt. getD-set-other ws k v x 0 (λ e. omega arith) ∙ q .words v lt);
-    rest = λ v g. getD-set-other ws k v x 0 (λ e. omega arith) ∙ q .rest v (omega arith);
-  }
+  module _ {ws : List ℕ} {g : ℕ → ℕ} (q : Holding ws f) where
+    pub holding-same : ((v : ℕ) → f v ≡ g v) → Holding ws g
+    holding-same e = record { size = q .size; words = λ v. q .words v ∙ e v }
 
-  pub held-same : {g : ℕ → ℕ} → ((v : ℕ) → f v ≡ g v) → FilledTo ws g k
-  held-same e = record { size = q .size; words = λ v h. q .words v h ∙ e v; rest = q .rest }
-
-  -- every word of it, where f too is 0 from k on
-  pub held-at : ((v : ℕ) → k ≤ v → f v ≡ 0) → (v : ℕ) → getD ws v 0 ≡ f v
-  held-at z v = by-test (ltb v k) (λ e. q .words v (ltb-true v k e)) (λ e. q .rest v (ltb-false v k e) ∙ sym (z v (ltb-false v k e)))
+    holding-set : (u x : ℕ) → u < 1024 → x ≡ g u → ((v : ℕ) → v ≢ u → f v ≡ g v) → Holding (set ws u x) g
+    holding-set u x h z e = record {
+      size = length-set ws u x ∙ q .size;
+      words = λ v. by-test (eqb v u)
+          (λ t. rw (eqb-true v u t) (getD-set-same ws u x 0 (omega (arith, q .size)) ∙ z))
+          (λ t. getD-set-other ws u v x 0 (eqb-false v u t) ∙ q .words v ∙ e v (eqb-false v u t));
+    }
 
 -- ---- one position more
-child-none : (fs ls : List ℕ) (k : ℕ) → child fs ls (suc k) (suc k) ≡ 0
-child-none fs ls k = by-mark (child fs ls (suc k) (suc k)) (λ z. z) (λ b z.
-    let c = child-is fs ls (suc k) (suc k) in absurd (omega (arith, c .within, c .hit b z .1, parent-is fs ls b .within)))
+module _ (fs ls : List ℕ) (k : ℕ) where
+  child-none : child fs ls (suc k) (suc k) ≡ 0
+  child-none = by-mark (child fs ls (suc k) (suc k)) (λ z. z) (λ b z.
+      let c = child-is fs ls (suc k) (suc k) in absurd (omega (arith, c .within, c .hit b z .1, parent-is fs ls b .within)))
 
-module _ (fs ls : List ℕ) where
-  -- a link of what is no head
-  link-none : (link : ℕ → ℕ) (p : ℕ) → head fs ls p ≡ false → headLink fs ls link p ≡ 0
-  link-none link p h = by-test (ltb p (length fs)) (λ e. rw (e, h)) (λ e. rw e)
+  -- the links of the heads below it, with none of its own
+  link-on : (link link′ : ℕ → ℕ) (v : ℕ) → (v ≢ k → link v ≡ link′ v) → (v ≡ k → Head fs ls k → link′ k ≡ 0) → linksTo fs ls link k v ≡ linksTo fs ls link′ (suc k) v
+  link-on link link′ v f g = by-test (eqb v k)
+      (λ e. let z : v ≡ k = eqb-true v k e in rw (z, le-ltb k k (le-refl k), lt-ltb k (suc k) (le-refl (suc k))) (by-test (head fs ls k) (λ h. rw (h, g z h)) (λ h. rw h)))
+      (λ e. rw (below-other v k (eqb-false v k e), f (eqb-false v k e)))
+
+  child-on : (v : ℕ) → (Head fs ls k → parent fs ls k ≢ suc v) → linksTo fs ls (λ u. child fs ls (suc u) k) k v ≡ linksTo fs ls (λ u. child fs ls (suc u) (suc k)) (suc k) v
+  child-on v f = link-on (λ u. child fs ls (suc u) k) (λ u. child fs ls (suc u) (suc k)) v (λ _. sym (child-same fs ls (suc v) k f)) (λ _ _. child-none)
+
+  module _ {ws : List ℕ} (link : ℕ → ℕ) (q : Holding ws (linksTo fs ls link k)) where
+    link-skip : head fs ls k ≡ false → Holding ws (linksTo fs ls link (suc k))
+    link-skip np = holding-same q (λ v. link-on link link v (λ _. refl) (λ _ h. absurd (clash h np)))
+
+    link-set : Head fs ls k → k < 1024 → {x : ℕ} → x ≡ link k → Holding (set ws k x) (linksTo fs ls link (suc k))
+    link-set hk h z = holding-set q k _ h (z ∙ sym (rw (lt-ltb k (suc k) (le-refl (suc k)), hk))) (λ v n. link-on link link v (λ _. refl) (λ y. absurd (n y)))
 
   -- the chain's link of the position above a head, and above what is none
-  next-link-none : (k : ℕ) → Head fs ls k → rowLink fs ls (next fs ls) (suc k) ≡ 0
-  next-link-none k h = by-test (ltb (suc k) (length fs)) (λ e. rw (e, next-none fs ls k h (ltb-true (suc k) (length fs) e))) (λ e. rw e)
+  next-link-none : Head fs ls k → rowLink fs ls (next fs ls) (suc k) ≡ 0
+  next-link-none h = by-test (ltb (suc k) (length fs)) (λ e. rw (e, next-none fs ls k h (ltb-true (suc k) (length fs) e))) (λ e. rw e)
 
-  next-link : (k : ℕ) → k < length fs → head fs ls k ≡ false → suc k ≡ rowLink fs ls (next fs ls) (suc k)
-  next-link k h e = sym (rw (lt-ltb (suc k) (length fs) (head-false fs ls k h e .0), next-some fs ls k h e))
+  next-link : k < length fs → head fs ls k ≡ false → suc k ≡ rowLink fs ls (next fs ls) (suc k)
+  next-link h e = sym (rw (lt-ltb (suc k) (length fs) (head-false fs ls k h e .0), next-some fs ls k h e))
+
+  module _ {ns : List ℕ} (q : Chained fs ls ns k) where
+    chain-skip : Head fs ls k → Chained fs ls ns (suc k)
+    chain-skip h = record { nexts = holding-same (q .nexts) (λ v. by-test (eqb v (suc k))
+        (λ e. rw (eqb-true v (suc k) e, le-ltb (suc k) (suc k) (le-refl (suc k)), lt-ltb (suc k) (suc (suc k)) (le-refl (suc (suc k)))) (sym (next-link-none h)))
+        (λ e. rw (below-other v (suc k) (eqb-false v (suc k) e)))) }
+
+    chain-set : head fs ls k ≡ false → suc k < length fs → length fs ≤ 1024 → Chained fs ls (set ns (suc k) (suc k)) (suc k)
+    chain-set np h l = record { nexts = holding-set (q .nexts) (suc k) (suc k) (omega arith)
+        (rw (lt-ltb (suc k) (suc (suc k)) (le-refl (suc (suc k)))) (next-link (omega arith) np)) (λ v n. rw (below-other v (suc k) n)) }
 
 pub unlinked : {fs ls : List ℕ} (size : ℕ) → size ≡ 1024 → Linked fs ls (replicate size 0) (replicate size 0) (replicate size 0) 0
-unlinked size e = record { parents = held-none size e; lefts = held-none size e; children = held-none size e }
+unlinked size e = let none : (v : ℕ) → ltb v 0 ≡ false = λ v. le-ltb v 0 zero-le in
+    record { parents = holding-none size e (λ v. rw (none v)); lefts = holding-none size e (λ v. rw (none v)); children = holding-none size e (λ v. rw (none v)) }
 
-pub unchained : (fs ls : List ℕ) (size : ℕ) → size ≡ 1024 → Chained fs ls (replicate size 0) 0
-unchained fs ls size e = unfold next in held-skip (held-none size e) (by-test (ltb 0 (length fs)) (λ z. rw z) (λ z. rw z))
+pub unchained : {fs ls : List ℕ} (size : ℕ) → size ≡ 1024 → Chained fs ls (replicate size 0) 0
+unchained {fs} size e = unfold next in record { nexts = holding-none size e (λ v. by-mark v
+    (λ z. rw z (by-test (ltb 0 (length fs)) (λ y. rw y) (λ y. rw y)))
+    (λ u z. rw (z, le-ltb (suc u) 1 (omega arith)))) }
 
 -- a head
 module _ {xs ys fs ls : List ℕ} {n k prev : ℕ} {ps qs cs : List ℕ} (q : HeadAt xs ys fs ls n k prev ps qs cs) where
@@ -120,7 +134,7 @@ module _ {xs ys fs ls : List ℕ} {n k prev : ℕ} {ps qs cs : List ℕ} (q : He
     columns = q .columns;
     within = omega (arith, q .before, i .within, q .inside);
     at-head = λ v z. i .hit v (sym (q .before) ∙ z);
-    parents = λ v a hv. q .links .parents .words v (omega (arith, q .before, i .within)) ∙ head-link fs ls (parent fs ls) v (omega (arith, q .before, i .within, in-list)) hv;
+    parents = λ v a hv. q .links .parents .words v ∙ rw (lt-ltb v k (omega (arith, q .before, i .within)), hv);
   }
 
   module _ {w : Way} (g : Climbed fs ls (getD ys k 0) prev 0 w) where
@@ -149,39 +163,25 @@ module _ {xs ys fs ls : List ℕ} {n k prev : ℕ} {ps qs cs : List ℕ} (q : He
     pub parent-at : w .parent - 1 < 1024
     parent-at = omega (arith, small, room)
 
-    -- the children's column, by what was written there
-    linked : (cs′ : List ℕ) → length cs′ ≡ 1024
-        → ((v : ℕ) → parent fs ls k ≡ suc v → getD cs′ v 0 ≡ suc k)
-        → ((v : ℕ) → parent fs ls k ≢ suc v → getD cs′ v 0 ≡ getD cs v 0)
-        → Linked fs ls (set ps k (w .parent)) (set qs k (w .left)) cs′ (suc k)
-    linked cs′ s c₁ c₂ = let i = parent-is fs ls k in record {
-      parents = held-set (q .links .parents) (w .parent) room (parent-of ∙ sym (head-link fs ls (parent fs ls) k in-list (q .top)));
-      lefts = held-set (q .links .lefts) (w .left) room (left-of ∙ sym (head-link fs ls (leftSibling fs ls) k in-list (q .top)));
-      children = record {
-        size = s;
-        words = λ v a. by-test (eqb (parent fs ls k) (suc v))
-            (λ t.
-            let y : parent fs ls k ≡ suc v = eqb-true _ _ t in
-            c₁ v y ∙ sym (head-link fs ls (λ u. child fs ls (suc u) (suc k)) v (omega (arith, in-list)) (i .hit v y .0) ∙ child-next fs ls (suc v) k (q .top) y))
-            (λ t.
-            let y : parent fs ls k ≢ suc v = eqb-false _ _ t in
-            c₂ v y ∙ by-eq v k (omega arith)
-            (λ z. rw z (q .links .children .rest k (le-refl k) ∙ sym (head-link fs ls (λ u. child fs ls (suc u) (suc k)) k in-list (q .top) ∙ child-none fs ls k)))
-            (λ lt. q .links .children .words v lt ∙ rw (child-same fs ls (suc v) k (λ _. y))));
-        rest = λ v a. c₂ v (λ y. omega (arith, i .within)) ∙ q .links .children .rest v (omega arith);
-      };
+    -- the links, where the children's column holds those of its parent too
+    linked : {cs′ : List ℕ} → Holding cs′ (linksTo fs ls (λ v. child fs ls (suc v) (suc k)) (suc k)) → Linked fs ls (set ps k (w .parent)) (set qs k (w .left)) cs′ (suc k)
+    linked c = record {
+      parents = link-set fs ls k (parent fs ls) (q .links .parents) (q .top) room parent-of;
+      lefts = link-set fs ls k (leftSibling fs ls) (q .links .lefts) (q .top) room left-of;
+      children = c;
     }
 
     -- no parent
     pub linked-root : w .parent ≡ 0 → Linked fs ls (set ps k (w .parent)) (set qs k (w .left)) cs (suc k)
-    linked-root z = linked cs (q .links .children .size) (λ v y. absurd (omega (arith, parent-of))) (λ v y. refl)
+    linked-root z = linked (holding-same (q .links .children) (λ v. child-on fs ls k v (λ _ y. omega (arith, parent-of))))
 
     -- a parent: k is its last child so far
     pub linked-child : w .parent ≢ 0 → Linked fs ls (set ps k (w .parent)) (set qs k (w .left)) (set cs (w .parent - 1) (k + 1)) (suc k)
     linked-child z = let u : ℕ = w .parent - 1 in
-        linked (set cs u (k + 1)) (length-set cs u _ ∙ q .links .children .size)
-        (λ v y. let x : u ≡ v = omega (arith, parent-of) in rw (← x) (getD-set-same cs u (k + 1) 0 (omega (arith, small, room, q .links .children .size)) ∙ omega arith))
-        (λ v y. getD-set-other cs u v (k + 1) 0 (λ x. y (omega (arith, parent-of))))
+        let y : parent fs ls k ≡ suc u = omega (arith, parent-of) in
+        linked (holding-set (q .links .children) u (k + 1) (omega (arith, small, room))
+        (add-one k ∙ sym (rw (lt-ltb u (suc k) (omega (arith, small)), parent-is fs ls k .hit u y .0, child-next fs ls (suc u) k (q .top) y)))
+        (λ v n. child-on fs ls k v (λ _ x. n (omega arith))))
 
 -- ---- `link`, position after position: the links of the heads before k, of which prev is the last, and of the chains
 pub record Linking (xs ys fs ls : List ℕ) (n : ℕ) (ps qs cs ns : List ℕ) (prev k : ℕ) : Type 0 where
@@ -210,26 +210,29 @@ module _ {xs ys fs ls : List ℕ} {n k prev : ℕ} {ps qs cs ns : List ℕ} (i :
 
     pub turn-head : r ≡ true → {ps′ qs′ cs′ : List ℕ} → Linked fs ls ps′ qs′ cs′ (suc k) → Linking xs ys fs ls n ps′ qs′ cs′ ns (k + 1) (k + 1)
     turn-head z g = let h : Head fs ls k = sym is-head ∙ z in
-        rw (add-one k) (record { columns = i .columns; links = g; before = sym (below-hit (head fs ls) k h); chains = held-skip (i .chains) (next-link-none fs ls k h); within = inside })
+        rw (add-one k) (record { columns = i .columns; links = g; before = sym (below-hit (head fs ls) k h); chains = chain-skip fs ls k (i .chains) h; within = inside })
 
     -- no head
     module _ (z : r ≡ false) where
       np : head fs ls k ≡ false
       np = sym is-head ∙ z
 
+      more : suc k < length fs
+      more = head-false fs ls k (rw (i .columns .count) inside) np .0
+
       pub goes-on : k + 1 < 1024
-      goes-on = omega (arith, head-false fs ls k (rw (i .columns .count) inside) np .0, i .columns .count, i .columns .few)
+      goes-on = omega (arith, more, i .columns .count, i .columns .few)
 
       pub turn-skip : Linking xs ys fs ls n ps qs cs (set ns (k + 1) (k + 1)) prev (k + 1)
       turn-skip = rw (add-one k) (record {
         columns = i .columns;
         links = record {
-          parents = held-skip (i .links .parents) (link-none fs ls (parent fs ls) k np);
-          lefts = held-skip (i .links .lefts) (link-none fs ls (leftSibling fs ls) k np);
-          children = held-same (held-skip (i .links .children) (link-none fs ls (λ v. child fs ls (suc v) k) k np)) (λ v. rw (child-same fs ls (suc v) k (λ hk. absurd (clash hk np))));
+          parents = link-skip fs ls k (parent fs ls) (i .links .parents) np;
+          lefts = link-skip fs ls k (leftSibling fs ls) (i .links .lefts) np;
+          children = holding-same (i .links .children) (λ v. child-on fs ls k v (λ h. absurd (clash h np)));
         };
         before = i .before ∙ sym (below-miss (head fs ls) k np);
-        chains = held-set (i .chains) (suc k) (omega (arith, goes-on)) (next-link fs ls k (rw (i .columns .count) inside) np);
+        chains = chain-set fs ls k (i .chains) np more (omega (arith, i .columns .count, i .columns .few));
         within = inside;
       })
 

@@ -1,5 +1,5 @@
 -- The buckets of the numbers, row by row. Assumes nothing.
-use Rattle.stabbing_index.proofs.{Names.{_≤_, needs, _∙_, _≡_, ap, refl, sym, _%_, _+_, _<_, suc, zero-le, ℕ, List, Bool, _≢_, eqb, ltb, getD, length, length-set, set, getD-set-other, getD-set-same, le-refl, add-one, arith, eqb-false, eqb-true, le-ltb, lt-ltb, ltb-false, ltb-true, by-test, below, capacity, bucketCount, bucketTable, lowerColumn, rowCount, indexLength, column, bucketOf, inBucket, below-hit, below-miss, Extends, lowerWord, nameWords, Blank}, Laying.{laying-all, laid-more}}
+use Rattle.stabbing_index.proofs.{Names.{_≤_, needs, _∙_, _≡_, ap, refl, sym, _%_, _+_, _<_, suc, zero-le, ℕ, List, Bool, _≢_, eqb, ltb, getD, length, length-set, set, getD-set-other, getD-set-same, le-refl, add-one, arith, eqb-false, eqb-true, le-ltb, lt-ltb, ltb-false, ltb-true, by-test, below, capacity, bucketCount, bucketTable, lowerColumn, rowCount, indexLength, column, bucketOf, inBucket, below-hit, below-miss, Extends, lowerWord, nameWords, Blank}, Laying.{laying-all, laid-more, below-other}}
 
 -- of the numbers xs the first k are in their buckets, and the words before the buckets are kept
 pub record Naming (entry xs : List ℕ) (k : ℕ) (now : List ℕ) : Type 0 where
@@ -20,9 +20,7 @@ nobody {entry} b = unfold inBucket below in record {
 
 -- what the rows before lead to stays
 lower-keep : (xs : List ℕ) (j k : ℕ) → j ≢ k → lowerWord xs k j ≡ lowerWord xs (suc k) j
-lower-keep xs j k n = by-test (ltb j k)
-    (λ e. rw (e, lt-ltb j (suc k) (omega (arith, ltb-true j k e))))
-    (λ e. rw (e, le-ltb j (suc k) (omega (arith, ltb-false j k e))))
+lower-keep xs j k n = rw (below-other j k n)
 
 -- one row more: the row k, with the number x
 module _ {entry xs now : List ℕ} {k n x : ℕ} (i : Naming entry xs k now) (long : length entry ≡ indexLength) (h : k < n) (few : n ≤ 1024) (e : x ≡ getD xs k 0) where

@@ -62,24 +62,27 @@ ClimbGives xs ys n l m k w = Climbed (take n xs) (take n ys) l m k w
 
 -- ---- The links
 
--- the words of a column below k are those of f, and from k on they are 0
-pub record FilledTo (ws : List ℕ) (f : ℕ → ℕ) (k : ℕ) : Type 0 where
+-- the column ws holds what f gives of each position
+pub record Holding (ws : List ℕ) (f : ℕ → ℕ) : Type 0 where
   pub size : length ws ≡ capacity
-  pub words : (v : ℕ) → v < k → getD ws v 0 ≡ f v
-  pub rest : (v : ℕ) → k ≤ v → getD ws v 0 ≡ 0
+  pub words : (v : ℕ) → getD ws v 0 ≡ f v
+
+-- a link of the heads below k, none of other positions
+abbrev pub linksTo : List ℕ → List ℕ → (ℕ → ℕ) → ℕ → ℕ → ℕ
+linksTo fs ls link k v = cond (ltb v k && head fs ls v) (link v) 0
 
 -- the columns ps, qs and cs hold the links of the heads below k: parents, left siblings, and of the children those below k
 pub record Linked (fs ls ps qs cs : List ℕ) (k : ℕ) : Type 0 where
-  pub parents : FilledTo ps (headLink fs ls (parent fs ls)) k
-  pub lefts : FilledTo qs (headLink fs ls (leftSibling fs ls)) k
-  pub children : FilledTo cs (headLink fs ls (λ v. child fs ls (suc v) k)) k
+  pub parents : Holding ps (linksTo fs ls (parent fs ls) k)
+  pub lefts : Holding qs (linksTo fs ls (leftSibling fs ls) k)
+  pub children : Holding cs (linksTo fs ls (λ v. child fs ls (suc v) k) k)
 
 abbrev pub LinkedOf : List ℕ → List ℕ → ℕ → List ℕ → List ℕ → List ℕ → ℕ → Type 0
 LinkedOf xs ys n ps qs cs k = Linked (take n xs) (take n ys) ps qs cs k
 
 -- the column ns holds the links of the chains, up to the position k
-abbrev pub Chained : List ℕ → List ℕ → List ℕ → ℕ → Type 0
-Chained fs ls ns k = FilledTo ns (rowLink fs ls (next fs ls)) (suc k)
+pub record Chained (fs ls ns : List ℕ) (k : ℕ) : Type 0 where
+  pub nexts : Holding ns (λ v. cond (ltb v (suc k)) (rowLink fs ls (next fs ls) v) 0)
 
 abbrev pub ChainedOf : List ℕ → List ℕ → ℕ → List ℕ → ℕ → Type 0
 ChainedOf xs ys n ns k = Chained (take n xs) (take n ys) ns k
