@@ -1,5 +1,5 @@
 -- The positions, and a list that is filled place by place. Assumes nothing.
-use Rattle.basis.proofs.Prelude.{needs, length-map, map-append, ℕ, zero, suc, _+_, _≤_, _<_, arith, add-one, _≡_, refl, sym, ap, _∙_, List, [], _∷_, _++_, map, length, getD, take, drop, set, length-set, drop-cons, set-at, append-snoc, take-at}
+use Rattle.basis.proofs.Prelude.{zero-add, needs, length-map, map-append, ℕ, zero, suc, _+_, _≤_, _<_, arith, add-one, _≡_, refl, sym, ap, _∙_, List, [], _∷_, _++_, map, length, getD, take, drop, set, length-set, drop-cons, set-at, append-snoc, take-at}
 use Rattle.orders.proofs.Each.{Each}
 use Rattle.columns.specs.Columns.{positions, filled}
 
@@ -49,20 +49,13 @@ module _ (f : ℕ → ℕ) where
   front-length : (n : ℕ) → length (map f (positions 0 n)) ≡ n
   front-length n = length-map (positions 0 n) f ∙ positions-length 0 n
 
-  pub filled-none : (l : List ℕ) → l ≡ filled f 0 l
-  unfolding filled positions
-  filled-none l = refl
-
-  pub filled-on : (i v : ℕ) (l k : List ℕ) → k ≡ filled f i l → v ≡ f i → i < length l → set k i v ≡ filled f (i + 1) l
-  unfolding filled
-  filled-on i v l k e w h =
-      rw (e, w, add-one i, drop-cons l i 0 h) (set-at (map f (positions 0 i)) (getD l i 0) (drop (suc i) l) (f i) i (front-length i)
-      ∙ sym (ap (λ (r : List ℕ). r ++ drop (suc i) l) (ap (map f) (positions-more 0 i) ∙ map-append f (positions 0 i) ((0 + i) ∷ []) ∙ ap (λ (z : ℕ). map f (positions 0 i) ++ (f z ∷ [])) (omega arith))
-      ∙ append-snoc (map f (positions 0 i)) (f i) (drop (suc i) l)))
+  filled-on : (i : ℕ) (l : List ℕ) → i < length l → set (filled f i l) i (f i) ≡ filled f (i + 1) l
+  filled-on i l h = unfold filled in
+      rw (add-one i, drop-cons l i 0 h, positions-more 0 i, map-append f (positions 0 i) ((0 + i) ∷ []), zero-add i, append-snoc (map f (positions 0 i)) (f i) (drop (suc i) l))
+      (set-at (map f (positions 0 i)) (getD l i 0) (drop (suc i) l) (f i) i (front-length i))
 
   pub filled-take : (n : ℕ) (l : List ℕ) → take n (filled f n l) ≡ map f (positions 0 n)
-  unfolding filled
-  filled-take n l = take-at (map f (positions 0 n)) (drop n l) n (front-length n)
+  filled-take n l = unfold filled in take-at (map f (positions 0 n)) (drop n l) n (front-length n)
 
 -- a list on its way: its first i places are filled
 pub record Filling (f : ℕ → ℕ) (n : ℕ) (l₀ l : List ℕ) (i : ℕ) : Type 0 where
@@ -73,18 +66,13 @@ pub record Filling (f : ℕ → ℕ) (n : ℕ) (l₀ l : List ℕ) (i : ℕ) : T
   pub so-far : l ≡ filled f i l₀
 
 pub fill-begins : (f : ℕ → ℕ) {n : ℕ} {l : List ℕ} → n ≤ 1024 → n ≤ length l → Filling f n l l 0
-fill-begins f {n} {l} few room = record { within = omega arith; few = few; room = room; kept = refl; so-far = filled-none f l }
+fill-begins f few room = unfold filled positions in record { within = omega arith; few = few; room = room; kept = refl; so-far = refl }
 
-pub fill-on : {f : ℕ → ℕ} {n i : ℕ} {l₀ l : List ℕ} → Filling f n l₀ l i → i < n → (v : ℕ) → v ≡ f i → Filling f n l₀ (set l i v) (i + 1)
-fill-on {f} {n} {i} {l₀} {l} q h v e = record {
-  within = omega arith;
-  few = q .few;
-  room = q .room;
-  kept = length-set l i v ∙ q .kept;
-  so-far = filled-on f i v l₀ l (q .so-far) e (omega (arith, q .room));
-}
+module _ {f : ℕ → ℕ} {n i : ℕ} {l₀ l : List ℕ} (q : Filling f n l₀ l i) where
+  pub fill-on : i < n → (v : ℕ) → v ≡ f i → Filling f n l₀ (set l i v) (i + 1)
+  fill-on h v e = let so-far : set l i v ≡ filled f (i + 1) l₀ = rw (q .so-far, e) (filled-on f i l₀ (omega arith)) in search (length-set, arith)
 
-pub fill-ends : {f : ℕ → ℕ} {n i : ℕ} {l₀ l : List ℕ} → Filling f n l₀ l i → n ≤ i → l ≡ filled f n l₀
-fill-ends {f} {n} {i} {l₀} {l} q h = let z : i ≡ n = omega (arith, q .within) in rw z at (q .so-far)
+  pub fill-ends : n ≤ i → l ≡ filled f n l₀
+  fill-ends h = let z : i ≡ n = omega arith in rw z at (q .so-far)
 
 pub ruleset filling = (fill-begins, fill-on, fill-ends, needs)

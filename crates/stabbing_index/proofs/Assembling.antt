@@ -67,7 +67,7 @@ module _ {xs ys fs ls : List ℕ} {n : ℕ} (q : Columns xs ys fs ls n) where
 -- ---- the links and the tables by day, one column after another
 pub days-laid : {fs ls ss bs : List ℕ} → Dayed fs ls ss bs dayCount → {e m x : List ℕ} → Extends e startTable (startTable + length ss) ss m → Extends m latestTable (latestTable + length bs) bs x → Extends e startTable bucketTable (dayWords fs ls) x
 unfolding dayWords
-days-laid {fs} {ls} q i j = laid-more (laid-column dayCount (λ d. start fs ls d d) (q .starts-size) (q .starts) i) (laid-column dayCount (latest fs ls) (q .begun-size) (q .begun) j)
+days-laid {fs} {ls} q i j = laid-more (laid-column dayCount (λ d. start fs ls d d) (q .starts .size) (q .starts .words) i) (laid-column dayCount (latest fs ls) (q .begun .size) (q .begun .words) j)
 
 -- ---- what the passes ask of rows that can be published, and what `link` found of them
 module _ (xs ys : List ℕ) (n : ℕ) (rows : RowsOf xs ys n) where

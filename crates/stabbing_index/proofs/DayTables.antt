@@ -1,6 +1,6 @@
 -- The steps of the tables by day, apart from the code. Assumes nothing.
 use mir.{Val.Fits, Syntax.w16}
-use Rattle.stabbing_index.proofs.Names.{needs, _∙_, _≡_, ap, sym, _+_, _<_, _≤_, suc, zero-le, ℕ, List, _≢_, leb, getD, length, length-set, set, getD-set-other, getD-set-same, add-one, arith, le-leb, leb-false, leb-true, both, by-eq, by-mark, by-test, dayCount, Way, below, dayAt, head, parent, start, Sorted, latest, below-is, below-skip, below-hit, latest-is, latest-before, lastsTo, nearest-is, start-nearest, Columns, ClimbAt, Climbed, Dayed, AdvanceAt, DaysAt, DayAt}
+use Rattle.stabbing_index.proofs.Names.{needs, _∙_, _≡_, ap, sym, _+_, _<_, _≤_, suc, zero-le, ℕ, List, _≢_, leb, getD, length, length-set, set, getD-set-other, getD-set-same, add-one, arith, le-leb, leb-false, leb-true, both, by-eq, by-mark, by-test, dayCount, Way, below, dayAt, head, parent, start, Sorted, latest, below-is, below-skip, below-hit, latest-is, latest-before, lastsTo, nearest-is, start-nearest, Columns, ClimbAt, Climbed, Tabled, Dayed, AdvanceAt, DaysAt, DayAt}
 use Rattle.stabbing.{proofs.Walk.start-is, proofs.Days.{latest-after, latest-rises, latest-none}}
 
 module _ (fs ls : List ℕ) (sorted : Sorted fs ls) where
@@ -10,13 +10,13 @@ module _ (fs ls : List ℕ) (sorted : Sorted fs ls) where
       start-nearest fs ls sorted d d ∙ nearest-is fs ls sorted d (length fs) (latest fs ls d) (i .within) (λ v z. i .hit v z .0)
 
   -- where no row begins on day d + 1, its start is the nearest that lasts to it from the start of day d upward
-  start-next : (d : ℕ) → latest fs ls (suc d) ≡ latest fs ls d → start fs ls (suc d) (suc d) ≡ below (lastsTo fs ls (suc d)) (start fs ls d d)
+  start-next : (d : ℕ) → latest fs ls (d + 1) ≡ latest fs ls d → start fs ls (d + 1) (d + 1) ≡ below (lastsTo fs ls (d + 1)) (start fs ls d d)
   start-next d e = let m = latest fs ls d in let s = below (lastsTo fs ls d) m in let b = below-is (lastsTo fs ls d) m in
-      rw (start-below (suc d), e, start-below d) (below-skip (lastsTo fs ls (suc d)) s m (b .within) (λ x g h z. let p = both (head fs ls x) (leb (suc d) (dayAt ls x)) z in
-      b .miss x g h (rw (p .0, le-leb d (dayAt ls x) (omega (arith, leb-true (suc d) (dayAt ls x) (p .1)))))))
+      rw (start-below (d + 1), e, start-below d) (below-skip (lastsTo fs ls (d + 1)) s m (b .within) (λ x g h z. let p = both (head fs ls x) (leb (d + 1) (dayAt ls x)) z in
+      b .miss x g h (rw (p .0, le-leb d (dayAt ls x) (omega (arith, leb-true (d + 1) (dayAt ls x) (p .1)))))))
 
-  later : (d : ℕ) → latest fs ls d ≤ latest fs ls (suc d)
-  later d = latest-rises fs ls sorted d (suc d) (omega arith)
+  later : (d : ℕ) → latest fs ls d ≤ latest fs ls (d + 1)
+  later d = latest-rises fs ls sorted d (d + 1) (omega arith)
 
 module _ {xs ys fs ls : List ℕ} {n d m : ℕ} (q : AdvanceAt xs ys fs ls n d m) where
   pub at-end : n ≤ m → m ≡ latest fs ls d
@@ -39,16 +39,15 @@ module _ {xs ys fs ls : List ℕ} {n : ℕ} {ps : List ℕ} {d m e s : ℕ} (q :
   c = q .rows .columns
 
   -- a head begins on the day
-  pub begins-here : m ≢ e → e ≡ start fs ls (suc d) (suc d)
-  begins-here ne = by-mark e
-      (λ z. absurd (ne (omega (arith, later fs ls (c .sorted) d, q .m-is, q .e-is))))
+  pub begins-here : m ≢ e → e ≡ start fs ls (d + 1) (d + 1)
+  begins-here ne = let i = latest-is fs ls (c .sorted) (d + 1) in let l = later fs ls (c .sorted) d in by-mark e
+      (λ z. absurd (ne (omega (arith, q .m-is, q .e-is))))
       (λ v z.
-      let i = latest-is fs ls (c .sorted) (suc d) in
       let hit = i .hit v (sym (q .e-is) ∙ z) in
       let v-in : v < length fs = omega (arith, i .within, q .e-is) in
-      let first : d < dayAt fs v = latest-is fs ls (c .sorted) d .miss v (omega (arith, later fs ls (c .sorted) d, q .m-is, q .e-is, ne)) v-in (hit .0) in
-      z ∙ sym (start-below fs ls (c .sorted) (suc d) ∙ ap (below (lastsTo fs ls (suc d))) (sym (q .e-is) ∙ z)
-      ∙ below-hit (lastsTo fs ls (suc d)) v (rw (hit .0, le-leb (suc d) (dayAt ls v) (omega (arith, q .rows .forward v (rw (c .count) at v-in)))))))
+      let first : d < dayAt fs v = latest-is fs ls (c .sorted) d .miss v (omega (arith, q .m-is, q .e-is, ne)) v-in (hit .0) in
+      z ∙ sym (rw (start-below fs ls (c .sorted) (d + 1), sym (q .e-is) ∙ z)
+      (below-hit (lastsTo fs ls (d + 1)) v (rw (hit .0, le-leb (d + 1) (dayAt ls v) (omega (arith, q .rows .forward v (rw (c .count) at v-in))))))))
 
   -- none does
   pub asks-climb : ClimbAt xs ys fs ls n ps s
@@ -59,8 +58,8 @@ module _ {xs ys fs ls : List ℕ} {n : ℕ} {ps : List ℕ} {d m e s : ℕ} (q :
     parents = λ v h hv. q .rows .parents v (omega (arith, q .s-is, i .within, c .count)) hv;
   }
 
-  pub from-before : m ≡ e → {w : Way} → Climbed fs ls (d + 1) s 0 w → w .parent ≡ start fs ls (suc d) (suc d)
-  from-before z g = g .parent ∙ rw (add-one d, q .s-is) (sym (start-next fs ls (c .sorted) d (sym (q .e-is) ∙ sym z ∙ q .m-is)))
+  pub from-before : m ≡ e → {w : Way} → Climbed fs ls (d + 1) s 0 w → w .parent ≡ start fs ls (d + 1) (d + 1)
+  from-before z g = g .parent ∙ rw (q .s-is) (sym (start-next fs ls (c .sorted) d (sym (q .e-is) ∙ sym z ∙ q .m-is)))
 
 -- ---- the tables, day after day: those of the days up to d, of which m is the latest and s the start
 pub record Tabling (xs ys fs ls : List ℕ) (n : ℕ) (ps ss bs : List ℕ) (d m s : ℕ) : Type 0 where
@@ -70,16 +69,11 @@ pub record Tabling (xs ys fs ls : List ℕ) (n : ℕ) (ps ss bs : List ℕ) (d m
   pub s-is : s ≡ start fs ls d d
   pub within : d ≤ 4000
 
--- a word more of a table, and of both
-tabled : (ws : List ℕ) (f : ℕ → ℕ) {d x : ℕ} → ((j : ℕ) → j < d → getD ws j 0 ≡ f j) → d < length ws → x ≡ f d → (j : ℕ) → j < d + 1 → getD (set ws d x) j 0 ≡ f j
-tabled ws f {d} {x} g h e j k = by-eq j d (omega arith) (λ z. rw z (getD-set-same ws d x 0 h ∙ e)) (λ lt. getD-set-other ws d j x 0 (λ z. omega arith) ∙ g j lt)
-
-day-more : {fs ls ss bs : List ℕ} {d m s : ℕ} → Dayed fs ls ss bs d → d < dayCount → s ≡ start fs ls d d → m ≡ latest fs ls d → Dayed fs ls (set ss d s) (set bs d m) (d + 1)
-day-more {fs} {ls} {ss} {bs} t h e g = record {
-  starts-size = length-set ss _ _ ∙ t .starts-size;
-  begun-size = length-set bs _ _ ∙ t .begun-size;
-  starts = tabled ss (λ x. start fs ls x x) (t .starts) (omega (arith, t .starts-size)) e;
-  begun = tabled bs (latest fs ls) (t .begun) (omega (arith, t .begun-size)) g;
+-- a word more of a table
+tabled : {ws : List ℕ} {f : ℕ → ℕ} {d x : ℕ} → Tabled ws f d → d < dayCount → x ≡ f d → Tabled (set ws d x) f (d + 1)
+tabled {ws} {f} {d} {x} t h e = record {
+  size = length-set ws d x ∙ t .size;
+  words = λ j k. by-eq j d (omega arith) (λ z. rw z (getD-set-same ws d x 0 (omega (arith, t .size)) ∙ e)) (λ lt. getD-set-other ws d j x 0 (λ z. omega arith) ∙ t .words j lt);
 }
 
 pub starts : {xs ys fs ls : List ℕ} {n : ℕ} {ps : List ℕ} → DaysAt xs ys fs ls n ps → (ss bs : List ℕ) → length ss ≡ dayCount → length bs ≡ dayCount → Tabling xs ys fs ls n ps (set ss 0 0) (set bs 0 0) 0 0 0
@@ -87,8 +81,8 @@ starts {fs = fs} {ls} q ss bs a b =
     let m-is : 0 ≡ latest fs ls 0 = sym (latest-none fs ls (q .columns .sorted) (λ p h. q .begins p (omega (arith, q .columns .count)))) in
     let s-is : 0 ≡ start fs ls 0 0 = by-mark (start fs ls 0 0) sym (λ v z. let i = start-is fs ls (q .columns .sorted) 0 0 in
     absurd (omega (arith, i .hit v z .1, q .begins v (omega (arith, i .within, q .columns .count))))) in
-    let none : Dayed fs ls ss bs 0 = record { starts-size = a; begun-size = b; starts = λ x h. absurd (omega arith); begun = λ x h. absurd (omega arith) } in
-    record { rows = q; tables = day-more none (omega arith) s-is m-is; m-is = m-is; s-is = s-is; within = zero-le }
+    let starts = tabled {ws = ss} {f = λ x. start fs ls x x} {d = 0} (record { size = a; words = λ x h. absurd (omega arith) }) (omega arith) s-is in
+    let begun = tabled {ws = bs} {f = latest fs ls} {d = 0} (record { size = b; words = λ x h. absurd (omega arith) }) (omega arith) m-is in search arith
 
 module _ {xs ys fs ls : List ℕ} {n : ℕ} {ps ss bs : List ℕ} {d m s : ℕ} (i : Tabling xs ys fs ls n ps ss bs d m s) where
   cs : Columns xs ys fs ls n
@@ -99,21 +93,17 @@ module _ {xs ys fs ls : List ℕ} {n : ℕ} {ps ss bs : List ℕ} {d m s : ℕ} 
 
   module _ (h : d < 4000) where
     pub asks-advance : AdvanceAt xs ys fs ls n (d + 1) m
-    asks-advance = record { columns = cs; below = rw (i .m-is, add-one d) (later fs ls (cs .sorted) d) }
+    asks-advance = record { columns = cs; below = rw (i .m-is) (later fs ls (cs .sorted) d) }
 
     module _ {e : ℕ} (e-is : e ≡ latest fs ls (d + 1)) where
-      pub asks-day : DayAt xs ys fs ls n ps d m e s
-      asks-day = record { rows = i .rows; in-calendar = h; m-is = i .m-is; e-is = e-is ∙ ap (latest fs ls) (add-one d); s-is = i .s-is }
-
       pub latest-fits : Fits w16 e
       latest-fits = record { fits = omega (arith, e-is, latest-is fs ls (cs .sorted) (d + 1) .within, cs .count, cs .few) }
 
-      module _ {r : ℕ} (r-is : r ≡ start fs ls (suc d) (suc d)) where
+      module _ {r : ℕ} (r-is : r ≡ start fs ls (d + 1) (d + 1)) where
         pub start-fits : Fits w16 r
-        start-fits = record { fits = omega (arith, r-is, start-is fs ls (cs .sorted) (suc d) (suc d) .within, cs .count, cs .few) }
+        start-fits = record { fits = omega (arith, r-is, start-is fs ls (cs .sorted) (d + 1) (d + 1) .within, cs .count, cs .few) }
 
         pub next-day : Tabling xs ys fs ls n ps (set ss (d + 1) r) (set bs (d + 1) e) (d + 1) e r
-        next-day = let s-is : r ≡ start fs ls (d + 1) (d + 1) = rw (add-one d) r-is in
-            record { rows = i .rows; tables = day-more (i .tables) (omega arith) s-is e-is; m-is = e-is; s-is = s-is; within = omega arith }
+        next-day = let starts = tabled (i .tables .starts) (omega arith) r-is in let begun = tabled (i .tables .begun) (omega arith) e-is in search arith
 
-pub ruleset steps = (at-end, stops, goes, begins-here, asks-climb, from-before, starts, all-days, asks-advance, asks-day, latest-fits, start-fits, next-day, needs)
+pub ruleset steps = (at-end, stops, goes, begins-here, asks-climb, from-before, starts, all-days, asks-advance, latest-fits, start-fits, next-day, needs)

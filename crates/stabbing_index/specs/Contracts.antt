@@ -126,7 +126,7 @@ pub record DayAt (xs ys fs ls : List ℕ) (n : ℕ) (ps : List ℕ) (d m e s : �
   pub rows : DaysAt xs ys fs ls n ps
   pub in-calendar : d < 4000
   pub m-is : m ≡ latest fs ls d
-  pub e-is : e ≡ latest fs ls (suc d)
+  pub e-is : e ≡ latest fs ls (d + 1)
   pub s-is : s ≡ start fs ls d d
 
 abbrev pub DayAsks : List ℕ → List ℕ → ℕ → List ℕ → ℕ → ℕ → ℕ → ℕ → Type 0
@@ -135,12 +135,15 @@ DayAsks xs ys n ps d m e s = DayAt xs ys (take n xs) (take n ys) n ps d m e s
 abbrev pub startIn : List ℕ → List ℕ → ℕ → ℕ → ℕ
 startIn xs ys n d = start (take n xs) (take n ys) d d
 
+-- the first d words of a table by day are those of f
+pub record Tabled (ws : List ℕ) (f : ℕ → ℕ) (d : ℕ) : Type 0 where
+  pub size : length ws ≡ dayCount
+  pub words : (x : ℕ) → x < d → getD ws x 0 ≡ f x
+
 -- the tables ss and bs hold the start and the latest of every day below d
 pub record Dayed (fs ls ss bs : List ℕ) (d : ℕ) : Type 0 where
-  pub starts-size : length ss ≡ dayCount
-  pub begun-size : length bs ≡ dayCount
-  pub starts : (x : ℕ) → x < d → getD ss x 0 ≡ start fs ls x x
-  pub begun : (x : ℕ) → x < d → getD bs x 0 ≡ latest fs ls x
+  pub starts : Tabled ss (λ x. start fs ls x x) d
+  pub begun : Tabled bs (latest fs ls) d
 
 abbrev pub DayedOf : List ℕ → List ℕ → ℕ → List ℕ → List ℕ → ℕ → Type 0
 DayedOf xs ys n ss bs d = Dayed (take n xs) (take n ys) ss bs d

@@ -205,7 +205,7 @@ fn start_after(
     s: usize,
 ) -> usize
     requires { ⌜ DayAsks (now first) (now last) n (now parent) d m e s ⌝ }
-    ensures { λ r. ⌜ r ≡ startIn (now (first .entry)) (now (last .entry)) n (suc d) ⌝ }
+    ensures { λ r. ⌜ r ≡ startIn (now (first .entry)) (now (last .entry)) n (d + 1) ⌝ }
 {
     if m != e {
         return e;
