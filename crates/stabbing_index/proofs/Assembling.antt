@@ -1,5 +1,5 @@
 -- What the builder lays is the block of the definition: column by column, and then the whole. Assumes nothing.
-use Rattle.stabbing_index.proofs.{Names.{lt-ltb, ltb-false, not, not-true, not-false, needs, RowsAt, Linked, Chained, DaysAt, replicate, _≢_, _∙_, _≡_, ap, refl, sym, _+_, _-_, _<_, _≤_, suc, zero, ℕ, List, [], _++_, _∷_, append-assoc, Bool, false, true, eqb, ltb, getD, length, length-append, length-set, set, take, getD-append-add, getD-take, length-take-le, take-all, take-suc-set, le-refl, arith, le-leb, lt-leb, ltb-true, by-test, dayAt, parent, child, leftSibling, lastChild, next, start, latest, capacity, dayCount, bucketCount, firstColumn, lastColumn, parentColumn, leftColumn, childColumn, nextColumn, startTable, latestTable, bucketTable, rowCount, indexLength, rowsOk, column, lastOf, headLink, rowLink, bucketOf, inBucket, laid, blockOf, below-ext, head-link, head-past, row-past, left-small, child-small, next-small, column-at, column-length, column-only, Columns, ColumnsOf, Holding, LinkedOf, ChainedOf, Dayed, DaysAsks, Extends, lowerWord, nameWords, nameCount, MarksIn, markWords, Blank, beside, linkWords, dayWords, RowsOf}, Laying.{laid-more, laid-over, column-ext}, Links.{holding-same, unlinked, unchained}}
+use Rattle.stabbing_index.proofs.{Names.{lt-ltb, ltb-false, not, not-true, not-false, needs, RowsAt, Linked, Chained, DaysAt, replicate, _≢_, _∙_, _≡_, ap, refl, sym, _+_, _-_, _<_, _≤_, suc, zero, ℕ, List, [], _++_, _∷_, append-assoc, Bool, false, true, eqb, ltb, getD, length, length-append, length-set, set, take, getD-append-add, getD-take, length-take-le, take-all, take-suc-set, le-refl, arith, le-leb, lt-leb, ltb-true, by-test, dayAt, parent, child, leftSibling, lastChild, next, start, latest, capacity, dayCount, bucketCount, firstColumn, lastColumn, parentColumn, leftColumn, childColumn, nextColumn, startTable, latestTable, bucketTable, rowCount, indexLength, rowsOk, column, lastOf, headLink, rowLink, bucketOf, inBucket, laid, blockOf, below-ext, head-link, head-past, row-past, left-small, child-small, next-small, column-at, column-length, column-only, Columns, ColumnsOf, Holding, LinkedOf, ChainedOf, Dayed, DaysAsks, Extends, lowerWord, nameWords, MarksIn, markWords, beside, linkWords, dayWords, RowsOf}, Laying.{laid-more, laid-over, column-ext}, Links.{holding-same, unlinked, unchained}}
 use Rattle.stabbing_index.specs.Build.{Builds}
 use Rattle.stabbing.proofs.Block.{rows-sorted, rows-days}
 
@@ -11,18 +11,6 @@ last-some ys (suc p) h = let z : suc p - 1 ≡ p = omega arith in rw z
 same-last : {xs ys fs ls : List ℕ} {n : ℕ} (m : ℕ) → Columns xs ys fs ls n → m ≤ n → lastOf ys m ≡ lastOf ls m
 same-last zero q h = refl
 same-last (suc p) q h = q .lasts p h
-
--- a word of a column that is laid
-laid-at : {e x : List ℕ} {a b : ℕ} (size : ℕ) (f : ℕ → ℕ) → Extends e a b (column size f) x → b ≡ a + size → b ≤ length e → (j : ℕ) → j < size → getD x (a + j) 0 ≡ f j
-laid-at {e} {x} {a} {b} size f i t h j g = let l : length (take a e) ≡ a = length-take-le a e (omega arith) in
-    sym (getD-take b x (a + j) 0 (omega arith))
-    ∙ ap (λ (l : List ℕ). getD l (a + j) 0) (i .front)
-    ∙ ap (λ (k : ℕ). getD (take a e ++ column size f) (k + j) 0) (sym l)
-    ∙ getD-append-add (take a e) (column size f) j 0
-    ∙ column-at size f j g
-
-pub laid-blank : {e x : List ℕ} → Extends e bucketTable rowCount (column nameCount (λ _. 0)) x → length e ≡ indexLength → Blank x
-laid-blank i h = record { empty = laid-at nameCount (λ _. 0) i refl (omega arith) }
 
 -- the same words: a list and the column that it is; 0 after a list
 laid-column : {e x ws : List ℕ} {a : ℕ} (n : ℕ) (f : ℕ → ℕ) → length ws ≡ n → ((p : ℕ) → p < n → getD ws p 0 ≡ f p) → Extends e a (a + length ws) ws x → Extends e a (a + n) (column n f) x
@@ -122,30 +110,14 @@ module _ (xs ys : List ℕ) (n : ℕ) (rows : RowsOf xs ys n) where
           days
 
 -- ---- the whole block
--- the rows of a bucket, of the first n numbers
-bucket-take : (ns : List ℕ) (n b k : ℕ) → k ≤ n → inBucket ns b k ≡ inBucket (take n ns) b k
-bucket-take ns n b k h = unfold inBucket in below-ext (λ p. eqb (bucketOf (getD ns p 0)) b) (λ p. eqb (bucketOf (getD (take n ns) p 0)) b) k (λ p g. rw (getD-take n ns p 0 (omega arith)))
-
--- the words of the buckets, by the definition
-named : List ℕ → List ℕ → List ℕ → List ℕ
-named ns fs ls = column bucketCount (λ b. inBucket ns b (length fs)) ++ column capacity (rowLink fs ls (λ p. inBucket ns (bucketOf (getD ns p 0)) p))
-
-names-laid : (ns fs ls : List ℕ) (n : ℕ) → length fs ≡ n → nameWords ns n ≡ named (take n ns) fs ls
-names-laid ns fs ls n c = unfold named in rw (
-  column-ext bucketCount (λ b. inBucket ns b n) (λ b. inBucket (take n ns) b (length fs)) (λ b _. rw c (bucket-take ns n b n (le-refl n))),
-  column-ext capacity (lowerWord ns n) (rowLink fs ls (λ p. inBucket (take n ns) (bucketOf (getD (take n ns) p 0)) p)) (λ p _. rw c (by-test (ltb p n)
-      (λ e. rw (e, getD-take n ns p 0 (ltb-true p n e)) (bucket-take ns n (bucketOf (getD ns p 0)) p (omega (arith, ltb-true p n e))))
-      (λ e. rw e))),
-)
-
 -- the count in the word after them all
 counted : {e x ws : List ℕ} {size : ℕ} (v : ℕ) → Extends e 0 size ws x → length e ≡ size + 1 → set x size v ≡ ws ++ (v ∷ [])
 counted {x = x} {size = size} v i h = sym (take-all (suc size) (set x size v) (omega (arith, length-set x size v, i .size)))
     ∙ take-suc-set x size v (omega (arith, i .size))
     ∙ ap (λ (l : List ℕ). l ++ (v ∷ [])) (i .front)
 
-whole : (ns fs ls : List ℕ) (n : ℕ) → length fs ≡ n → column capacity (dayAt ns) ++ column capacity (dayAt fs) ++ column capacity (dayAt ls) ++ (linkWords fs ls ++ dayWords fs ls) ++ named ns fs ls ++ (n ∷ []) ≡ blockOf ns fs ls
-whole ns fs ls n e = unfold blockOf laid linkWords dayWords named in rw (sym e) (simp append-assoc)
+whole : (ns fs ls : List ℕ) (n : ℕ) → length fs ≡ n → column capacity (dayAt ns) ++ column capacity (dayAt fs) ++ column capacity (dayAt ls) ++ (linkWords fs ls ++ dayWords fs ls) ++ nameWords ns n ++ (n ∷ []) ≡ blockOf ns fs ls
+whole ns fs ls n e = unfold blockOf laid linkWords dayWords in rw (sym e) (simp append-assoc)
 
 -- all that is laid, and the count, make the block
 pub filled : (ns xs ys : List ℕ) {n : ℕ} → RowsOf xs ys n → {e₀ e₁ e₂ e₃ e₄ e₅ : List ℕ} → length e₀ ≡ indexLength
@@ -153,24 +125,22 @@ pub filled : (ns xs ys : List ℕ) {n : ℕ} → RowsOf xs ys n → {e₀ e₁ e
     → Extends e₁ firstColumn lastColumn (column capacity (dayAt (take n xs))) e₂
     → Extends e₂ lastColumn parentColumn (column capacity (dayAt (take n ys))) e₃
     → Extends e₃ parentColumn bucketTable (linkWords (take n xs) (take n ys) ++ dayWords (take n xs) (take n ys)) e₄
-    → Extends e₄ bucketTable rowCount (nameWords ns n) e₅ → set e₅ rowCount n ≡ blockOf (take n ns) (take n xs) (take n ys)
+    → Extends e₄ bucketTable rowCount (nameWords (take n ns) n) e₅ → set e₅ rowCount n ≡ blockOf (take n ns) (take n xs) (take n ys)
 filled ns xs ys {n} q h numbers firsts lasts tree names =
-    counted n (laid-more (laid-more (laid-more (laid-more numbers firsts) lasts) tree) (rw (names-laid ns (take n xs) (take n ys) n (q .count)) at names)) h
+    counted n (laid-more (laid-more (laid-more (laid-more numbers firsts) lasts) tree) names) h
     ∙ whole (take n ns) (take n xs) (take n ys) n (q .count)
 
 -- ---- rows that can be published, and those that can not
+module _ (ns xs ys : List ℕ) {n : ℕ} (h : n ≤ capacity) {b : Bool} (t : b ≡ rowsOk (take n xs) (take n ys)) where
+  pub out-of-order : {e : List ℕ} → not b ≡ true → Builds ns xs ys n e false e
+  out-of-order z = record { answer = sym (rw (le-leb n capacity h, sym t ∙ not-true b z)); block = sym (rw (le-leb n capacity h, sym t ∙ not-true b z)) }
+
+  pub built : not b ≡ false → {e x : List ℕ} → x ≡ blockOf (take n ns) (take n xs) (take n ys) → Builds ns xs ys n e true x
+  built z y = record { answer = sym (rw (le-leb n capacity h, sym t ∙ not-false b z)); block = y ∙ sym (rw (le-leb n capacity h, sym t ∙ not-false b z)) }
+
 pub rows-of : (xs ys : List ℕ) {n : ℕ} → n ≤ capacity → {b : Bool} → b ≡ rowsOk (take n xs) (take n ys) → not b ≡ false → length xs ≡ capacity → RowsOf xs ys n
 rows-of xs ys {n} h {b} t z l = record { few = h; count = length-take-le n xs (omega arith); in-order = sym t ∙ not-false b z }
 
-module _ (ns xs ys : List ℕ) {e : List ℕ} {n : ℕ} where
-  pub too-many : capacity < n → Builds ns xs ys n e false e
-  too-many h = record { answer = sym (rw (lt-leb n capacity h)); block = sym (rw (lt-leb n capacity h)) }
+pub ruleset tests = (out-of-order, built, rows-of, lt-leb, needs)
 
-  module _ (h : n ≤ capacity) {b : Bool} (t : b ≡ rowsOk (take n xs) (take n ys)) where
-    pub out-of-order : not b ≡ true → Builds ns xs ys n e false e
-    out-of-order z = record { answer = sym (rw (le-leb n capacity h, sym t ∙ not-true b z)); block = sym (rw (le-leb n capacity h, sym t ∙ not-true b z)) }
-
-    pub built : not b ≡ false → {x : List ℕ} → x ≡ blockOf (take n ns) (take n xs) (take n ys) → Builds ns xs ys n e true x
-    built z y = record { answer = sym (rw (le-leb n capacity h, sym t ∙ not-false b z)); block = y ∙ sym (rw (le-leb n capacity h, sym t ∙ not-false b z)) }
-
-pub ruleset steps = (last-some, laid-blank, laid-over, taken, rows-fit, rows-laid, unlinked, unchained, columns-of, left-marks, child-marks, next-marks, days-laid, days-asked, tree-laid, filled, rows-of, too-many, out-of-order, built, needs)
+pub ruleset steps = (last-some, laid-over, taken, rows-fit, rows-laid, unlinked, unchained, columns-of, left-marks, child-marks, next-marks, days-laid, days-asked, tree-laid, filled, needs)

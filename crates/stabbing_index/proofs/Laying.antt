@@ -1,6 +1,6 @@
 -- Words laid into a block from a place on. Assumes nothing.
 use Rattle.buffer.{specs.Buffer.overlaid, proofs.Overlaid.overlaid-all}
-use Rattle.stabbing_index.proofs.Names.{suc, _≢_, ltb, lt-ltb, le-ltb, ltb-true, ltb-false, by-test, _∙_, _≡_, ap, refl, sym, _+_, _-_, _<_, _≤_, zero-le, ℕ, List, _++_, append-assoc, append-nil, drop, drop-of-length-le, getD, length, length-append, length-drop, length-set, set, take, ext-getD, getD-drop, getD-set-other, getD-set-same, getD-take, length-take-le, take-add, take-all, take-append-add, take-append-seam, take-at, take-take, arith, by-eq, needs, column, column-only, column-at, column-length, lastOf, markWords, MarksIn, Extends, bucketTable, rowCount, indexLength}
+use Rattle.stabbing_index.proofs.Names.{suc, _≢_, ltb, lt-ltb, le-ltb, ltb-true, ltb-false, by-test, _∙_, _≡_, ap, refl, sym, _+_, _-_, _<_, _≤_, zero-le, ℕ, List, _++_, append-assoc, append-nil, drop, drop-of-length-le, getD, length, length-append, length-drop, length-set, set, take, ext-getD, getD-drop, getD-set-other, getD-set-same, getD-take, length-take-le, take-add, take-all, take-append-add, take-append-seam, take-at, take-take, arith, by-eq, needs, column, column-only, column-at, column-length, lastOf, markWords, MarksIn, Zeros, Extends, bucketTable, rowCount, indexLength}
 
 -- of `size` words from base on the first k are those of f, and the words before base are kept
 pub record Laying (entry : List ℕ) (base size : ℕ) (f : ℕ → ℕ) (k : ℕ) (now : List ℕ) : Type 0 where
@@ -35,6 +35,9 @@ module _ {entry : List ℕ} {base size : ℕ} {f : ℕ → ℕ} where
       let cells : take size (drop base now) ≡ column size f = column-only size f _ (length-take-le size (drop base now) (omega (arith, length-drop base now)))
       (λ j g. rw (getD-take size (drop base now) j 0 g, getD-drop base now j 0) (i .words j (omega arith))) in
       record { size = i .long; front = rw (take-add base size now, before, cells) }
+
+pub laying-zeros : {entry now : List ℕ} {base size k : ℕ} → Laying entry base size (λ _. 0) k now → size ≤ k → Zeros now base size
+laying-zeros i h = record { at = λ j g. i .words j (omega arith) }
 
 -- words put into the part from base on
 pub laid-part : {entry words after : List ℕ} {base : ℕ} → base + length words ≤ length entry → after ≡ overlaid words (take (length entry - base) (drop base entry))
@@ -83,4 +86,4 @@ pub marks-all : (last marks : List ℕ) {e m x : List ℕ} {base k : ℕ} → le
     → Laying m (base + 1024) 1024 (lastDays last marks) k x → 1024 ≤ k → Extends e base (base + 2048) (markWords last marks) x
 marks-all last marks {base = base} n i j h = unfold lastDays in let t : base + 1024 + 1024 ≡ base + 2048 = omega arith in laid-more (rw n at i) (rw t at (laying-all j h))
 
-pub ruleset steps = (laying-next, laying-all, laid-part, mark-small, mark-next, marks-all, needs)
+pub ruleset steps = (laying-next, laying-all, laying-zeros, laid-part, mark-small, mark-next, marks-all, needs)

@@ -1,5 +1,5 @@
 -- The buckets of the numbers, row by row. Assumes nothing.
-use Rattle.stabbing_index.proofs.{Names.{_≤_, needs, _∙_, _≡_, ap, refl, sym, _%_, _+_, _<_, suc, zero-le, ℕ, List, Bool, _≢_, eqb, ltb, getD, length, length-set, set, getD-set-other, getD-set-same, le-refl, add-one, arith, eqb-false, eqb-true, le-ltb, lt-ltb, ltb-false, ltb-true, by-test, below, capacity, bucketCount, bucketTable, lowerColumn, rowCount, indexLength, column, bucketOf, inBucket, below-hit, below-miss, Extends, lowerWord, nameWords, Blank}, Laying.{laying-all, laid-more, below-other}}
+use Rattle.stabbing_index.proofs.{Names.{take, getD-take, _≤_, needs, _∙_, _≡_, ap, refl, sym, _%_, _+_, _<_, suc, zero-le, ℕ, List, Bool, _≢_, eqb, ltb, getD, length, length-set, set, getD-set-other, getD-set-same, le-refl, add-one, arith, eqb-false, eqb-true, le-ltb, lt-ltb, ltb-false, ltb-true, by-test, below, capacity, bucketCount, bucketTable, lowerColumn, rowCount, indexLength, column, bucketOf, inBucket, below-hit, below-miss, Extends, lowerWord, nameWords, Zeros}, Laying.{laying-all, laid-more, below-other}}
 
 -- of the numbers xs the first k are in their buckets, and the words before the buckets are kept
 pub record Naming (entry xs : List ℕ) (k : ℕ) (now : List ℕ) : Type 0 where
@@ -8,22 +8,23 @@ pub record Naming (entry xs : List ℕ) (k : ℕ) (now : List ℕ) : Type 0 wher
   pub buckets : (b : ℕ) → b < bucketCount → getD now (bucketTable + b) 0 ≡ inBucket xs b k
   pub lowers : (j : ℕ) → j < capacity → getD now (lowerColumn + j) 0 ≡ lowerWord xs k j
 
-pub nobody : {entry xs : List ℕ} → Blank entry → Naming entry xs 0 entry
+pub nobody : {entry xs : List ℕ} → Zeros entry bucketTable 3063 → Naming entry xs 0 entry
 nobody {entry} b = unfold inBucket below in record {
   size = refl;
   kept = λ j h. refl;
-  buckets = λ x h. b .empty x (omega arith);
+  buckets = λ x h. b .at x (omega arith);
   lowers = λ j h.
-      let z : lowerColumn + j ≡ bucketTable + (bucketCount + j) = omega arith in
-      ap (λ (n : ℕ). getD entry n 0) z ∙ b .empty (bucketCount + j) (omega arith) ∙ sym (rw (le-ltb j 0 zero-le));
+      let z : lowerColumn + j ≡ bucketTable + (bucketCount + j) = omega arith in rw (z, le-ltb j 0 zero-le) (b .at (bucketCount + j) (omega arith));
 }
 
--- what the rows before lead to stays
-lower-keep : (xs : List ℕ) (j k : ℕ) → j ≢ k → lowerWord xs k j ≡ lowerWord xs (suc k) j
-lower-keep xs j k n = rw (below-other j k n)
-
 -- one row more: the row k, with the number x
-module _ {entry xs now : List ℕ} {k n x : ℕ} (i : Naming entry xs k now) (long : length entry ≡ indexLength) (h : k < n) (few : n ≤ 1024) (e : x ≡ getD xs k 0) where
+module _ (numbers : List ℕ) {entry now : List ℕ} {k n x : ℕ} (i : Naming entry (take n numbers) k now) (long : length entry ≡ indexLength) (h : k < n) (few : n ≤ 1024) (is : x ≡ getD numbers k 0) where
+  abbrev xs : List ℕ
+  xs = take n numbers
+
+  e : x ≡ getD xs k 0
+  e = is ∙ sym (getD-take n numbers k 0 h)
+
   abbrev bucket : ℕ
   bucket = bucketTable + x % bucketCount
 
@@ -53,7 +54,7 @@ module _ {entry xs now : List ℕ} {k n x : ℕ} (i : Naming entry xs k now) (lo
       rw (z, lt-ltb k (suc k) (le-refl (suc k))) (getD-set-same now (lowerColumn + k) before 0 (omega (arith, i .size)) ∙ i .buckets (x % bucketCount) (omega arith) ∙ ap (λ (n : ℕ). inBucket xs (bucketOf n) k) e))
       (λ y.
       let n : j ≢ k = eqb-false j k y in
-      getD-set-other now (lowerColumn + k) (lowerColumn + j) before 0 (λ z. n (omega arith)) ∙ i .lowers j g ∙ lower-keep xs j k n)
+      getD-set-other now (lowerColumn + k) (lowerColumn + j) before 0 (λ z. n (omega arith)) ∙ i .lowers j g ∙ rw (below-other j k n))
 
   pub one-more : Naming entry xs (k + 1) (set once bucket (k + 1))
   one-more = rw (add-one k) (record {

@@ -11,7 +11,7 @@ use lib.ListN.{length, getD, take}
 use Rattle.stabbing_index.specs.declared.Way.{Way}
 use Rattle.stabbing.specs.Tree.{below, dayAt, head, next, parent, child, leftSibling, lastChild, start}
 use Rattle.stabbing.specs.Stored.{Sorted, latest}
-use Rattle.stabbing.specs.Index.{capacity, dayCount, bucketCount, bucketTable, rowsOk, column, lastOf, headLink, rowLink, bucketOf, inBucket}
+use Rattle.stabbing.specs.Index.{capacity, dayCount, bucketCount, rowsOk, column, lastOf, headLink, rowLink, bucketOf, inBucket}
 use Rattle.stabbing.specs.Contracts.{Head, bottom}
 
 -- ---- The columns
@@ -181,13 +181,9 @@ pub record MarksIn (marks : List ℕ) : Type 0 where
 abbrev pub markWords : List ℕ → List ℕ → List ℕ
 markWords last marks = marks ++ column capacity (λ p. lastOf last (getD marks p 0))
 
--- the words of the buckets, and of the column of the rows before
-abbrev pub nameCount : ℕ
-nameCount = 3063
-
--- the buckets are empty, and no row leads to another
-pub record Blank (index : List ℕ) : Type 0 where
-  pub empty : (x : ℕ) → x < nameCount → getD index (bucketTable + x) 0 ≡ 0
+-- as many words as `size` says, from `base` on, are 0
+pub record Zeros (index : List ℕ) (base size : ℕ) : Type 0 where
+  pub at : (j : ℕ) → j < size → getD index (base + j) 0 ≡ 0
 
 -- marks by position, with the last days beside them
 abbrev pub beside : List ℕ → (ℕ → ℕ) → List ℕ

@@ -23,7 +23,7 @@ ghost use lib.ListN.{length, take};
 ghost use Rattle.stabbing.specs.Tree.{dayAt};
 ghost use Rattle.stabbing.specs.Index.{capacity, dayCount, parentColumn, startTable, bucketTable, rowCount, indexLength, lastOf, rowOk, mayFollow, rowsOk, column, blockOf};
 ghost use Rattle.stabbing_index.specs.Build.{Builds};
-ghost use Rattle.stabbing_index.specs.Contracts.{headAt, ColumnsOf, ClimbAsks, ClimbGives, HeadAsks, LinkedOf, ChainedOf, AdvanceAsks, latestIn, DaysAsks, DayAsks, startIn, DayedOf, Extends, nameWords, MarksIn, markWords, Blank, linkWords, dayWords, RowsOf};
+ghost use Rattle.stabbing_index.specs.Contracts.{headAt, ColumnsOf, ClimbAsks, ClimbGives, HeadAsks, LinkedOf, ChainedOf, AdvanceAsks, latestIn, DaysAsks, DayAsks, startIn, DayedOf, Extends, nameWords, MarksIn, markWords, Zeros, linkWords, dayWords, RowsOf};
 
 // ---- rows that can be published
 
@@ -257,6 +257,7 @@ fn lay(index: &mut [u16], base: usize, values: &[u16])
 fn clear(index: &mut [u16], base: usize, size: usize)
     requires { ⌜ base + size ≤ length (now index) ⌝ }
     ensures { λ _. ⌜ Extends (now (index .entry)) base (base + size) (column size (λ _. 0)) (now (index .exit)) ⌝ }
+    ensures { λ _. ⌜ Zeros (now (index .exit)) base size ⌝ }
 {
     let mut k = 0;
     while k < size {
@@ -352,9 +353,9 @@ fn lay_tree(index: &mut [u16], first: &[u16; 1024], last: &[u16; 1024], n: usize
 // Every row into the bucket of its number, in the order: it leads to the row that was the latest there, and the bucket to it.
 fn name_rows(index: &mut [u16], number: &[u16; 1024], n: usize)
     requires { ⌜ n ≤ 1024 ⌝ }
-    requires { ⌜ Blank (now index) ⌝ }
+    requires { ⌜ Zeros (now index) bucketTable 3063 ⌝ }
     requires { ⌜ length (now index) ≡ indexLength ⌝ }
-    ensures { λ _. ⌜ Extends (now (index .entry)) bucketTable rowCount (nameWords (now (number .entry)) n) (now (index .exit)) ⌝ }
+    ensures { λ _. ⌜ Extends (now (index .entry)) bucketTable rowCount (nameWords (take n (now (number .entry))) n) (now (index .exit)) ⌝ }
 {
     let mut k = 0;
     while k < n {
@@ -372,7 +373,7 @@ const NAMES: usize = 3063;
 fn lay_names(index: &mut [u16], number: &[u16; 1024], n: usize)
     requires { ⌜ n ≤ 1024 ⌝ }
     requires { ⌜ length (now index) ≡ indexLength ⌝ }
-    ensures { λ _. ⌜ Extends (now (index .entry)) bucketTable rowCount (nameWords (now (number .entry)) n) (now (index .exit)) ⌝ }
+    ensures { λ _. ⌜ Extends (now (index .entry)) bucketTable rowCount (nameWords (take n (now (number .entry))) n) (now (index .exit)) ⌝ }
 {
     clear(index, BUCKET, NAMES);
     name_rows(index, number, n);

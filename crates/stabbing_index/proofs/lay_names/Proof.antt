@@ -3,4 +3,4 @@ use Rattle.stabbing_index.proofs.{Names.{needs}, Assembling.steps, lay_
 
 pub lay-names-spec : {M : Type 1} → statement M
 lay-names-spec = close (spec
-    (λ c. search needs) (λ c κs. (search needs, (search steps, search needs))) (λ c. search needs) (λ c. search steps))
+    (λ c. search needs) (λ c κs. (search needs, (search needs, search needs))) (λ c. search needs) (λ c. search steps))
