@@ -1,6 +1,5 @@
 -- The steps of the builder over what it reads and has written, apart from the code. Assumes nothing.
-use mir.{Val.Fits, Syntax.{w16, w64}}
-use Rattle.stabbing_index.proofs.{Laying.below-other, Names.{le-ltb, ap, not, not-true, not-false, needs, _∙_, _≡_, refl, sym, _*_, _+_, _-_, _<_, _≤_, suc, zero, zero-le, ℕ, List, Bool, false, true, _≢_, eqb, leb, ltb, List·getD-eq-default, getD, getD-replicate, length, length-replicate, length-set, replicate, set, getD-set-other, getD-set-same, le-refl, add-one, arith, eqb-false, eqb-true, le-leb, lt-leb, lt-ltb, ltb-false, ltb-true, by-eq, by-mark, by-test, clash, Way, below, dayAt, head, next, parent, child, leftSibling, headLink, rowLink, Head, bottom, below-hit, below-miss, bottom-is, parent-is, child-is, left-is, head-false, next-none, next-some, lastsTo, Columns, Holding, linksTo, Linked, Chained, headAt, ClimbAt, Climbed, HeadAt}, Parents.{parent-bottom, over-bottom, child-bottom, over-up, child-up, lasts-up, child-next, child-same}}
+use Rattle.stabbing_index.proofs.{Laying.below-other, Names.{le-ltb, ap, not, not-true, not-false, needs, _∙_, _≡_, refl, sym, _*_, _+_, _-_, _<_, _≤_, suc, zero, zero-le, ℕ, List, Bool, false, true, _≢_, eqb, leb, ltb, List·getD-eq-default, getD, getD-replicate, length, length-replicate, length-set, replicate, set, getD-set-other, getD-set-same, le-refl, add-one, arith, eqb-false, eqb-true, le-leb, lt-leb, lt-ltb, ltb-false, ltb-true, by-eq, by-mark, by-test, clash, Way, below, dayAt, head, next, parent, child, leftSibling, headLink, rowLink, Head, bottom, below-hit, below-miss, bottom-is, parent-is, child-is, left-is, head-false, next-none, next-some, lastsTo, Columns, Holding, linksTo, Linked, Chained, headAt, ClimbAt, Climbed, Over, HeadAt}, Parents.{parent-bottom, over-bottom, child-bottom, over-up, child-up, lasts-up, child-next, child-same}}
 
 -- a head by its column
 pub head-is : {xs ys fs ls : List ℕ} {n : ℕ} (k : ℕ) → Columns xs ys fs ls n → k < n → headAt xs n k ≡ head fs ls k
@@ -11,7 +10,7 @@ head-is {xs} {ys} {fs} {ls} {n} k q h = unfold head in by-test (eqb (suc k) n)
 -- ---- the steps of `climb`
 module _ {xs ys fs ls : List ℕ} {n : ℕ} {ps : List ℕ} {m : ℕ} (q : ClimbAt xs ys fs ls n ps m) where
   pub ends : {l k : ℕ} → m ≡ 0 → Climbed fs ls l m k (record { parent = 0; left = k })
-  ends z = unfold below in rw z (record { parent = refl; left = λ a o e. e })
+  ends z = unfold below in rw z (search arith)
 
   module _ (some : m ≢ 0) where
     abbrev v : ℕ
@@ -24,10 +23,9 @@ module _ {xs ys fs ls : List ℕ} {n : ℕ} {ps : List ℕ} {m : ℕ} (q : Climb
     top = q .at-head v (z .0)
 
     pub stays : {l k : ℕ} → l ≤ getD ys v 0 → Climbed fs ls l m k (record { parent = m; left = k })
-    stays {l} e = record {
-      parent = rw (z .0) (sym (below-hit (lastsTo fs ls l) v (rw (top, le-leb l (dayAt ls v) (rw (q .columns .lasts v (z .1)) at e)))));
-      left = λ a o e. e;
-    }
+    stays {l} e =
+        let parent : m ≡ below (lastsTo fs ls l) m = rw (z .0) (sym (below-hit (lastsTo fs ls l) v (rw (top, le-leb l (dayAt ls v) (rw (q .columns .lasts v (z .1)) at e))))) in
+        search arith
 
     module _ {j : ℕ} (y : j ≡ getD ps v 0) where
       j-is : j ≡ parent fs ls v
@@ -45,10 +43,12 @@ module _ {xs ys fs ls : List ℕ} {n : ℕ} {ps : List ℕ} {m : ℕ} (q : Climb
       }
 
       pub goes-up : {l k : ℕ} → getD ys v 0 < l → {w : Way} → Climbed fs ls l j m w → Climbed fs ls l m k w
-      goes-up {l} e g = record {
-        parent = g .parent ∙ rw j-is (lasts-up fs ls v l (rw (q .columns .lasts v (z .1)) at e)) ∙ ap (below (lastsTo fs ls l)) (sym (z .0));
-        left = λ a o _. let o′ = rw (z .0) at o in g .left a (rw j-is (over-up fs ls v a top o′)) (rw (j-is, child-up fs ls v a top o′) (z .0));
-      }
+      goes-up {l} {k} e {w} g =
+          let parent : w .parent ≡ below (lastsTo fs ls l) m
+          = g .parent ∙ rw j-is (lasts-up fs ls v l (rw (q .columns .lasts v (z .1)) at e)) ∙ ap (below (lastsTo fs ls l)) (sym (z .0)) in
+          let left : (a : ℕ) → Over fs ls m a → k ≡ child fs ls m a → w .left ≡ child fs ls (w .parent) a
+          = λ a o _. let o′ = rw (z .0) at o in g .left a (rw j-is (over-up fs ls v a top o′)) (rw (j-is, child-up fs ls v a top o′) (z .0)) in
+          let f = falls refl in search arith
 
 -- ---- a column, and one word more
 module _ {f : ℕ → ℕ} where
@@ -147,22 +147,6 @@ module _ {xs ys fs ls : List ℕ} {n k prev : ℕ} {ps qs cs : List ℕ} (q : He
     left-of : w .left ≡ leftSibling fs ls k
     left-of = g .left k (rw (q .before) (over-bottom fs ls k)) (rw (q .before) (child-bottom fs ls k)) ∙ rw parent-of (sym (left-is fs ls k))
 
-    -- both are marks of rows before k
-    small : (w .parent ≤ k) × (w .left ≤ k)
-    small = (omega (arith, parent-of, parent-is fs ls k .within), omega (arith, left-of ∙ left-is fs ls k, child-is fs ls (parent fs ls k) k .within))
-
-    pub parent-fits : Fits w16 (w .parent)
-    parent-fits = record { fits = omega (arith, small, room) }
-
-    pub left-fits : Fits w16 (w .left)
-    left-fits = record { fits = omega (arith, small, room) }
-
-    pub place-fits : Fits w64 ((w .parent - 1) * 2)
-    place-fits = record { fits = omega (arith, small, room) }
-
-    pub parent-at : w .parent - 1 < 1024
-    parent-at = omega (arith, small, room)
-
     -- the links, where the children's column holds those of its parent too
     linked : {cs′ : List ℕ} → Holding cs′ (linksTo fs ls (λ v. child fs ls (suc v) (suc k)) (suc k)) → Linked fs ls (set ps k (w .parent)) (set qs k (w .left)) cs′ (suc k)
     linked c = record {
@@ -179,8 +163,8 @@ module _ {xs ys fs ls : List ℕ} {n k prev : ℕ} {ps qs cs : List ℕ} (q : He
     pub linked-child : w .parent ≢ 0 → Linked fs ls (set ps k (w .parent)) (set qs k (w .left)) (set cs (w .parent - 1) (k + 1)) (suc k)
     linked-child z = let u : ℕ = w .parent - 1 in
         let y : parent fs ls k ≡ suc u = omega (arith, parent-of) in
-        linked (holding-set (q .links .children) u (k + 1) (omega (arith, small, room))
-        (add-one k ∙ sym (rw (lt-ltb u (suc k) (omega (arith, small)), parent-is fs ls k .hit u y .0, child-next fs ls (suc u) k (q .top) y)))
+        linked (holding-set (q .links .children) u (k + 1) (omega (arith, g .low, q .below, room))
+        (add-one k ∙ sym (rw (lt-ltb u (suc k) (omega (arith, g .low, q .below)), parent-is fs ls k .hit u y .0, child-next fs ls (suc u) k (q .top) y)))
         (λ v n. child-on fs ls k v (λ _ x. n (omega arith))))
 
 -- ---- `link`, position after position: the links of the heads before k, of which prev is the last, and of the chains
@@ -206,7 +190,7 @@ module _ {xs ys fs ls : List ℕ} {n k prev : ℕ} {ps qs cs ns : List ℕ} (i :
     is-head = e ∙ head-is k (i .columns) inside
 
     pub asks-head : r ≡ true → HeadAt xs ys fs ls n k prev ps qs cs
-    asks-head z = record { columns = i .columns; inside = inside; top = sym is-head ∙ z; before = i .before; links = i .links }
+    asks-head z = let top : Head fs ls k = sym is-head ∙ z in let below = bottom-is fs ls k .within in let b = i .before in search arith
 
     pub turn-head : r ≡ true → {ps′ qs′ cs′ : List ℕ} → Linked fs ls ps′ qs′ cs′ (suc k) → Linking xs ys fs ls n ps′ qs′ cs′ ns (k + 1) (k + 1)
     turn-head z g = let h : Head fs ls k = sym is-head ∙ z in
@@ -236,4 +220,4 @@ module _ {xs ys fs ls : List ℕ} {n k prev : ℕ} {ps qs cs ns : List ℕ} (i :
         within = inside;
       })
 
-pub ruleset steps = (ends, stays, falls, asks, goes-up, asks-climb, parent-fits, left-fits, place-fits, parent-at, linked-root, linked-child, starts, all-linked, all-chained, asks-head, turn-head, goes-on, turn-skip, needs)
+pub ruleset steps = (ends, stays, falls, asks, goes-up, asks-climb, linked-root, linked-child, starts, all-linked, all-chained, asks-head, turn-head, goes-on, turn-skip, needs)

@@ -2,7 +2,7 @@
 -- its private functions cite. xs and ys are the columns of first and last days, fs and ls the days themselves. A record with `At` in
 -- its name is over any days; what the contracts cite, with `Of`, `In`, `Asks` or `Gives` in its name, is the same at the first n words
 -- of the columns. Assumes nothing.
-use Prim.Native.Nat.{ℕ, suc, _+_, _≤_, _<_}
+use Prim.Native.Nat.{ℕ, max, suc, _+_, _≤_, _<_}
 use mathlib.Core.Bool.{Bool, true, not, _&&_, _||_, cond}
 use mathlib.Core.List.{List, _++_}
 use mathlib.Core.Path.{_≡_}
@@ -56,6 +56,8 @@ ClimbAsks xs ys n ps m = ClimbAt xs ys (take n xs) (take n ys) n ps m
 pub record Climbed (fs ls : List ℕ) (l m k : ℕ) (w : Way) : Type 0 where
   pub parent : w .parent ≡ below (lastsTo fs ls l) m
   pub left : (a : ℕ) → Over fs ls m a → k ≡ child fs ls m a → w .left ≡ child fs ls (w .parent) a
+  pub low : w .parent ≤ m
+  pub left-low : w .left ≤ max m k
 
 abbrev pub ClimbGives : List ℕ → List ℕ → ℕ → ℕ → ℕ → ℕ → Way → Type 0
 ClimbGives xs ys n l m k w = Climbed (take n xs) (take n ys) l m k w
@@ -93,6 +95,7 @@ pub record HeadAt (xs ys fs ls : List ℕ) (n k prev : ℕ) (ps qs cs : List ℕ
   pub inside : k < n
   pub top : Head fs ls k
   pub before : prev ≡ bottom fs ls k
+  pub below : prev ≤ k
   pub links : Linked fs ls ps qs cs k
 
 abbrev pub HeadAsks : List ℕ → List ℕ → ℕ → ℕ → ℕ → List ℕ → List ℕ → List ℕ → Type 0

@@ -3,6 +3,6 @@ use Rattle.stabbing_index.proofs.{Names.{needs}, Links.steps, link_head
 
 pub link-head-spec : {M : Type 1} → statement M
 link-head-spec = close (spec
-    (λ c. search needs) (λ c. search needs) (λ c. search steps) (λ c. search steps) (λ c. search needs) (λ c. search needs)
-    (λ c. search steps) (λ c. search needs) (λ c. search needs) (λ c. search steps) (λ c. search needs) (λ c. search needs)
-    (λ c. search needs) (λ c. search steps) (λ c. search steps) (λ c. search steps))
+    (λ c. search needs) (λ c. search needs) (λ c. search steps) (λ c. search needs) (λ c. search needs) (λ c. search needs)
+    (λ c. search needs) (λ c. search needs) (λ c. search needs) (λ c. search steps) (λ c. search needs) (λ c. search needs)
+    (λ c. search needs) (λ c. search needs) (λ c. search needs) (λ c. search steps))
