@@ -1,7 +1,11 @@
 -- The orders of positions, and a sort of different numbers: the place of a number tells as much as the test. Assumes nothing.
-use Rattle.basis.proofs.Prelude.{ℕ, zero, suc, _+_, _*_, _≤_, _<_, arith, decLe, _≡_, refl, sym, ap, _∙_, Bool, true, false, cond, List, [], _∷_, eqb-true, eqb-false, lt-ltb, le-ltb, ltb-true, ltb-false, ltb, eqb, length, getD, by-test}
+use Rattle.basis.proofs.Prelude.{by-eq, le-refl, eq-eqb, ne-eqb, ℕ, zero, suc, _+_, _*_, _≤_, _<_, arith, decLe, _≡_, refl, sym, ap, _∙_, Bool, true, false, cond, List, [], _∷_, eqb-true, eqb-false, lt-ltb, le-ltb, ltb-true, ltb-false, ltb, eqb, length, getD, by-test}
 use Rattle.orders.{specs.Orders.{lexical, insertBy}, proofs.{Each.{Each, each-at, each-weaken}, Sorting.{Total, hit, miss, each-inserted, irrefl, either-first, later}, Keys.{key-last, by-keys}}}
 use Rattle.row_order.specs.Arranged.{byMinor, byBoth}
+
+-- three ways in which two numbers stand
+pub three : {C : Type 0} (a b : ℕ) → (a < b → C) → (a ≡ b → C) → (b < a → C) → C
+three a b f g h = by-test (ltb a b) (λ e. f (ltb-true a b e)) (λ e. by-eq b a (ltb-false a b e) (λ z. g (sym z)) h)
 
 pub by-minor : (minor : List ℕ) → Total (byMinor minor)
 by-minor minor = unfold byMinor in by-keys (λ p. p) (λ p q e. e) ((λ p. getD minor p 0) ∷ [])
@@ -19,19 +23,12 @@ by-place minor p q = unfold byMinor lexical in ap (λ (b : Bool). cond (eqb (get
 
 -- two keys in one number
 pub packed : (x y p q : ℕ) → p < 1024 → q < 1024 → ltb (x * 1024 + p) (y * 1024 + q) ≡ cond (eqb x y) (ltb p q) (ltb x y)
-packed x y p q h k = by-test (eqb x y)
-    (λ e. let z : x ≡ y = eqb-true x y e in rw e (same z))
-    (λ e.
-    let z : x ≡ y → ⊥ = eqb-false x y e in
-    by-test (ltb x y)
-    (λ d. rw (e, d) (lt-ltb (x * 1024 + p) (y * 1024 + q) (omega (arith, ltb-true x y d))))
-    (λ d. rw (e, d) (le-ltb (x * 1024 + p) (y * 1024 + q) (omega (arith, ltb-false x y d)))))
-  where
-    same : x ≡ y → ltb (x * 1024 + p) (y * 1024 + q) ≡ ltb p q
-    same z = elim (decLe q p) [
-      | yes d ↦ le-ltb (x * 1024 + p) (y * 1024 + q) (omega arith) ∙ sym (le-ltb p q d)
-      | no d ↦ lt-ltb (x * 1024 + p) (y * 1024 + q) (omega arith) ∙ sym (lt-ltb p q (omega arith))
-    ]
+packed x y p q h k = three x y
+    (λ l. rw (ne-eqb x y (λ z. omega arith), lt-ltb x y l) (lt-ltb (x * 1024 + p) (y * 1024 + q) (omega arith)))
+    (λ z. rw (eq-eqb x y z) (by-test (ltb p q)
+    (λ d. rw d (lt-ltb (x * 1024 + p) (y * 1024 + q) (omega (arith, ltb-true p q d))))
+    (λ d. rw d (le-ltb (x * 1024 + p) (y * 1024 + q) (omega (arith, ltb-false p q d))))))
+    (λ l. rw (ne-eqb x y (λ z. omega arith), le-ltb x y (omega arith)) (le-ltb (x * 1024 + p) (y * 1024 + q) (omega arith)))
 
 -- ---- A list of different numbers, sorted
 
@@ -57,11 +54,7 @@ module _ {t : ℕ → ℕ → Bool} (o : Total t) where
   strict-at (x ∷ l) (suc r) (suc s) k h i = strict-at l r s (k .1) (omega arith) (omega arith)
 
   pub rank : (l : List ℕ) → Strict t l → (r s : ℕ) → r < length l → s < length l → ltb r s ≡ t (getD l r 0) (getD l s 0)
-  rank l k r s hr hs = elim (decLe s r) [
-    | yes d ↦ le-ltb r s d ∙ sym (down (decLe r s) d)
-    | no d ↦ lt-ltb r s (omega arith) ∙ sym (strict-at l r s k (omega arith) hs)
-  ]
-    where
-      down : Dec (r ≤ s) → s ≤ r → t (getD l r 0) (getD l s 0) ≡ false
-      down (yes e) d = let z : r ≡ s = omega arith in rw z (irrefl o (getD l s 0))
-      down (no e) d = o .asym (getD l s 0) (getD l r 0) (strict-at l s r k (omega arith) hr)
+  rank l k r s hr hs = three r s
+      (λ h. lt-ltb r s h ∙ sym (strict-at l r s k h hs))
+      (λ z. rw z (le-ltb s s (le-refl s) ∙ sym (irrefl o (getD l s 0))))
+      (λ h. le-ltb r s (omega arith) ∙ sym (o .asym (getD l s 0) (getD l r 0) (strict-at l s r k h hr)))
