@@ -1,5 +1,4 @@
 -- Words laid into a block from a place on. Assumes nothing.
-use Rattle.buffer.{specs.Buffer.overlaid, proofs.Overlaid.overlaid-all}
 use Rattle.stabbing_index.proofs.Names.{suc, _≢_, ltb, lt-ltb, le-ltb, ltb-true, ltb-false, by-test, _∙_, _≡_, ap, refl, sym, _+_, _-_, _<_, _≤_, zero-le, ℕ, List, _++_, append-assoc, append-nil, drop, drop-of-length-le, getD, length, length-append, length-drop, length-set, set, take, ext-getD, getD-drop, getD-set-other, getD-set-same, getD-take, length-take-le, take-add, take-all, take-append-add, take-append-seam, take-at, take-take, arith, by-eq, needs, column, column-only, column-at, column-length, lastOf, markWords, MarksIn, Zeros, Extends, bucketTable, rowCount, indexLength}
 
 -- of `size` words from base on the first k are those of f, and the words before base are kept
@@ -39,17 +38,9 @@ module _ {entry : List ℕ} {base size : ℕ} {f : ℕ → ℕ} where
 pub laying-zeros : {entry now : List ℕ} {base size k : ℕ} → Laying entry base size (λ _. 0) k now → size ≤ k → Zeros now base size
 laying-zeros i h = record { at = λ j g. i .words j (omega arith) }
 
--- words put into the part from base on
-pub laid-part : {entry words after : List ℕ} {base : ℕ} → base + length words ≤ length entry → after ≡ overlaid words (take (length entry - base) (drop base entry))
-    → Extends entry base (base + length words) words (take base entry ++ (after ++ drop (length entry - base) (drop base entry)))
-laid-part {entry} {words} {after} {base} h p = let rest = drop (length words) (drop base entry) in
-    let l : length (take base entry) ≡ base = length-take-le base entry (omega arith) in
-    let d : length (drop base entry) ≡ length entry - base = length-drop base entry in
-    let put : after ≡ words ++ rest = p ∙ rw (take-all (length entry - base) (drop base entry) (omega arith)) (overlaid-all words (drop base entry) (omega arith)) in
-    rw (put, drop-of-length-le (drop base entry) {i = length entry - base} (omega arith), append-nil) (record {
-      size = length-append (take base entry) (words ++ rest) ∙ omega (arith, length-append words rest, length-drop (length words) (drop base entry));
-      front = rw (ap (λ (n : ℕ). take (n + length words) (take base entry ++ (words ++ rest))) (sym l) ∙ take-append-add (take base entry) (words ++ rest) (length words), take-append-seam words rest);
-    })
+-- a whole list
+pub laying-list : {entry ws now : List ℕ} {base k : ℕ} → Laying entry base (length ws) (λ p. getD ws p 0) k now → length ws ≤ k → Extends entry base (base + length ws) ws now
+laying-list {ws = ws} i h = rw (← column-only (length ws) (λ p. getD ws p 0) ws refl (λ p g. refl)) at (laying-all i h)
 
 -- one column after another
 pub laid-more : {a b c : ℕ} {e m x us vs : List ℕ} → Extends e a b us m → Extends m b c vs x → Extends e a c (us ++ vs) x
@@ -86,4 +77,4 @@ pub marks-all : (last marks : List ℕ) {e m x : List ℕ} {base k : ℕ} → le
     → Laying m (base + 1024) 1024 (lastDays last marks) k x → 1024 ≤ k → Extends e base (base + 2048) (markWords last marks) x
 marks-all last marks {base = base} n i j h = unfold lastDays in let t : base + 1024 + 1024 ≡ base + 2048 = omega arith in laid-more (rw n at i) (rw t at (laying-all j h))
 
-pub ruleset steps = (laying-next, laying-all, laying-zeros, laid-part, mark-small, mark-next, marks-all, needs)
+pub ruleset steps = (laying-next, laying-all, laying-zeros, laying-list, mark-small, mark-next, marks-all, needs)

@@ -250,7 +250,11 @@ fn lay(index: &mut [u16], base: usize, values: &[u16])
     requires { ⌜ base + length (now values) ≤ length (now index) ⌝ }
     ensures { λ _. ⌜ Extends (now (index .entry)) base (base + length (now (values .entry))) (now (values .entry)) (now (index .exit)) ⌝ }
 {
-    buffer::put(values, &mut index[base..]);
+    let mut k = 0;
+    while k < values.len() {
+        index[base + k] = values[k];
+        k += 1;
+    }
 }
 
 // As many words of 0 as `size` says, from `base` on.
