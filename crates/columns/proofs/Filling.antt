@@ -1,5 +1,5 @@
 -- The positions, and a list that is filled place by place. Assumes nothing.
-use Rattle.basis.proofs.Prelude.{zero-add, needs, length-map, map-append, ℕ, zero, suc, _+_, _≤_, _<_, arith, add-one, _≡_, refl, sym, ap, _∙_, List, [], _∷_, _++_, map, length, getD, take, drop, set, length-set, drop-cons, set-at, append-snoc, take-at}
+use Rattle.basis.proofs.Prelude.{zero-add, needs, length-map, map-append, ℕ, zero, suc, _+_, _≤_, _<_, arith, add-one, _≡_, refl, ap, _∙_, List, [], _∷_, _++_, map, length, getD, take, drop, set, length-set, drop-cons, set-at, append-snoc, take-at}
 use Rattle.orders.proofs.Each.{Each}
 use Rattle.columns.specs.Columns.{positions, filled}
 

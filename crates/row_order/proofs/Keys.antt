@@ -1,5 +1,5 @@
 -- The key of a row decides as its days and its candidate do, one after the other. Assumes nothing.
-use Rattle.basis.proofs.Prelude.{_∙_, _≡_, sym, _<_, ℕ, Bool, cond, eqb, ltb, decLe, arith, eq-eqb, eqb-false, eqb-true, le-ltb, lt-ltb, ne-eqb, by-test}
+use Rattle.basis.proofs.Prelude.{_∙_, _≡_, _<_, ℕ, Bool, cond, eqb, ltb, arith, eq-eqb, le-ltb, lt-ltb, ne-eqb}
 use Rattle.row_order.specs.Rows.{paired, rowKey}
 use Rattle.row_order.proofs.Orders.{three}
 

@@ -1,5 +1,5 @@
 -- The orders of positions, and a sort of different numbers: the place of a number tells as much as the test. Assumes nothing.
-use Rattle.basis.proofs.Prelude.{by-eq, le-refl, eq-eqb, ne-eqb, ℕ, zero, suc, _+_, _*_, _≤_, _<_, arith, decLe, _≡_, refl, sym, ap, _∙_, Bool, true, false, cond, List, [], _∷_, eqb-true, eqb-false, lt-ltb, le-ltb, ltb-true, ltb-false, ltb, eqb, length, getD, by-test}
+use Rattle.basis.proofs.Prelude.{by-eq, le-refl, eq-eqb, ne-eqb, ℕ, zero, suc, _+_, _*_, _<_, arith, _≡_, refl, sym, ap, _∙_, Bool, true, cond, List, [], _∷_, lt-ltb, le-ltb, ltb-true, ltb-false, ltb, eqb, length, getD, by-test}
 use Rattle.orders.{specs.Orders.{lexical, insertBy}, proofs.{Each.{Each, each-at, each-weaken}, Sorting.{Total, hit, miss, each-inserted, irrefl, either-first, later}, Keys.{key-last, by-keys}}}
 use Rattle.row_order.specs.Arranged.{byMinor, byBoth}
 

@@ -1,5 +1,5 @@
 -- Positions sorted by an order; columns below a limit; positions in order, two by two. Assumes nothing.
-use Rattle.basis.proofs.Prelude.{both, ℕ, zero, suc, _+_, _≤_, _<_, arith, add-one, zero-add, _≡_, sym, ap, _∙_, Bool, true, false, _&&_, List, [], _∷_, lt-ltb, le-ltb, ltb-true, ltb, length, getD, take, drop, drop-of-length-le, drop-cons, getD-take, length-take-le}
+use Rattle.basis.proofs.Prelude.{both, ℕ, zero, suc, _+_, _≤_, _<_, arith, add-one, zero-add, _≡_, sym, _∙_, Bool, true, false, List, [], _∷_, lt-ltb, le-ltb, ltb-true, ltb, length, getD, take, drop, drop-of-length-le, drop-cons, getD-take, length-take-le}
 use Rattle.orders.{specs.Orders.{sortedBy, inOrderBy}, proofs.Sorting.{Total, each-sorted, pass-on, pass-off, pass-end}}
 use Rattle.columns.{specs.Columns.positions, proofs.Filling.{positions-length, positions-at, positions-from}}
 use Rattle.row_order.specs.Arranged.{allBelow, limit}

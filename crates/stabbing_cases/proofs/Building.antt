@@ -1,6 +1,6 @@
 -- Where the builder answers true, what it leaves is the block of its rows. Assumes nothing.
 use Rattle.stabbing_cases.proofs.Names.{_∙_, _≡_, refl, sym, _≤_, ℕ, List, Bool, true, false, leb, length, take, length-take-le, arith, leb-true, both, clash}
-use Rattle.stabbing.{specs.Index.{rowsOk, blockOf, Block, Built}, proofs.Block.block-of}
+use Rattle.stabbing.{specs.Index.{rowsOk, Block, Built}, proofs.Block.block-of}
 use Rattle.stabbing_index.specs.Build.{publishable, Builds}
 
 pub block : {number first last : List ℕ} {n : ℕ} {entry exit : List ℕ} {r : Bool} → Builds number first last n entry r exit → r ≡ true

@@ -1,5 +1,5 @@
 -- Row after row is seen to have a number of its own. Assumes nothing.
-use Rattle.stabbing_cases.proofs.{Names.{_∙_, _≡_, ap, sym, _+_, _<_, _≤_, suc, zero-le, ℕ, List, getD, arith, by-eq, needs}, Building.unbuilt}
+use Rattle.stabbing_cases.proofs.{Names.{_∙_, _≡_, _+_, _<_, _≤_, suc, zero-le, ℕ, List, getD, arith, by-eq, needs}, Building.unbuilt}
 use Rattle.stabbing.{specs.Index.{rows, numbers, markIn, Block, Built}, proofs.Block.{fs-rows, block-holds}}
 
 -- the numbers of the first k rows lead to them

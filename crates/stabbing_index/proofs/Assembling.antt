@@ -1,5 +1,5 @@
 -- What the builder lays is the block of the definition: column by column, and then the whole. Assumes nothing.
-use Rattle.stabbing_index.proofs.{Names.{lt-ltb, ltb-false, not, not-true, not-false, needs, RowsAt, Linked, Chained, DaysAt, replicate, _≢_, _∙_, _≡_, ap, refl, sym, _+_, _-_, _<_, _≤_, suc, zero, ℕ, List, [], _++_, _∷_, append-assoc, Bool, false, true, eqb, ltb, getD, length, length-append, length-set, set, take, getD-append-add, getD-take, length-take-le, take-all, take-suc-set, le-refl, arith, le-leb, lt-leb, ltb-true, by-test, dayAt, parent, child, leftSibling, lastChild, next, start, latest, capacity, dayCount, bucketCount, firstColumn, lastColumn, parentColumn, leftColumn, childColumn, nextColumn, startTable, latestTable, bucketTable, rowCount, indexLength, rowsOk, column, lastOf, headLink, rowLink, bucketOf, inBucket, laid, blockOf, below-ext, head-link, head-past, row-past, left-small, child-small, next-small, column-at, column-length, column-only, Columns, ColumnsOf, Holding, LinkedOf, ChainedOf, Dayed, DaysAsks, Extends, lowerWord, nameWords, MarksIn, markWords, beside, linkWords, dayWords, RowsOf}, Laying.{laid-more, laid-over, column-ext}, Links.{holding-same, unlinked, unchained}}
+use Rattle.stabbing_index.proofs.{Names.{lt-ltb, ltb-false, not, not-true, not-false, needs, Linked, Chained, _≢_, _∙_, _≡_, ap, refl, sym, _+_, _-_, _<_, _≤_, suc, zero, ℕ, List, [], _++_, _∷_, append-assoc, Bool, false, true, ltb, getD, length, length-append, length-set, set, take, getD-take, length-take-le, take-all, take-suc-set, arith, le-leb, lt-leb, by-test, dayAt, parent, child, lastChild, next, start, latest, capacity, dayCount, firstColumn, lastColumn, parentColumn, leftColumn, childColumn, nextColumn, startTable, latestTable, bucketTable, rowCount, indexLength, rowsOk, column, lastOf, headLink, rowLink, laid, blockOf, row-past, left-small, child-small, next-small, column-length, column-only, Columns, ColumnsOf, Holding, Dayed, DaysAsks, Extends, nameWords, MarksIn, markWords, beside, linkWords, dayWords, RowsOf}, Laying.{laid-more, laid-over, column-ext}, Links.{holding-same, unlinked, unchained}}
 use Rattle.stabbing_index.specs.Build.{Builds}
 use Rattle.stabbing.proofs.Block.{rows-sorted, rows-days}
 

@@ -1,6 +1,6 @@
 -- The steps of the tables by day, apart from the code. Assumes nothing.
 use mir.{Val.Fits, Syntax.w16}
-use Rattle.stabbing_index.proofs.Names.{needs, _∙_, _≡_, ap, sym, _+_, _<_, _≤_, suc, zero-le, ℕ, List, _≢_, leb, getD, length, length-set, set, getD-set-other, getD-set-same, add-one, arith, le-leb, leb-false, leb-true, both, by-eq, by-mark, by-test, dayCount, Way, below, dayAt, head, parent, start, Sorted, latest, below-is, below-skip, below-hit, latest-is, latest-before, lastsTo, nearest-is, start-nearest, Columns, ClimbAt, Climbed, Tabled, Dayed, AdvanceAt, DaysAt, DayAt}
+use Rattle.stabbing_index.proofs.Names.{needs, _∙_, _≡_, sym, _+_, _<_, _≤_, ℕ, List, _≢_, leb, getD, length, length-set, set, getD-set-other, getD-set-same, add-one, arith, le-leb, leb-false, leb-true, both, by-eq, by-mark, by-test, dayCount, Way, below, dayAt, head, parent, start, Sorted, latest, below-is, below-skip, below-hit, latest-is, latest-before, lastsTo, nearest-is, start-nearest, Columns, ClimbAt, Climbed, Tabled, Dayed, AdvanceAt, DaysAt, DayAt}
 use Rattle.stabbing.{proofs.Walk.start-is, proofs.Days.{latest-after, latest-rises, latest-none}}
 
 module _ (fs ls : List ℕ) (sorted : Sorted fs ls) where

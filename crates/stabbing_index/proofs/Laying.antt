@@ -1,5 +1,5 @@
 -- Words laid into a block from a place on. Assumes nothing.
-use Rattle.stabbing_index.proofs.Names.{suc, _≢_, ltb, lt-ltb, le-ltb, ltb-true, ltb-false, by-test, _∙_, _≡_, ap, refl, sym, _+_, _-_, _<_, _≤_, zero-le, ℕ, List, _++_, append-assoc, append-nil, drop, drop-of-length-le, getD, length, length-append, length-drop, length-set, set, take, ext-getD, getD-drop, getD-set-other, getD-set-same, getD-take, length-take-le, take-add, take-all, take-append-add, take-append-seam, take-at, take-take, arith, by-eq, needs, column, column-only, column-at, column-length, lastOf, markWords, MarksIn, Zeros, Extends, bucketTable, rowCount, indexLength}
+use Rattle.stabbing_index.proofs.Names.{suc, _≢_, ltb, lt-ltb, le-ltb, ltb-true, ltb-false, by-test, _∙_, _≡_, ap, refl, sym, _+_, _<_, _≤_, zero-le, ℕ, List, _++_, append-assoc, drop, getD, length, length-drop, length-set, set, take, ext-getD, getD-drop, getD-set-other, getD-set-same, getD-take, length-take-le, take-add, take-at, take-take, arith, by-eq, needs, column, column-only, column-at, column-length, lastOf, markWords, MarksIn, Zeros, Extends, bucketTable, rowCount, indexLength}
 
 -- of `size` words from base on the first k are those of f, and the words before base are kept
 pub record Laying (entry : List ℕ) (base size : ℕ) (f : ℕ → ℕ) (k : ℕ) (now : List ℕ) : Type 0 where

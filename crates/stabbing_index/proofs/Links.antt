@@ -1,5 +1,5 @@
 -- The steps of the builder over what it reads and has written, apart from the code. Assumes nothing.
-use Rattle.stabbing_index.proofs.{Laying.below-other, Names.{le-ltb, ap, not, not-true, not-false, needs, _∙_, _≡_, refl, sym, _*_, _+_, _-_, _<_, _≤_, suc, zero, zero-le, ℕ, List, Bool, false, true, _≢_, eqb, leb, ltb, List·getD-eq-default, getD, getD-replicate, length, length-replicate, length-set, replicate, set, getD-set-other, getD-set-same, le-refl, add-one, arith, eqb-false, eqb-true, le-leb, lt-leb, lt-ltb, ltb-false, ltb-true, by-eq, by-mark, by-test, clash, Way, below, dayAt, head, next, parent, child, leftSibling, headLink, rowLink, Head, bottom, below-hit, below-miss, bottom-is, parent-is, child-is, left-is, head-false, next-none, next-some, lastsTo, Columns, Holding, linksTo, Linked, Chained, headAt, ClimbAt, Climbed, Over, HeadAt}, Parents.{parent-bottom, over-bottom, child-bottom, over-up, child-up, lasts-up, child-next, child-same}}
+use Rattle.stabbing_index.proofs.{Laying.below-other, Names.{le-ltb, ap, needs, _∙_, _≡_, refl, sym, _+_, _-_, _<_, _≤_, suc, zero-le, ℕ, List, Bool, false, true, _≢_, eqb, ltb, List·getD-eq-default, getD, getD-replicate, length, length-replicate, length-set, replicate, set, getD-set-other, getD-set-same, le-refl, add-one, arith, eqb-false, eqb-true, le-leb, lt-ltb, ltb-false, ltb-true, by-mark, by-test, clash, Way, below, dayAt, head, next, parent, child, leftSibling, rowLink, Head, bottom, below-hit, below-miss, bottom-is, parent-is, child-is, left-is, head-false, next-none, next-some, lastsTo, Columns, Holding, linksTo, Linked, Chained, headAt, ClimbAt, Climbed, Over, HeadAt}, Parents.{parent-bottom, over-bottom, child-bottom, over-up, child-up, lasts-up, child-next, child-same}}
 
 -- a head by its column
 pub head-is : {xs ys fs ls : List ℕ} {n : ℕ} (k : ℕ) → Columns xs ys fs ls n → k < n → headAt xs n k ≡ head fs ls k

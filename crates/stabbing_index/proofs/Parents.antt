@@ -1,5 +1,5 @@
 -- How the links are found when a list is published: each head climbs from the head before it. Assumes nothing.
-use Rattle.stabbing_index.proofs.Names.{ap, _∙_, _≡_, refl, sym, _<_, _≤_, suc, zero, zero-le, ℕ, List, Bool, _&&_, _≢_, eqb, leb, length, arith, eq-eqb, eqb-true, leb-false, leb-true, both, by-eq, by-mark, by-test, untrue, below, dayAt, head, parent, child, leftSibling, Head, bottom, below-is, below-hit, below-miss, below-skip, child-is, bottom-is, parent-is, parent-ge, left-is, lastsTo, Over}
+use Rattle.stabbing_index.proofs.Names.{ap, _∙_, _≡_, refl, sym, _<_, _≤_, suc, ℕ, List, Bool, _&&_, _≢_, eqb, leb, arith, eq-eqb, eqb-true, leb-false, leb-true, both, by-eq, by-mark, by-test, untrue, below, dayAt, head, parent, child, Head, bottom, below-hit, below-miss, below-skip, child-is, bottom-is, parent-is, parent-ge, lastsTo, Over}
 
 module _ (fs ls : List ℕ) where
   -- a head's parent is the nearest that lasts as long, from the head before it upward

@@ -1,5 +1,5 @@
 -- The buckets of the numbers, row by row. Assumes nothing.
-use Rattle.stabbing_index.proofs.{Names.{take, getD-take, _≤_, needs, _∙_, _≡_, ap, refl, sym, _%_, _+_, _<_, suc, zero-le, ℕ, List, Bool, _≢_, eqb, ltb, getD, length, length-set, set, getD-set-other, getD-set-same, le-refl, add-one, arith, eqb-false, eqb-true, le-ltb, lt-ltb, ltb-false, ltb-true, by-test, below, capacity, bucketCount, bucketTable, lowerColumn, rowCount, indexLength, column, bucketOf, inBucket, below-hit, below-miss, Extends, lowerWord, nameWords, Zeros}, Laying.{laying-all, laid-more, below-other}}
+use Rattle.stabbing_index.proofs.{Names.{take, getD-take, _≤_, needs, _∙_, _≡_, ap, refl, sym, _%_, _+_, _<_, suc, zero-le, ℕ, List, Bool, _≢_, eqb, getD, length, length-set, set, getD-set-other, getD-set-same, le-refl, add-one, arith, eqb-false, eqb-true, le-ltb, lt-ltb, by-test, below, capacity, bucketCount, bucketTable, lowerColumn, rowCount, indexLength, bucketOf, inBucket, below-hit, below-miss, Extends, lowerWord, nameWords, Zeros}, Laying.{laying-all, laid-more, below-other}}
 
 -- of the numbers xs the first k are in their buckets, and the words before the buckets are kept
 pub record Naming (entry xs : List ℕ) (k : ℕ) (now : List ℕ) : Type 0 where
