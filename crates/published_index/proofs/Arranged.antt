@@ -1,8 +1,8 @@
 -- Rows that hold the fields of spells, put in the order, are the rows of the sorted list. Assumes nothing.
-use Rattle.basis.proofs.Prelude.{_∙_, _≡_, ap, sym, _<_, zero, suc, ℕ, List, [], _∷_, map, cond, false, true, eqb, ltb, getD, getD-take, zero-add, length, take, take-all, decLe, arith, eqb-true, le-ltb, by-test}
+use Rattle.basis.proofs.Prelude.{_∙_, _≡_, ap, sym, _<_, zero, suc, ℕ, List, [], _∷_, map, cond, false, true, eqb, ltb, getD, getD-take, zero-add, length, take, take-all, arith, eqb-true, le-ltb, by-test}
 use Rattle.columns.{specs.Columns.positions, proofs.Filling.{positions-at, positions-length, positions-below, reads}}
 use Rattle.orders.{specs.Orders.{lexical, sortedBy}, proofs.{Each.{Each, map-same, map-map, map-at}, Sorting.{each-sorted, sorted-map, sorted-same}}}
-use Rattle.row_order.{specs.{Arranged.{byMinor, byBoth, arranged}, Rows.{rowKey, keyAt, rowKeys, rowOrder, arrangedColumn}}, proofs.{Orders.{by-major, by-place}, Keys.key-decides}}
+use Rattle.row_order.{specs.{Arranged.{byMinor, byBoth, arranged}, Rows.{rowKey, keyAt, rowKeys, rowOrder, arrangedColumn}}, proofs.{Orders.{three, by-major, by-place}, Keys.key-decides}}
 use Rattle.spell.{specs.{declared.Spell.Spell, Blank.blank, Order.listedBefore, Listing.{distinct, Sound, Each as Every}}, proofs.Entered.entered}
 use Rattle.published_index.proofs.Numbers.{differ}
 
@@ -41,10 +41,7 @@ module _ (l : List Spell) (unique : distinct l ≡ true) (short : (p : ℕ) → 
 
   -- two spells of one number are one
   one : (p q : ℕ) → p < n → q < n → row l p .number ≡ row l q .number → p ≡ q
-  one p q h k e = elim (decLe p q) [
-    | yes d ↦ elim (decLe q p) [ yes c ↦ omega arith | no c ↦ absurd (differ l unique q p (omega arith) k e) ]
-    | no d ↦ absurd (differ l unique p q (omega arith) h (sym e))
-  ]
+  one p q h k e = three p q (λ lt. absurd (differ l unique q p lt k e)) (λ z. z) (λ lt. absurd (differ l unique p q lt h (sym e)))
 
   by-number : (p q : ℕ) → p < n → q < n → byMinor ns p q ≡ cond (eqb (row l p .number) (row l q .number)) false (ltb (row l p .number) (row l q .number))
   by-number p q h k =
