@@ -104,22 +104,28 @@ module _ (fs ls : List ℕ) (k : ℕ) where
 
   module _ {ns : List ℕ} (q : Chained fs ls ns k) where
     chain-skip : Head fs ls k → Chained fs ls ns (suc k)
-    chain-skip h = record { nexts = holding-same (q .nexts) (λ v. by-test (eqb v (suc k))
-        (λ e. rw (eqb-true v (suc k) e, le-ltb (suc k) (suc k) (le-refl (suc k)), lt-ltb (suc k) (suc (suc k)) (le-refl (suc (suc k)))) (sym (next-link-none h)))
-        (λ e. rw (below-other v (suc k) (eqb-false v (suc k) e)))) }
+    chain-skip h = record {
+      nexts = holding-same (q .nexts) (λ v. by-test (eqb v (suc k))
+          (λ e. rw (eqb-true v (suc k) e, le-ltb (suc k) (suc k) (le-refl (suc k)), lt-ltb (suc k) (suc (suc k)) (le-refl (suc (suc k)))) (sym (next-link-none h)))
+          (λ e. rw (below-other v (suc k) (eqb-false v (suc k) e))));
+    }
 
     chain-set : head fs ls k ≡ false → suc k < length fs → length fs ≤ 1024 → Chained fs ls (set ns (suc k) (suc k)) (suc k)
-    chain-set np h l = record { nexts = holding-set (q .nexts) (suc k) (suc k) (omega arith)
-        (rw (lt-ltb (suc k) (suc (suc k)) (le-refl (suc (suc k)))) (next-link (omega arith) np)) (λ v n. rw (below-other v (suc k) n)) }
+    chain-set np h l = record {
+      nexts = holding-set (q .nexts) (suc k) (suc k) (omega arith)
+          (rw (lt-ltb (suc k) (suc (suc k)) (le-refl (suc (suc k)))) (next-link (omega arith) np)) (λ v n. rw (below-other v (suc k) n));
+    }
 
 pub unlinked : {fs ls : List ℕ} (size : ℕ) → size ≡ 1024 → Linked fs ls (replicate size 0) (replicate size 0) (replicate size 0) 0
 unlinked size e = let none : (v : ℕ) → ltb v 0 ≡ false = λ v. le-ltb v 0 zero-le in
     record { parents = holding-none size e (λ v. rw (none v)); lefts = holding-none size e (λ v. rw (none v)); children = holding-none size e (λ v. rw (none v)) }
 
 pub unchained : {fs ls : List ℕ} (size : ℕ) → size ≡ 1024 → Chained fs ls (replicate size 0) 0
-unchained {fs} size e = unfold next in record { nexts = holding-none size e (λ v. by-mark v
-    (λ z. rw z (by-test (ltb 0 (length fs)) (λ y. rw y) (λ y. rw y)))
-    (λ u z. rw (z, le-ltb (suc u) 1 (omega arith)))) }
+unchained {fs} size e = unfold next in record {
+  nexts = holding-none size e (λ v. by-mark v
+      (λ z. rw z (by-test (ltb 0 (length fs)) (λ y. rw y) (λ y. rw y)))
+      (λ u z. rw (z, le-ltb (suc u) 1 (omega arith))));
+}
 
 -- a head
 module _ {xs ys fs ls : List ℕ} {n k prev : ℕ} {ps qs cs : List ℕ} (q : HeadAt xs ys fs ls n k prev ps qs cs) where
