@@ -45,13 +45,11 @@ pub decoded : coded 35
     ∷ record { call = Ask Days; days = 1 ∷ 4 ∷ []; numbers = 94 ∷ 95 ∷ []; text = [] }
     ∷ record { call = Ask (Mask 3 3); days = []; numbers = 96 ∷ []; text = [] }
     ∷ []
-unfolding decodeFrom codeAt nextOf callOf
-decoded = refl
+decoded = unfold decodeFrom codeAt nextOf callOf in refl
 
 -- one call fewer where the sixth has four places for its results
 pub no-room : length (coded 29) ≡ 5
-unfolding decodeFrom codeAt nextOf callOf
-no-room = refl
+no-room = unfold decodeFrom codeAt nextOf callOf in refl
 
 -- their answers, from a fresh service, in the lists
 pub answered : (over (resultsOf (run fresh (coded 35))) (results 35)
@@ -77,8 +75,7 @@ pub each-call : decode (each 1 0 ++ each 2 1 ++ each 3 0 ++ each 4 0 ++ each 5 0
     ∷ lent (Amend (record { number = 11; candidate = 12; first = 13; last = 14; urgency = Reading (ofBits binary32 15) }))
     ∷ lent (Strike 11) ∷ lent TakeBack ∷ lent (Publish 11) ∷ lent Write
     ∷ lent (Ask (Day 13)) ∷ lent (Ask (Span 13 14)) ∷ lent (Ask (Cover 11)) ∷ lent (Ask Days) ∷ lent (Ask (Mask 13 15)) ∷ []
-unfolding decodeFrom codeAt nextOf callOf
-each-call = refl
+each-call = unfold decodeFrom codeAt nextOf callOf in refl
 
 -- two answers with a value of its own in each place
 abbrev two : List Answer
@@ -90,8 +87,7 @@ two =
 pub each-place : (over (resultsOf two) (replicate 11 77) ≡ 1 ∷ 2 ∷ 3 ∷ 4 ∷ 9 ∷ 5 ∷ 6 ∷ 7 ∷ 8 ∷ 10 ∷ 77 ∷ [])
     × ((over (numbersOf two) (replicate 4 77) ≡ 21 ∷ 22 ∷ 23 ∷ 77 ∷ [])
     × (over (textsOf two) (replicate 4 77) ≡ 31 ∷ 32 ∷ 33 ∷ 77 ∷ []))
-unfolding written
-each-place = (refl, (refl, refl))
+each-place = unfold written in (refl, (refl, refl))
 
 -- a call has so many results
 pub told-wide : (a : Answer) → length (told a) ≡ resultWidth

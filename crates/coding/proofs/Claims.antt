@@ -60,8 +60,7 @@ call-back (Ask (Mask b k)) d n t rest f = (ap (λ (x : ℕ). Go (Ask (Mask x k))
 next-back : (q : Request) (rest : List ℕ) (d n t : ℕ) → Fits (fieldsOf (q .call))
     → length (q .days) ≤ d → length (q .numbers) ≤ n → length (q .text) ≤ t
     → nextOf (codeAt (requestWords q ++ rest) 0) d n t ≡ Go (q .call)
-unfolding codeAt nextOf
-next-back q rest d n t f hd hn ht =
+next-back q rest d n t f hd hn ht = unfold codeAt nextOf in
     rw (le-leb (length (q .days)) d hd, le-leb (length (q .numbers)) n hn, le-leb (length (q .text)) t ht)
     (call-back (q .call) (length (q .days)) (length (q .numbers)) (length (q .text)) rest f .0)
 
@@ -87,8 +86,7 @@ codeFrom w = record {
 }
 
 code-at : (pre r : List ℕ) (k : ℕ) → length pre ≡ codeWidth * k → codeAt (pre ++ r) k ≡ codeAt r 0
-unfolding codeAt
-code-at pre r k e =
+code-at pre r k e = unfold codeAt in
     let words : ℕ → ℕ = λ j. word (pre ++ r) k j in
     let words′ : ℕ → ℕ = λ j. word r 0 j in
     let same : words ≡ words′ = fun-ext (λ j. word-at pre r k j e) in

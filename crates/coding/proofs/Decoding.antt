@@ -15,8 +15,7 @@ pub record Room (c : Code) (days numbers text : ℕ) : Type 0 where
   pub for-text : c .text ≤ text
 
 pub next-room : (c : Code) (days numbers text : ℕ) (q : Call) → nextOf c days numbers text ≡ Go q → Room c days numbers text
-unfolding nextOf
-next-room c days numbers text q e =
+next-room c days numbers text q e = unfold nextOf in
     let d : leb (c .days) days ≡ true = picked (leb (c .days) days) _ q e in
     let n : leb (c .numbers) numbers ≡ true = picked (leb (c .numbers) numbers) _ q (rw d at e) in
     let t : leb (c .text) text ≡ true = picked (leb (c .text) text) _ q (rw (d, n) at e) in
@@ -39,5 +38,4 @@ module _ (codes days numbers text : List ℕ) (k : ℕ) where
       → decodeFrom codes (suc n) k days numbers text
       ≡ record { call = q; days = take (c .days) days; numbers = take (c .numbers) numbers; text = take (c .text) text }
       ∷ decodeFrom codes n (suc k) (drop (c .days) days) (drop (c .numbers) numbers) (drop (c .text) text)
-  unfolding decodeFrom
-  decode-go n c q ec e = rw (← ec) (simp e)
+  decode-go n c q ec e = unfold decodeFrom in rw (← ec) (simp e)

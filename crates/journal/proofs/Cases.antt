@@ -12,13 +12,10 @@ abbrev words : List ℕ
 words = 0x0102 ∷ 1 ∷ 65535 ∷ 0x0304 ∷ 0x0506 ∷ 0x0708 ∷ 1 ∷ 0x0001 ∷ 0x3F80 ∷ []
 
 entry-written : entryWords entry ≡ words
-unfolding entryWords spellWords toBits ofBits
-entry-written = refl
+entry-written = unfold entryWords spellWords toBits ofBits in refl
 
 entry-read : entryOf words ≡ entry
-unfolding entryOf spellOf urgencyOf
-entry-read = refl
+entry-read = unfold entryOf spellOf urgencyOf in refl
 
 none-written : entryWords blankEntry ≡ 0 ∷ 0 ∷ 0 ∷ 0 ∷ 0 ∷ 0 ∷ 0 ∷ 0 ∷ 0 ∷ []
-unfolding entryWords spellWords
-none-written = refl
+none-written = unfold entryWords spellWords in refl

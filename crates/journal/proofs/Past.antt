@@ -23,5 +23,4 @@ goods-take (suc n) (l ∷ past) g = (g .0, goods-take n past (g .1))
 
 -- an entry that takes l′ back to l, pushed: l goes to the front of the past
 pub past-pushed : (e : Undo) (l l′ : List Spell) (es : List Undo) → undo e l′ ≡ l → pastOf l′ (take 64 (e ∷ es)) ≡ remember l (pastOf l es)
-unfolding pastOf remember
-past-pushed e l l′ es back = sym (past-take 64 l′ (e ∷ es)) ∙ rw back refl
+past-pushed e l l′ es back = unfold pastOf remember in sym (past-take 64 l′ (e ∷ es)) ∙ rw back refl

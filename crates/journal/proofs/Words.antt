@@ -8,8 +8,7 @@ use Rattle.journal.specs.{declared.Undo.Undo, Journal.blankEntry, Words.
 use Rattle.journal.proofs.Undo.{the-row as entry-row}
 
 pub entry-long : (e : Undo) → length (entryWords e) ≡ 9
-unfolding entryWords
-entry-long e = ap (λ (n : ℕ). suc (suc n)) (spell-long (e .spell))
+entry-long e = unfold entryWords in ap (λ (n : ℕ). suc (suc n)) (spell-long (e .spell))
 
 -- the entry of a number, a word for a spell that stood or none, and a spell
 abbrev read : ℕ → ℕ → Spell → Undo
@@ -17,8 +16,7 @@ read k stood s = record { number = k; stood = not (eqb stood 0); spell = s }
 
 -- the words after an entry's own are not read
 pub entry-reads : (e : Undo) (r : List ℕ) → entryOf (entryWords e ++ r) ≡ entryOf (entryWords e)
-unfolding entryOf
-entry-reads e r =
+entry-reads e r = unfold entryOf in
     rw (le-leb 9 (length (entryWords e ++ r)) (omega (arith, length-append (entryWords e) r, entry-long e)), le-leb 9 (length (entryWords e)) (omega (arith, entry-long e)))
     (unfold entryWords in ap (read (e .number) (cond (e .stood) 1 0)) (spell-reads (e .spell) r))
 
@@ -37,12 +35,10 @@ entry-held e vs p = entry-back e (spell-back (e .spell) (spell-held (e .spell) _
 -- as the code reads it
 pub entry-at : (l : List ℕ) (at : ℕ) → at + 9 ≤ length l
     → entryOf (drop at l) ≡ record { number = getD l at 0; stood = not (eqb (getD l (at + 1) 0) 0); spell = spellOf (drop (at + 2) l) }
-unfolding entryOf
-entry-at l at h = simp (le-leb 9 (length (drop at l)) (omega (arith, length-drop at l)), getD-drop, drop-drop, add-zero)
+entry-at l at h = unfold entryOf in simp (le-leb 9 (length (drop at l)) (omega (arith, length-drop at l)), getD-drop, drop-drop, add-zero)
 
 pub entry-none : (l : List ℕ) (at : ℕ) → length l < at + 9 → entryOf (drop at l) ≡ blankEntry
-unfolding entryOf
-entry-none l at h = rw (lt-leb 9 (length (drop at l)) (omega (arith, length-drop at l)))
+entry-none l at h = unfold entryOf in rw (lt-leb 9 (length (drop at l)) (omega (arith, length-drop at l)))
 
 -- as the code writes it: two stores, and the spell's words after them
 as-number : (b : Bool) → boolByte b ≡ cond b 1 0

@@ -32,8 +32,7 @@ each-on (d ∷ l) (suc n) e h = each-on l n (both (isDay d) (daysOk l) e .1) (om
 -- ---- The ticked days
 module _ (base mask : ℕ) where
   pub empty-on : mask ≡ 0 → true ≡ daysOk (ticks base mask)
-  unfolding daysOk
-  empty-on e = rw (none-from base mask 64 0 (div-one mask ∙ e))
+  empty-on e = unfold daysOk in rw (none-from base mask 64 0 (div-one mask ∙ e))
 
   module _ (some : 0 < mask) (fits : mask < 2 ^ 64) where
     first : Next base mask 0 64 (trailingZeros 64 mask)
@@ -43,8 +42,7 @@ module _ (base mask : ℕ) where
     zeros-above = omega (arith, leading-top 64 mask some fits .1)
 
     pub low-off : base + trailingZeros 64 mask < 1 → false ≡ daysOk (ticks base mask)
-    unfolding daysOk
-    low-off h = rw (first .is) (rw (lt-leb 1 (base + (0 + trailingZeros 64 mask)) (omega arith)))
+    low-off h = unfold daysOk in rw (first .is) (rw (lt-leb 1 (base + (0 + trailingZeros 64 mask)) (omega arith)))
 
     pub high-on : 1 ≤ base + trailingZeros 64 mask → leb (base + (63 - leadingZeros 64 mask)) 4000 ≡ daysOk (ticks base mask)
     high-on l =

@@ -19,28 +19,22 @@ low-bit m = elim (decLe 1 (m % 2)) [
 ]
 
 is-set : (m i : ℕ) → m / 2 ^ i % 2 ≡ 1 → isSet m i ≡ true
-unfolding isSet
-is-set m i e = eq-eqb _ 1 e
+is-set m i e = unfold isSet in eq-eqb _ 1 e
 
 not-set : (m i : ℕ) → m / 2 ^ i % 2 ≡ 0 → isSet m i ≡ false
-unfolding isSet
-not-set m i e = ne-eqb (m / 2 ^ i % 2) 1 (λ (o : m / 2 ^ i % 2 ≡ 1). omega arith)
+not-set m i e = unfold isSet in ne-eqb (m / 2 ^ i % 2) 1 (λ (o : m / 2 ^ i % 2 ≡ 1). omega arith)
 
 set-is : (m i : ℕ) → isSet m i ≡ true → m / 2 ^ i % 2 ≡ 1
-unfolding isSet
-set-is m i e = eqb-true (m / 2 ^ i % 2) 1 e
+set-is m i e = unfold isSet in eqb-true (m / 2 ^ i % 2) 1 e
 
 ones-none : ones 0 ≡ 0
-unfolding ones
-ones-none = refl
+ones-none = unfold ones in refl
 
 zeros-even : (k m : ℕ) → m % 2 ≡ 0 → trailingZeros (suc k) m ≡ suc (trailingZeros k (m / 2))
-unfolding trailingZeros
-zeros-even k m e = rw e
+zeros-even k m e = unfold trailingZeros in rw e
 
 zeros-odd : (k m : ℕ) → m % 2 ≡ 1 → trailingZeros (suc k) m ≡ 0
-unfolding trailingZeros
-zeros-odd k m e = rw e
+zeros-odd k m e = unfold trailingZeros in rw e
 
 -- ---- The highest: the bit t of a mask from 2 ^ t on and below 2 ^ (t + 1)
 pub highest-set : (m t : ℕ) → 2 ^ t ≤ m → m < 2 ^ suc t → isSet m t ≡ true
@@ -71,16 +65,13 @@ rises-on d l first later (suc k) h = later k (omega arith)
 -- ---- The bits from i on
 module _ (base mask : ℕ) where
   ticks-none : (i : ℕ) → ticksFrom base mask i 0 ≡ []
-  unfolding ticksFrom
-  ticks-none i = refl
+  ticks-none i = unfold ticksFrom in refl
 
   ticks-set : (i n : ℕ) → isSet mask i ≡ true → ticksFrom base mask i (suc n) ≡ (base + i) ∷ ticksFrom base mask (suc i) n
-  unfolding ticksFrom
-  ticks-set i n e = rw e
+  ticks-set i n e = unfold ticksFrom in rw e
 
   ticks-not : (i n : ℕ) → isSet mask i ≡ false → ticksFrom base mask i (suc n) ≡ ticksFrom base mask (suc i) n
-  unfolding ticksFrom
-  ticks-not i n e = rw e
+  ticks-not i n e = unfold ticksFrom in rw e
 
   -- none is set where nothing is left
   pub none-from : (n i : ℕ) → mask / 2 ^ i ≡ 0 → ticksFrom base mask i n ≡ []

@@ -32,8 +32,7 @@ pub empty : (base : ℕ) → ticks base 0 ≡ []
 empty base = none-from base 0 64 0 refl
 
 pub empty-answer : (base : ℕ) → answered (ticks base 0) ≡ All 0
-unfolding daysOk
-empty-answer base = rw (empty base)
+empty-answer base = unfold daysOk in rw (empty base)
 
 -- ---- What each answer says to a caller
 
@@ -67,25 +66,19 @@ module _ {base mask : ℕ} {r : Ticks} {held days : List ℕ} (a : Answer base m
 
 -- ---- Worked: the days 10 and 12; the highest bit; days 0, 1, 4,001 and 65,536
 pub days-10-12 : ticks 10 5 ≡ 10 ∷ 12 ∷ []
-unfolding ticksFrom isSet
-days-10-12 = refl
+days-10-12 = unfold ticksFrom isSet in refl
 
 pub the-last-bit : ticks 1 9223372036854775808 ≡ 64 ∷ []
-unfolding ticksFrom isSet
-the-last-bit = refl
+the-last-bit = unfold ticksFrom isSet in refl
 
 pub day-0-off : answered (ticks 0 1) ≡ Off
-unfolding ticksFrom isSet daysOk
-day-0-off = refl
+day-0-off = unfold ticksFrom isSet daysOk in refl
 
 pub day-1-on : answered (ticks 0 2) ≡ All 1
-unfolding ticksFrom isSet daysOk
-day-1-on = refl
+day-1-on = unfold ticksFrom isSet daysOk in refl
 
 pub day-4001-off : answered (ticks 4000 3) ≡ Off
-unfolding ticksFrom isSet daysOk
-day-4001-off = refl
+day-4001-off = unfold ticksFrom isSet daysOk in refl
 
 pub past-16-bits-off : answered (ticks 65535 2) ≡ Off
-unfolding ticksFrom isSet daysOk
-past-16-bits-off = refl
+past-16-bits-off = unfold ticksFrom isSet daysOk in refl

@@ -1,6 +1,6 @@
 -- The questions, each in one place: what an accepted one lists, and what its line in document 01 says of a spell that is listed. Assumes nothing.
-use Rattle.basis.proofs.Prelude.{_≡_, refl, _≤_, ℕ, List, List·Memᴰ, _++_, Bool, true, _↔_, _⊎_, inl, inr, drop, length, arith, _∙_, ap, sym, List·Memᴰ·cases-cons, List·Memᴰ·head, List·Memᴰ·not-nil, List·Memᴰ·tail, [], _∷_, map, _||_, false, false≢true, leb, length-map, le-leb, leb-true, both, either}
-use Rattle.model.proofs.{Names.{accepted, Spell, listedBefore, orderedBy, distinct, ticks, Ask, onDay, onSpan, covers, onAny, filter, listed, comparisonsOf, Effect, gave, settle, several, ask, effectOf, stepOf, Question, reaches, State, Request, Answer}, Effects.{Comes, settles, Refusing, day-does, span-does, cover-does, several-does}, Claims.{listed-exactly, listed-ordered, listed-once}, Edits.one-spell}
+use Rattle.basis.proofs.Prelude.{_≡_, refl, _≤_, ℕ, List, List·Memᴰ, _++_, Bool, true, _↔_, _⊎_, inl, inr, drop, length, arith, _∙_, ap, sym, List·Memᴰ·cases-cons, List·Memᴰ·head, List·Memᴰ·not-nil, List·Memᴰ·tail, [], _∷_, map, _||_, false, false≢true, leb, length-map, le-leb, leb-true, both, either, by-cases, by-test}
+use Rattle.model.proofs.{Names.{accepted, Spell, listedBefore, orderedBy, distinct, ticks, Ask, onDay, onSpan, covers, onAny, filter, listed, comparisonsOf, Effect, gives, settle, several, ask, effectOf, stepOf, Question, reaches, State, After, Request, Answer}, Effects.{day-does, span-does, cover-does, several-does}, Claims.{listed-exactly, listed-ordered, listed-once}, Edits.one-spell}
 use Rattle.model.specs.declared.Question.the-variants.{Day, Span, Cover, Days, Mask}
 
 -- ---- The answer of a question
@@ -14,31 +14,26 @@ module _ (m : State) (q : Request) where
     pub ticked : a .ticked ≡ n
     pub text : a .text ≡ q .text
 
-  lists : (t : Spell → Bool) (c n : ℕ) → Lists t c n (gave (listed t (m .published)) c n m q .answer)
-  lists t c n = record { count = refl; numbers = refl; comparisons = refl; ticked = refl; text = refl }
-
   -- P holds of the answer of an effect that is accepted
   abbrev Accepted : (Answer → Type 0) → Effect → Type 0
-  Accepted P = Comes (λ x. x .answer .refusal ≡ accepted → P (x .answer)) m q
+  Accepted P e = settle e m q .answer .refusal ≡ accepted → P (settle e m q .answer)
 
-  accepting : (P : Answer → Type 0) (e : Effect) → (Refusing (Accepted P) → Accepted P e) → settle e m q .answer .refusal ≡ accepted → P (settle e m q .answer)
-  accepting P e f = settles (λ x. x .answer .refusal ≡ accepted → P (x .answer)) m q (λ r. absurd (omega arith)) e (f (λ n no r. absurd (no r)))
+  lists : (t : Spell → Bool) (c n : ℕ) → Accepted (Lists t c n) (gives (listed t (m .published)) c n)
+  lists t c n = unfold settle in
+      by-cases (λ (x : After). x .answer .refusal ≡ accepted → Lists t c n (x .answer)) (leb (length (listed t (m .published))) (length (q .numbers)))
+      (λ _ _. record { count = refl; numbers = refl; comparisons = refl; ticked = refl; text = refl }) (λ _ r. absurd (omega arith))
 
   -- AN ACCEPTED DAY lists the spells with first ≤ d ≤ last, its looks by the formula
   pub day-lists : (d : ℕ) → stepOf (Ask (Day d)) m q .answer .refusal ≡ accepted
       → Lists (onDay d) (comparisonsOf d d (m .published)) 0 (stepOf (Ask (Day d)) m q .answer)
-  unfolding effectOf
-  day-lists d =
-      let P : Answer → Type 0 = Lists (onDay d) (comparisonsOf d d (m .published)) 0 in
-      accepting P _ (λ no. day-does (Accepted P) no (m .published) d (q .days) (λ _. lists (onDay d) _ 0))
+  day-lists d = unfold effectOf settle in
+      day-does (Accepted (Lists (onDay d) (comparisonsOf d d (m .published)) 0)) (λ n bad r. absurd (bad r)) (m .published) d (q .days) (lists _ _ 0)
 
   -- AN ACCEPTED SPAN lists the spells with first ≤ b and last ≥ a, its looks by the formula
   pub span-lists : (a b : ℕ) → stepOf (Ask (Span a b)) m q .answer .refusal ≡ accepted
       → Lists (onSpan a b) (comparisonsOf b a (m .published)) 0 (stepOf (Ask (Span a b)) m q .answer)
-  unfolding effectOf
-  span-lists a b =
-      let P : Answer → Type 0 = Lists (onSpan a b) (comparisonsOf b a (m .published)) 0 in
-      accepting P _ (λ no. span-does (Accepted P) no (m .published) a b (q .days) (λ _. lists (onSpan a b) _ 0))
+  span-lists a b = unfold effectOf settle in
+      span-does (Accepted (Lists (onSpan a b) (comparisonsOf b a (m .published)) 0)) (λ n bad r. absurd (bad r)) (m .published) a b (q .days) (lists _ _ 0)
 
   -- the cover of a published spell x with the number k
   pub record Covers (k : ℕ) (a : Answer) : Type 0 where
@@ -49,27 +44,21 @@ module _ (m : State) (q : Request) where
 
   -- AN ACCEPTED COVER lists the spells with first ≤ the first and last ≥ the last of a published spell of that number
   pub cover-lists : (k : ℕ) → stepOf (Ask (Cover k)) m q .answer .refusal ≡ accepted → Covers k (stepOf (Ask (Cover k)) m q .answer)
-  unfolding effectOf ask
-  cover-lists k =
-      accepting (Covers k) _ (λ no. cover-does (Accepted (Covers k)) no (m .published) k (m .published)
-      (λ x i e _. record { of = x; published = i; number = e; lists = lists (covers x) _ 0 }))
+  cover-lists k = unfold effectOf ask settle in
+      cover-does (Accepted (Covers k)) (λ n bad r. absurd (bad r)) (m .published) k (m .published)
+      (λ x i e r. record { of = x; published = i; number = e; lists = lists (covers x) _ 0 r })
 
-  several-lists : (ds : List ℕ) (n : ℕ) → settle (several ds n (m .published)) m q .answer .refusal ≡ accepted
-      → Lists (onAny ds) 0 n (settle (several ds n (m .published)) m q .answer)
-  several-lists ds n =
-      let P : Answer → Type 0 = Lists (onAny ds) 0 n in
-      accepting P _ (λ no. several-does (Accepted P) no (m .published) ds n (λ _. lists (onAny ds) 0 n))
+  several-lists : (ds : List ℕ) (n : ℕ) → Accepted (Lists (onAny ds) 0 n) (several ds n (m .published))
+  several-lists ds n = unfold settle in several-does (Accepted (Lists (onAny ds) 0 n)) (λ k bad r. absurd (bad r)) (m .published) ds n (lists _ 0 n)
 
   -- ACCEPTED DAYS list the spells that contain at least one of them, and report no looks
   pub days-lists : stepOf (Ask Days) m q .answer .refusal ≡ accepted → Lists (onAny (q .days)) 0 0 (stepOf (Ask Days) m q .answer)
-  unfolding effectOf ask
-  days-lists = several-lists (q .days) 0
+  days-lists = unfold effectOf ask in several-lists (q .days) 0
 
   -- AN ACCEPTED MASK lists the spells that contain at least one of the ticked days, and tells how many are ticked
   pub mask-lists : (b k : ℕ) → stepOf (Ask (Mask b k)) m q .answer .refusal ≡ accepted
       → Lists (onAny (ticks b k)) 0 (length (ticks b k)) (stepOf (Ask (Mask b k)) m q .answer)
-  unfolding effectOf ask
-  mask-lists b k = several-lists (ticks b k) (length (ticks b k))
+  mask-lists b k = unfold effectOf ask in several-lists (ticks b k) (length (ticks b k))
 
 -- ---- What fits a question
 
@@ -96,10 +85,8 @@ pub record Answered (m : State) (q : Request) (w : Question) (a : Answer) : Type
   pub numbers : a .numbers ≡ map (λ (s : Spell). s .number) spells ++ drop (a .count) (q .numbers)
 
 reaching : (h l : ℕ) (x : Spell) → (reaches h l x ≡ true) ↔ ((x .first ≤ h) × (l ≤ x .last))
-reaching h l x = (
-  λ e. let p = both (leb (x .first) h) (leb l (x .last)) e in (leb-true (x .first) h (p .0), leb-true l (x .last) (p .1)),
-  λ f. rw (le-leb (x .first) h (f .0), le-leb l (x .last) (f .1)),
-)
+reaching h l x =
+    (λ e. let p = both _ (leb l (x .last)) e in (leb-true (x .first) h (p .0), leb-true l (x .last) (p .1)), λ f. rw (le-leb (x .first) h (f .0), le-leb l (x .last) (f .1)))
 
 on-any : (ds : List ℕ) (x : Spell) → onAny ds x ≡ true → Contains ds x
 unfolding onAny
@@ -111,13 +98,8 @@ on-any (d ∷ ds) x e = elim (either (onDay d x) (onAny ds x) e) [
 
 any-on : (ds : List ℕ) (x : Spell) (d : ℕ) → List·Memᴰ d ds → (x .first ≤ d) × (d ≤ x .last) → onAny ds x ≡ true
 unfolding onAny
-any-on [] x d i f = absurd (List·Memᴰ·not-nil i)
-any-on (e ∷ ds) x d i f = go (onDay e x) refl (List·Memᴰ·cases-cons i) (λ j. any-on ds x d j f)
-  where
-    go : (b : Bool) → onDay e x ≡ b → (d ≡ e) ⊎ List·Memᴰ d ds → (List·Memᴰ d ds → onAny ds x ≡ true) → b || onAny ds x ≡ true
-    go true h i on = refl
-    go false h (inl s) on = absurd (false≢true (sym h ∙ ap (λ (z : ℕ). onDay z x) (sym s) ∙ reaching d d x .1 f))
-    go false h (inr j) on = on j
+any-on ds x d (List·Memᴰ·head {x = e} {xs = es} s) f = rw (rw s at (reaching d d x .1 f))
+any-on ds x d (List·Memᴰ·tail {x = e} {xs = es} j) f = by-test (onDay e x) (λ h. rw h) (λ h. rw h (any-on es x d j f))
 
 on-days : (ds : List ℕ) (x : Spell) → (onAny ds x ≡ true) ↔ Contains ds x
 on-days ds x = (on-any ds x, λ f. any-on ds x (f .0) (f .1) (f .2, f .3))

@@ -1,16 +1,7 @@
 -- Positions and rows: the positions that pass a test lead to the rows that pass the same test. Assumes nothing.
-use Rattle.basis.proofs.Prelude.{_∙_, _≡_, ap, refl, sym, _*_, _<_, _≤_, suc, zero, ℕ, List, [], _++_, _∷_, append-assoc, map, Bool, cond, getD, length, length-map, arith, by-test}
+use Rattle.basis.proofs.Prelude.{_∙_, _≡_, ap, refl, sym, _*_, _<_, _≤_, suc, zero, ℕ, List, [], _++_, _∷_, append-assoc, map, map-append, Bool, cond, getD, length, length-map, arith, by-test}
+use Rattle.orders.proofs.Each.{map-map}
 use Rattle.model.proofs.Names.{Spell, keep, fitsAt, start, keep-hit, keep-miss, formula-le, reaches, filter, listed, firstsOf, lastsOf, comparisonsOf}
-
--- ---- Lists
-
-pub map-append : {A B : Type 0} (f : A → B) (a b : List A) → map f (a ++ b) ≡ map f a ++ map f b
-map-append f [] b = refl
-map-append f (x ∷ a) b = ap (λ (l : List _). f x ∷ l) (map-append f a b)
-
-pub map-map : {A B C : Type 0} (g : B → C) (f : A → B) (l : List A) → map g (map f l) ≡ map (λ x. g (f x)) l
-map-map g f [] = refl
-map-map g f (x ∷ l) = ap (λ (l : List _). g (f x) ∷ l) (map-map g f l)
 
 -- ---- The positions that pass, from the front: position 0, and the others one further
 
@@ -22,14 +13,9 @@ unfolding keep
 keep-front u zero = by-test (u 0) (λ e. keep-hit u 0 e ∙ rw e) (λ e. keep-miss u 0 e ∙ rw e)
 keep-front u (suc n) =
     let v : ℕ → Bool = λ k. u (suc k) in
-    let ih = keep-front u n in
     by-test (u (suc n))
-    (λ e. keep-hit u (suc n) e
-    ∙ ap (λ (l : List ℕ). l ++ (suc n ∷ [])) ih
-    ∙ append-assoc (front (u 0)) (map suc (keep v n)) (suc n ∷ [])
-    ∙ ap (λ (l : List ℕ). front (u 0) ++ l) (sym (map-append suc (keep v n) (n ∷ [])))
-    ∙ ap (λ (l : List ℕ). front (u 0) ++ map suc l) (sym (keep-hit v n e)))
-    (λ e. keep-miss u (suc n) e ∙ ih ∙ ap (λ (l : List ℕ). front (u 0) ++ map suc l) (sym (keep-miss v n e)))
+    (λ e. rw (keep-hit u (suc n) e, keep-front u n, keep-hit v n e, map-append suc (keep v n) (n ∷ [])) (append-assoc (front (u 0)) (map suc (keep v n)) (suc n ∷ [])))
+    (λ e. rw (keep-miss u (suc n) e, keep-miss v n e) (keep-front u n))
 
 -- ---- The bridge
 
@@ -53,10 +39,8 @@ rows-kept f u t [] h = refl
 rows-kept f u t (x ∷ p) h =
     let v : ℕ → Bool = λ k. u (suc k) in
     let at : ℕ → ℕ = λ k. getD (map f (x ∷ p)) k 0 in
-    ap (map at) (keep-front u (length p))
-    ∙ map-append at (front (u 0)) (map suc (keep v (length p)))
-    ∙ ap (λ (l : List ℕ). map at (front (u 0)) ++ l) (map-map at suc (keep v (length p)) ∙ rows-kept f v t p (h .1))
-    ∙ by-test (t x) (λ e. rw (h .0 ∙ e, e)) (λ e. rw (h .0 ∙ e, e))
+    rw (keep-front u (length p), map-append at (front (u 0)) (map suc (keep v (length p))), map-map at suc (keep v (length p)), rows-kept f v t p (h .1))
+    (by-test (t x) (λ e. rw (h .0 ∙ e, e)) (λ e. rw (h .0 ∙ e, e)))
 
 -- as many positions as rows pass
 pub rows-count : (u : ℕ → Bool) (t : Spell → Bool) (p : List Spell) → Agree u t p → length (keep u (length p)) ≡ length (listed t p)
@@ -72,7 +56,6 @@ fits-agree h l (x ∷ p) = (refl, fits-agree h l p)
 
 -- the looks of a question are at most three for each spell listed
 pub comparisons-le : (h l : ℕ) (p : List Spell) → comparisonsOf h l p ≤ 3 * length (listed (reaches h l) p)
-unfolding comparisonsOf
-comparisons-le h l p =
+comparisons-le h l p = unfold comparisonsOf in
     rw (← rows-count (fitsAt (firstsOf p) (lastsOf p) h l) (reaches h l) p (fits-agree h l p))
     (formula-le (firstsOf p) (lastsOf p) (start (firstsOf p) (lastsOf p) h l) (keep (fitsAt (firstsOf p) (lastsOf p) h l) (length p)))

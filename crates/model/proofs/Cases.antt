@@ -1,6 +1,6 @@
 -- Document 01's register A, M1 and M2 run through the account: what each call answers, computed. Assumes nothing.
-use Rattle.basis.proofs.Prelude.{_≡_, refl, suc, zero, ℕ, List, [], _++_, _∷_, map, false, true, replicate, take}
-use Rattle.model.proofs.Names.{binary32, isNan, toBits, ofBits, Urgency, Grade, Reading, Spell, listedBefore, earlierOf, stands, sameOf, below, keep, count, head, parent, child, leftSibling, lastChild, fitsAt, start, onPath, formula, Call, Enter, Amend, Strike, TakeBack, Publish, Ask, sortedBy, lastOf, remove, idle, enterRefusal, amendRefusal, strikeRefusal, remember, publishedOf, daysOk, isSet, ticksFrom, onAny, rising, filter, comparisonsOf, settle, fresh, takeBack, cover, ask, effectOf, run, Request, Answer}
+use Rattle.basis.proofs.Prelude.{_≡_, refl, suc, zero, ℕ, List, [], _++_, _∷_, map, false, true, length, replicate, take}
+use Rattle.model.proofs.Names.{State, Question, over, binary32, isNan, toBits, ofBits, Urgency, Grade, Reading, Spell, listedBefore, earlierOf, stands, sameOf, below, keep, count, head, parent, child, leftSibling, lastChild, fitsAt, start, onPath, formula, Call, Enter, Amend, Strike, TakeBack, Publish, Ask, sortedBy, lastOf, remove, idle, enterRefusal, amendRefusal, strikeRefusal, remember, publishedOf, daysOk, isSet, ticksFrom, onAny, rising, filter, comparisonsOf, settle, fresh, takeBack, cover, ask, effectOf, run, Request, Answer}
 use Rattle.model.specs.{declared.Question.the-variants.{Day, Span, Cover, Days, Mask}, Edits.insertBy}
 use Rattle.stabbing.specs.Tree.{next}
 
@@ -8,10 +8,16 @@ use Rattle.stabbing.specs.Tree.{next}
 
 -- lent six places for numbers, each 99 beforehand, and no text
 abbrev asked : Call → List ℕ → Request
-asked c ds = record { call = c; days = ds; numbers = 99 ∷ 99 ∷ 99 ∷ 99 ∷ 99 ∷ 99 ∷ []; text = [] }
+asked c ds = record { call = c; days = ds; numbers = replicate 6 99; text = [] }
 
 abbrev call : Call → Request
 call c = asked c []
+
+abbrev entered : List Spell → List Request
+entered l = map (λ s. call (Enter s)) l
+
+abbrev asks : List Question → List Request
+asks ws = map (λ w. call (Ask w)) ws
 
 -- refusal, count and looks in front of the lent list
 abbrev told : Answer → List ℕ
@@ -19,47 +25,32 @@ told a = a .refusal ∷ a .count ∷ a .comparisons ∷ a .numbers
 
 -- the answer of a refused call, or of an accepted one that lists nothing
 abbrev plain : ℕ → List ℕ
-plain n = n ∷ 0 ∷ 0 ∷ 99 ∷ 99 ∷ 99 ∷ 99 ∷ 99 ∷ 99 ∷ []
+plain n = n ∷ 0 ∷ 0 ∷ replicate 6 99
+
+-- the answer that lists these numbers, with so many looks
+abbrev lists : ℕ → List ℕ → List ℕ
+lists looks ns = 0 ∷ length ns ∷ looks ∷ over ns (replicate 6 99)
 
 -- ---- Register A
 
 abbrev spell : ℕ → ℕ → ℕ → ℕ → Urgency → Spell
 spell n c f l u = record { number = n; candidate = c; first = f; last = l; urgency = u }
 
+-- a reading of 0
+abbrev nought : Urgency
+nought = Reading (ofBits binary32 0)
+
 -- entered in no order
 abbrev entering : List Request
-entering = call (Enter (spell 15 7 7 12 (Reading (ofBits binary32 0))))
-    ∷ call (Enter (spell 11 7 1 10 (Grade 2)))
-    ∷ call (Enter (spell 13 9 5 8 (Grade 1)))
-    ∷ call (Enter (spell 16 5 9 9 (Grade 3)))
-    ∷ call (Enter (spell 12 8 3 4 (Reading (ofBits binary32 0x3F80_0000))))
-    ∷ call (Enter (spell 14 9 5 6 (Grade 4)))
-    ∷ call (Publish 1)
-    ∷ []
+entering = entered (spell 15 7 7 12 nought ∷ spell 11 7 1 10 (Grade 2) ∷ spell 13 9 5 8 (Grade 1) ∷ spell 16 5 9 9 (Grade 3)
+    ∷ spell 12 8 3 4 (Reading (ofBits binary32 0x3F80_0000)) ∷ spell 14 9 5 6 (Grade 4) ∷ []) ++ (call (Publish 1) ∷ [])
 
 abbrev asking : List Request
-asking = call (Ask (Day 3))
-    ∷ call (Ask (Day 5))
-    ∷ call (Ask (Day 7))
-    ∷ call (Ask (Day 9))
-    ∷ call (Ask (Day 10))
-    ∷ call (Ask (Day 13))
-    ∷ call (Ask (Span 9 10))
-    ∷ call (Ask (Cover 14))
-    ∷ asked (Ask Days) (4 ∷ 11 ∷ [])
-    ∷ []
+asking = asks (Day 3 ∷ Day 5 ∷ Day 7 ∷ Day 9 ∷ Day 10 ∷ Day 13 ∷ Span 9 10 ∷ Cover 14 ∷ []) ++ (asked (Ask Days) (4 ∷ 11 ∷ []) ∷ [])
 
 abbrev wanted : List (List ℕ)
-wanted = (0 ∷ 2 ∷ 0 ∷ 11 ∷ 12 ∷ 99 ∷ 99 ∷ 99 ∷ 99 ∷ [])
-    ∷ (0 ∷ 3 ∷ 2 ∷ 11 ∷ 14 ∷ 13 ∷ 99 ∷ 99 ∷ 99 ∷ [])
-    ∷ (0 ∷ 3 ∷ 4 ∷ 11 ∷ 13 ∷ 15 ∷ 99 ∷ 99 ∷ 99 ∷ [])
-    ∷ (0 ∷ 3 ∷ 2 ∷ 11 ∷ 15 ∷ 16 ∷ 99 ∷ 99 ∷ 99 ∷ [])
-    ∷ (0 ∷ 2 ∷ 2 ∷ 11 ∷ 15 ∷ 99 ∷ 99 ∷ 99 ∷ 99 ∷ [])
-    ∷ plain 0
-    ∷ (0 ∷ 3 ∷ 2 ∷ 11 ∷ 15 ∷ 16 ∷ 99 ∷ 99 ∷ 99 ∷ [])
-    ∷ (0 ∷ 3 ∷ 2 ∷ 11 ∷ 14 ∷ 13 ∷ 99 ∷ 99 ∷ 99 ∷ [])
-    ∷ (0 ∷ 3 ∷ 0 ∷ 11 ∷ 12 ∷ 15 ∷ 99 ∷ 99 ∷ 99 ∷ [])
-    ∷ []
+wanted = lists 0 (11 ∷ 12 ∷ []) ∷ lists 2 (11 ∷ 14 ∷ 13 ∷ []) ∷ lists 4 (11 ∷ 13 ∷ 15 ∷ []) ∷ lists 2 (11 ∷ 15 ∷ 16 ∷ []) ∷ lists 2 (11 ∷ 15 ∷ [])
+    ∷ plain 0 ∷ lists 2 (11 ∷ 15 ∷ 16 ∷ []) ∷ lists 2 (11 ∷ 14 ∷ 13 ∷ []) ∷ lists 0 (11 ∷ 12 ∷ 15 ∷ []) ∷ []
 
 -- ---- M1 and M2: spells numbered from 1, candidate 1, grade 1
 
@@ -72,6 +63,13 @@ M1 = plainly 1 1 10 ∷ plainly 2 3 4 ∷ call (Publish 1) ∷ call (Ask (Span 6
 abbrev M2 : List Request
 M2 = plainly 1 1 20 ∷ plainly 2 2 5 ∷ plainly 3 6 8 ∷ plainly 4 10 12 ∷ call (Publish 1) ∷ asked (Ask Days) (3 ∷ 11 ∷ []) ∷ []
 
+-- The account with all that its calls compute by, opened together
+account : State → List Request → List Answer
+unfolding run settle effectOf takeBack ask cover enterRefusal amendRefusal strikeRefusal insertBy remove remember earlierOf stands idle sameOf
+    isNan toBits ofBits publishedOf lastOf sortedBy listedBefore onAny daysOk rising filter ticksFrom isSet
+    comparisonsOf below keep count head next parent child leftSibling lastChild fitsAt start onPath formula
+account m qs = run m qs
+
 -- ---- Document 01's cases, in one statement
 
 abbrev answers : List Request → List (List ℕ)
@@ -79,65 +77,34 @@ answers qs = map told (run fresh qs)
 
 pub document-cases : map answers ((entering ++ asking) ∷ M1 ∷ M2 ∷ [])
     ≡ (replicate 7 (plain 0) ++ wanted)
-    ∷ (replicate 3 (plain 0) ++ ((0 ∷ 1 ∷ 0 ∷ 1 ∷ 99 ∷ 99 ∷ 99 ∷ 99 ∷ 99 ∷ []) ∷ []))
-    ∷ (replicate 5 (plain 0) ++ ((0 ∷ 3 ∷ 0 ∷ 1 ∷ 2 ∷ 4 ∷ 99 ∷ 99 ∷ 99 ∷ []) ∷ []))
+    ∷ (replicate 3 (plain 0) ++ (lists 0 (1 ∷ []) ∷ []))
+    ∷ (replicate 5 (plain 0) ++ (lists 0 (1 ∷ 2 ∷ 4 ∷ []) ∷ []))
     ∷ []
-unfolding run settle effectOf ask cover enterRefusal insertBy publishedOf lastOf sortedBy listedBefore remember earlierOf stands isNan toBits ofBits
-    onAny daysOk rising filter comparisonsOf below keep count head next parent child leftSibling lastChild fitsAt start onPath formula
-document-cases = refl
+document-cases = unfold account in refl
 
 -- ---- Document 02, W3: a reading of eight days and a grade of seven, published by rule 1, by rule 2, by a rule that there is not
 
 abbrev byRules : List Request
-byRules = call (Enter (spell 1 7 1 8 (Reading (ofBits binary32 0))))
-    ∷ call (Enter (spell 2 7 1 7 (Grade 1)))
-    ∷ call (Publish 1)
-    ∷ call (Ask (Day 7))
-    ∷ call (Ask (Day 8))
-    ∷ call (Publish 2)
-    ∷ call (Ask (Day 7))
-    ∷ call (Ask (Day 8))
-    ∷ call (Publish 3)
-    ∷ call (Ask (Day 7))
-    ∷ []
+byRules = entered (spell 1 7 1 8 nought ∷ spell 2 7 1 7 (Grade 1) ∷ [])
+    ++ (call (Publish 1) ∷ asks (Day 7 ∷ Day 8 ∷ []))
+    ++ (call (Publish 2) ∷ asks (Day 7 ∷ Day 8 ∷ []))
+    ++ (call (Publish 3) ∷ asks (Day 7 ∷ []))
 
 -- under rule 2 both end on day 7 and change places; what rule 3 asks for is refused with 14 and leaves that list
 pub rules-in-turn : answers byRules
-    ≡ plain 0 ∷ plain 0 ∷ plain 0
-    ∷ (0 ∷ 2 ∷ 1 ∷ 2 ∷ 1 ∷ 99 ∷ 99 ∷ 99 ∷ 99 ∷ [])
-    ∷ (0 ∷ 1 ∷ 1 ∷ 1 ∷ 99 ∷ 99 ∷ 99 ∷ 99 ∷ 99 ∷ [])
-    ∷ plain 0
-    ∷ (0 ∷ 2 ∷ 1 ∷ 1 ∷ 2 ∷ 99 ∷ 99 ∷ 99 ∷ 99 ∷ [])
-    ∷ plain 0
-    ∷ plain 14
-    ∷ (0 ∷ 2 ∷ 1 ∷ 1 ∷ 2 ∷ 99 ∷ 99 ∷ 99 ∷ 99 ∷ [])
-    ∷ []
-unfolding run settle effectOf ask enterRefusal insertBy publishedOf lastOf sortedBy listedBefore remember earlierOf stands isNan toBits ofBits
-    filter comparisonsOf below keep count head next parent child leftSibling lastChild fitsAt start onPath formula
-rules-in-turn = refl
+    ≡ replicate 3 (plain 0) ++ (lists 1 (2 ∷ 1 ∷ []) ∷ lists 1 (1 ∷ [])
+    ∷ plain 0 ∷ lists 1 (1 ∷ 2 ∷ []) ∷ plain 0
+    ∷ plain 14 ∷ lists 1 (1 ∷ 2 ∷ []) ∷ [])
+rules-in-turn = unfold account in refl
 
 -- ---- Document 02, W6: twins go by candidate and then by number, and under rule 2 spells are twins by their published days
 
 abbrev twins : List Request
-twins = call (Enter (spell 1 9 1 8 (Reading (ofBits binary32 0))))
-    ∷ call (Enter (spell 2 8 1 9 (Reading (ofBits binary32 0))))
-    ∷ call (Enter (spell 3 7 1 7 (Grade 1)))
-    ∷ call (Enter (spell 4 8 1 7 (Grade 1)))
-    ∷ call (Publish 1)
-    ∷ call (Ask (Day 7))
-    ∷ call (Publish 2)
-    ∷ call (Ask (Day 7))
-    ∷ []
+twins = entered (spell 1 9 1 8 nought ∷ spell 2 8 1 9 nought ∷ spell 3 7 1 7 (Grade 1) ∷ spell 4 8 1 7 (Grade 1) ∷ [])
+    ++ (call (Publish 1) ∷ call (Ask (Day 7)) ∷ call (Publish 2) ∷ call (Ask (Day 7)) ∷ [])
 
-pub twins-in-turn : answers twins
-    ≡ replicate 5 (plain 0)
-    ++ ((0 ∷ 4 ∷ 3 ∷ 3 ∷ 4 ∷ 1 ∷ 2 ∷ 99 ∷ 99 ∷ [])
-    ∷ plain 0
-    ∷ (0 ∷ 4 ∷ 3 ∷ 3 ∷ 2 ∷ 4 ∷ 1 ∷ 99 ∷ 99 ∷ [])
-    ∷ [])
-unfolding run settle effectOf ask enterRefusal insertBy publishedOf lastOf sortedBy listedBefore remember earlierOf stands isNan toBits ofBits
-    filter comparisonsOf below keep count head next parent child leftSibling lastChild fitsAt start onPath formula
-twins-in-turn = refl
+pub twins-in-turn : answers twins ≡ replicate 5 (plain 0) ++ (lists 3 (3 ∷ 4 ∷ 1 ∷ 2 ∷ []) ∷ plain 0 ∷ lists 3 (3 ∷ 2 ∷ 4 ∷ 1 ∷ []) ∷ [])
+twins-in-turn = unfold account in refl
 
 -- ---- Refusals, each at the state that the calls before it left
 
@@ -149,33 +116,14 @@ abbrev lent : List ℕ → Call → Request
 lent ns c = record { call = c; days = []; numbers = ns; text = [] }
 
 abbrev refusing : List Request
-refusing = call TakeBack
-    ∷ call (Enter one)
-    ∷ call (Enter one)
-    ∷ call (Enter (spell 0 0 0 0 (Grade 0)))
-    ∷ call (Amend (spell 12 7 1 10 (Grade 2)))
-    ∷ call (Amend (spell 11 7 1 4001 (Grade 2)))
-    ∷ call (Strike 12)
-    ∷ call (Ask (Cover 11))
-    ∷ call (Publish 1)
-    ∷ lent [] (Ask (Day 1))
-    ∷ lent (99 ∷ []) (Ask (Day 1))
-    ∷ call (Ask (Day 0))
-    ∷ call (Ask (Span 5 4))
-    ∷ call (Ask (Span 5 0))
-    ∷ asked (Ask Days) (5 ∷ 5 ∷ [])
-    ∷ asked (Ask Days) (5 ∷ 4 ∷ 4001 ∷ [])
-    ∷ call (Strike 11)
-    ∷ call TakeBack
-    ∷ call TakeBack
-    ∷ call TakeBack
-    ∷ []
+refusing = call TakeBack ∷ entered (one ∷ one ∷ spell 0 0 0 0 (Grade 0) ∷ [])
+    ++ (call (Amend (spell 12 7 1 10 (Grade 2))) ∷ call (Amend (spell 11 7 1 4001 (Grade 2))) ∷ call (Strike 12) ∷ call (Ask (Cover 11))
+    ∷ call (Publish 1) ∷ lent [] (Ask (Day 1)) ∷ lent (99 ∷ []) (Ask (Day 1)) ∷ asks (Day 0 ∷ Span 5 4 ∷ Span 5 0 ∷ []))
+    ++ (asked (Ask Days) (5 ∷ 5 ∷ []) ∷ asked (Ask Days) (5 ∷ 4 ∷ 4001 ∷ []) ∷ call (Strike 11) ∷ replicate 3 (call TakeBack))
 
 pub refusals : map (λ (a : Answer). a .refusal) (run fresh refusing)
     ≡ 9 ∷ 0 ∷ 6 ∷ 1 ∷ 7 ∷ 3 ∷ 7 ∷ 7 ∷ 0 ∷ 11 ∷ 0 ∷ 3 ∷ 4 ∷ 3 ∷ 10 ∷ 3 ∷ 0 ∷ 0 ∷ 0 ∷ 9 ∷ []
-unfolding run settle effectOf takeBack ask cover enterRefusal amendRefusal strikeRefusal insertBy publishedOf lastOf sortedBy listedBefore remove remember earlierOf stands idle sameOf isNan toBits
-    onAny daysOk rising filter comparisonsOf
-refusals = refl
+refusals = unfold account in refl
 
 -- ---- Masks: the number of days ticked in front of the answer
 
@@ -188,27 +136,13 @@ nothing n = 0 ∷ plain n
 -- Days 4 and 11 of register A, as bits 0 and 7 of base 4. Days 0, 4,001 and 65,598 (bit 63 of base 65,535) are off the calendar. An empty
 -- mask of base 65,535 is accepted with no place lent, where a mask that lists somebody is refused with 11 and ticks none.
 abbrev reviewing : List Request
-reviewing = call (Ask (Mask 4 129))
-    ∷ call (Ask (Mask 0 1))
-    ∷ call (Ask (Mask 3937 9223372036854775808))
-    ∷ call (Ask (Mask 3938 9223372036854775808))
-    ∷ call (Ask (Mask 65535 9223372036854775808))
-    ∷ lent [] (Ask (Mask 65535 0))
-    ∷ lent [] (Ask (Mask 4 129))
-    ∷ []
+reviewing = asks (Mask 4 129 ∷ Mask 0 1 ∷ Mask 3937 9223372036854775808 ∷ Mask 3938 9223372036854775808 ∷ Mask 65535 9223372036854775808 ∷ [])
+    ++ (lent [] (Ask (Mask 65535 0)) ∷ lent [] (Ask (Mask 4 129)) ∷ [])
 
 pub masks : map review (run fresh (entering ++ reviewing))
     ≡ replicate 7 (nothing 0)
-    ++ ((2 ∷ 0 ∷ 3 ∷ 0 ∷ 11 ∷ 12 ∷ 15 ∷ 99 ∷ 99 ∷ 99 ∷ [])
-    ∷ nothing 3
-    ∷ (1 ∷ plain 0)
-    ∷ nothing 3
-    ∷ nothing 3
-    ∷ (0 ∷ 0 ∷ 0 ∷ 0 ∷ [])
-    ∷ (0 ∷ 11 ∷ 0 ∷ 0 ∷ [])
-    ∷ [])
-unfolding run settle effectOf ask enterRefusal insertBy publishedOf lastOf sortedBy listedBefore remember earlierOf stands isNan toBits ofBits onAny daysOk rising filter ticksFrom isSet
-masks = refl
+    ++ ((2 ∷ lists 0 (11 ∷ 12 ∷ 15 ∷ [])) ∷ nothing 3 ∷ (1 ∷ plain 0) ∷ nothing 3 ∷ nothing 3 ∷ replicate 4 0 ∷ (0 ∷ 11 ∷ 0 ∷ 0 ∷ []) ∷ [])
+masks = unfold account in refl
 
 -- ---- Edits, and what a day lists before and after they are published
 
@@ -218,39 +152,16 @@ found a = take (a .count) (a .numbers)
 
 -- Three spells; 2 is struck; 3, on days 5 to 8, is amended to days 2 and 3, which is taken back. A day is asked before and after each publish.
 abbrev editing : List Request
-editing = plainly 1 1 10
-    ∷ plainly 2 3 4
-    ∷ plainly 3 5 8
-    ∷ call (Publish 1)
-    ∷ call (Strike 2)
-    ∷ call (Ask (Day 3))
-    ∷ call (Publish 1)
-    ∷ call (Ask (Day 3))
-    ∷ call (Ask (Day 6))
-    ∷ call (Amend (spell 3 1 2 3 (Grade 1)))
-    ∷ call (Ask (Day 6))
-    ∷ call (Publish 1)
-    ∷ call (Ask (Day 6))
-    ∷ call (Ask (Day 3))
-    ∷ call TakeBack
-    ∷ call (Ask (Day 3))
-    ∷ call (Publish 1)
-    ∷ call (Ask (Day 3))
-    ∷ []
+editing = plainly 1 1 10 ∷ plainly 2 3 4 ∷ plainly 3 5 8 ∷ call (Publish 1)
+    ∷ call (Strike 2) ∷ call (Ask (Day 3)) ∷ call (Publish 1) ∷ call (Ask (Day 3)) ∷ call (Ask (Day 6))
+    ∷ call (Amend (spell 3 1 2 3 (Grade 1))) ∷ call (Ask (Day 6)) ∷ call (Publish 1) ∷ call (Ask (Day 6)) ∷ call (Ask (Day 3))
+    ∷ call TakeBack ∷ call (Ask (Day 3)) ∷ call (Publish 1) ∷ call (Ask (Day 3)) ∷ []
 
 pub edits : map found (run fresh editing)
-    ≡ [] ∷ [] ∷ [] ∷ [] ∷ []
-    ∷ (1 ∷ 2 ∷ []) ∷ []
-    ∷ (1 ∷ [])
-    ∷ (1 ∷ 3 ∷ []) ∷ []
-    ∷ (1 ∷ 3 ∷ []) ∷ []
-    ∷ (1 ∷ [])
-    ∷ (1 ∷ 3 ∷ []) ∷ []
-    ∷ (1 ∷ 3 ∷ []) ∷ []
-    ∷ (1 ∷ [])
-    ∷ []
-unfolding run settle effectOf takeBack ask enterRefusal amendRefusal strikeRefusal insertBy publishedOf lastOf sortedBy listedBefore remove remember earlierOf stands idle sameOf filter
-edits = refl
+    ≡ replicate 5 [] ++ ((1 ∷ 2 ∷ []) ∷ [] ∷ (1 ∷ []) ∷ (1 ∷ 3 ∷ [])
+    ∷ [] ∷ (1 ∷ 3 ∷ []) ∷ [] ∷ (1 ∷ []) ∷ (1 ∷ 3 ∷ [])
+    ∷ [] ∷ (1 ∷ 3 ∷ []) ∷ [] ∷ (1 ∷ []) ∷ [])
+edits = unfold account in refl
 
 -- ---- The 65th list falls off
 
@@ -268,29 +179,19 @@ abbrev longPast : List Request
 longPast = (call (Enter one) ∷ alternating 32) ++ (replicate 65 (call TakeBack) ++ (call (Strike 11) ∷ call (Strike 11) ∷ []))
 
 pub past-64 : map (λ (a : Answer). a .refusal) (run fresh longPast) ≡ replicate 129 0 ++ (9 ∷ 0 ∷ 7 ∷ [])
-unfolding run settle effectOf takeBack enterRefusal amendRefusal strikeRefusal insertBy publishedOf lastOf sortedBy listedBefore remove remember earlierOf stands idle sameOf alternating isNan toBits ofBits
-past-64 = refl
+past-64 = unfold account alternating in refl
 
 -- ---- Saving a form twice
 
 -- An enter, and two amends, the second of the reading's lowest bit alone; then 64 idle ones. Minus zero and a NaN are refused. All three
 -- edits are taken back; after the first of them the former reading stands, by which an amend is idle.
 abbrev saving : List Request
-saving = call (Enter one)
-    ∷ call (Amend (measured 0x3F80_0000))
-    ∷ replicate 65 (call (Amend (measured 0x3F80_0001)))
-    ++ (call (Amend (measured 0x8000_0000))
-    ∷ call (Amend (measured 0x7FC0_0000))
-    ∷ call TakeBack
-    ∷ call (Amend (measured 0x3F80_0000))
-    ∷ call TakeBack
-    ∷ call TakeBack
-    ∷ call TakeBack
-    ∷ [])
+saving = call (Enter one) ∷ call (Amend (measured 0x3F80_0000)) ∷ replicate 65 (call (Amend (measured 0x3F80_0001)))
+    ++ (call (Amend (measured 0x8000_0000)) ∷ call (Amend (measured 0x7FC0_0000)) ∷ call TakeBack
+    ∷ call (Amend (measured 0x3F80_0000)) ∷ replicate 3 (call TakeBack))
 
 pub saves : map (λ (a : Answer). a .refusal) (run fresh saving) ≡ replicate 67 0 ++ (5 ∷ 5 ∷ 0 ∷ 0 ∷ 0 ∷ 0 ∷ 9 ∷ [])
-unfolding run settle effectOf takeBack enterRefusal amendRefusal insertBy publishedOf lastOf sortedBy listedBefore remove remember earlierOf stands idle sameOf isNan toBits ofBits
-saves = refl
+saves = unfold account in refl
 
 -- What is idle: the spell that stands, and none that differs in one field.
 pub idles : map (idle (one ∷ spell 12 8 3 4 (Reading (ofBits binary32 0x3F80_0000)) ∷ []))
@@ -298,5 +199,4 @@ pub idles : map (idle (one ∷ spell 12 8 3 4 (Reading (ofBits binary32 0x3F80_0
     ∷ spell 13 7 1 10 (Grade 2) ∷ spell 11 8 1 10 (Grade 2) ∷ spell 11 7 2 10 (Grade 2) ∷ spell 11 7 1 11 (Grade 2) ∷ spell 11 7 1 10 (Grade 3)
     ∷ measured 0 ∷ spell 12 8 3 4 (Reading (ofBits binary32 0x3F80_0001)) ∷ spell 12 8 3 4 (Grade 2) ∷ [])
     ≡ true ∷ true ∷ replicate 8 false
-unfolding idle sameOf isNan toBits ofBits
-idles = refl
+idles = unfold idle sameOf isNan toBits ofBits in refl

@@ -1,5 +1,5 @@
 -- When the checks of an edit accept it. Assumes nothing.
-use Rattle.basis.proofs.Prelude.{_∙_, _≡_, refl, sym, _<_, ℕ, List, Bool, cond, false, true, _↔_, eqb, leb, length, arith, eq-eqb, eqb-false, eqb-true, leb-false, lt-leb, ne-eqb}
+use Rattle.basis.proofs.Prelude.{_∙_, _≡_, refl, sym, _<_, ℕ, List, Bool, cond, false, true, _↔_, eqb, leb, length, arith, eq-eqb, eqb-false, eqb-true, leb-false, lt-leb, ne-eqb, by-test}
 use Rattle.model.proofs.Names.{accepted, duplicateNumber, unknownNumber, full, Spell, refusalOf, stands, past, orElse, enterRefusal, amendRefusal, strikeRefusal}
 
 -- ---- Two checks, one after the other
@@ -11,19 +11,12 @@ pub passes : (n m : ℕ) → n ≡ accepted → m ≡ orElse n m
 passes n m h = rw (eq-eqb n accepted h)
 
 both-pass : (n m : ℕ) → orElse n m ≡ accepted → (n ≡ accepted) × (m ≡ accepted)
-both-pass n m h = go (eqb n accepted) refl h
-  where
-    go : (b : Bool) → eqb n accepted ≡ b → cond b m n ≡ accepted → (n ≡ accepted) × (m ≡ accepted)
-    go true e k = (eqb-true n accepted e, k)
-    go false e k = absurd (eqb-false n accepted e k)
+both-pass n m h = by-test (eqb n accepted) (λ e. (eqb-true n accepted e, rw e at h)) (λ e. absurd (eqb-false n accepted e (rw e at h)))
 
 -- a number that is known
 known : (b : Bool) → cond b accepted unknownNumber ≡ accepted → b ≡ true
 known true e = refl
-known false e = absurd (never e)
-  where
-    never : unknownNumber ≡ accepted → ⊥
-    never e = omega arith
+known false e = absurd (omega arith)
 
 -- ---- The checks of enter, amend and strike
 
@@ -35,12 +28,10 @@ module _ (l : List Spell) (s : Spell) where
     pub room : length l < 1024
 
   pub enters : enterRefusal l s ≡ accepted → Enters
-  unfolding enterRefusal
-  enters h =
+  enters h = unfold enterRefusal in
       let p = both-pass (refusalOf s) _ h in
-      let q = past (stands l (s .number)) 5 (cond (leb 1024 (length l)) full accepted) (p .1) in
-      let r = past (leb 1024 (length l)) 7 accepted (q .1) in
-      record { passes = p .0; free = q .0; room = leb-false 1024 (length l) (r .0) }
+      let q = past (stands l (s .number)) 5 _ (p .1) in
+      record { passes = p .0; free = q .0; room = leb-false 1024 (length l) (past (leb 1024 (length l)) 7 accepted (q .1) .0) }
 
   pub enter-accepted : enterRefusal l s ≡ accepted ↔ Enters
   unfolding enterRefusal
@@ -52,8 +43,7 @@ module _ (l : List Spell) (s : Spell) where
     pub there : stands l (s .number) ≡ true
 
   pub amends : amendRefusal l s ≡ accepted → Amends
-  unfolding amendRefusal
-  amends h =
+  amends h = unfold amendRefusal in
       let p = both-pass (refusalOf s) _ h in
       record { passes = p .0; there = known (stands l (s .number)) (p .1) }
 
@@ -63,5 +53,4 @@ module _ (l : List Spell) (s : Spell) where
 
 -- an accepted strike: the number stands
 pub strike-accepted : (l : List Spell) (k : ℕ) → strikeRefusal l k ≡ accepted ↔ (stands l k ≡ true)
-unfolding strikeRefusal
-strike-accepted l k = (known (stands l k), λ e. rw e)
+strike-accepted l k = unfold strikeRefusal in (known (stands l k), λ e. rw e)

@@ -1,26 +1,28 @@
 -- What the edits do, each claim one of every state. Assumes nothing.
 use Rattle.basis.proofs.Prelude.{_∙_, _≡_, ap, refl, sym, _≤_, ℕ, List, List·Memᴰ, _++_, _∷_, false, true, _↔_, _⊎_, inl, inr, drop, length, take, le-leb, by-cases}
-use Rattle.model.proofs.{Names.{accepted, duplicateNumber, unknownNumber, full, isRule, Spell, refusalOf, earlierOf, stands, distinct, writeAll, Enter, Amend, Strike, TakeBack, Publish, Write, Ask, insert, remove, replace, idle, enterRefusal, amendRefusal, strikeRefusal, remember, onDay, listed, publishedOf, withStanding, withPublished, After, Effect, refuse, settle, over, edit, effectOf, stepOf, Passes, State, Request}, Checks.{stops, passes, Enters, enter-accepted, Amends, amend-accepted, strike-accepted}, Edits.{in-insert, in-remove}, Idle.idle-stands, Effects.become-does, Rules.{back-takes, write-writes}, Asked.day-lists}
+use Rattle.model.proofs.{Names.{accepted, duplicateNumber, unknownNumber, full, isRule, Spell, refusalOf, earlierOf, stands, distinct, writeAll, Enter, Amend, Strike, TakeBack, Publish, Write, Ask, insert, remove, replace, idle, enterRefusal, amendRefusal, strikeRefusal, remember, onDay, listed, publishedOf, withStanding, withPublished, After, Effect, refuse, settle, over, become, edit, effectOf, stepOf, Passes, State, Request}, Checks.{stops, passes, Enters, enter-accepted, Amends, amend-accepted, strike-accepted}, Edits.{in-insert, in-remove}, Idle.idle-stands, Effects.become-does, Rules.{back-takes, write-writes}, Asked.day-lists}
 use Rattle.model.specs.declared.Question.the-variants.{Day}
 
 module _ (m : State) (q : Request) where
   -- ---- When an edit is accepted
 
-  edit-answer : (n : ℕ) (l : List Spell) → settle (edit n l m) m q .answer .refusal ≡ n
-  unfolding settle
-  edit-answer n l = become-does (λ e. settle e m q .answer .refusal ≡ n) m n l (remember (m .standing) (m .past)) (λ e. sym e) (λ _. refl)
+  become-answer : (n : ℕ) (l : List Spell) (p : List (List Spell)) → settle (become n l p m) m q .answer .refusal ≡ n
+  become-answer n l p = unfold settle in become-does (λ e. settle e m q .answer .refusal ≡ n) m n l p (λ e. sym e) (λ _. refl)
+
+  -- EACH answers with the first of its checks that refuses it: those of `Edits.antt`, in their order
+  pub enter-answer : (s : Spell) → stepOf (Enter s) m q .answer .refusal ≡ enterRefusal (m .standing) s
+  enter-answer s = unfold effectOf in become-answer _ _ _
+
+  pub amend-answer : (s : Spell) → stepOf (Amend s) m q .answer .refusal ≡ amendRefusal (m .standing) s
+  amend-answer s = unfold effectOf in
+      by-cases (λ e. settle e m q .answer .refusal ≡ amendRefusal (m .standing) s) (idle (m .standing) s) (λ _. become-answer _ _ _) (λ _. become-answer _ _ _)
+
+  pub strike-answer : (k : ℕ) → stepOf (Strike k) m q .answer .refusal ≡ strikeRefusal (m .standing) k
+  strike-answer k = unfold effectOf in become-answer _ _ _
 
   -- ENTER is accepted exactly where the spell passes the checks 1 to 5, its number does not stand and less than 1,024 stand
   pub enter-when : (s : Spell) → stepOf (Enter s) m q .answer .refusal ≡ accepted ↔ Enters (m .standing) s
-  unfolding effectOf
-  enter-when s = rw (edit-answer (enterRefusal (m .standing) s) (insert s (m .standing))) (enter-accepted (m .standing) s)
-
-  amend-answer : (s : Spell) → stepOf (Amend s) m q .answer .refusal ≡ amendRefusal (m .standing) s
-  unfolding effectOf settle
-  amend-answer s =
-      let n : ℕ = amendRefusal (m .standing) s in
-      let F : Effect → Type 0 = λ e. settle e m q .answer .refusal ≡ n in
-      by-cases F (idle (m .standing) s) (λ _. become-does F m n (m .standing) (m .past) (λ e. sym e) (λ _. refl)) (λ _. edit-answer n (replace s (m .standing)))
+  enter-when s = rw (enter-answer s) (enter-accepted (m .standing) s)
 
   -- AMEND exactly where the spell passes and its number stands
   pub amend-when : (s : Spell) → stepOf (Amend s) m q .answer .refusal ≡ accepted ↔ Amends (m .standing) s
@@ -28,35 +30,15 @@ module _ (m : State) (q : Request) where
 
   -- STRIKE exactly where the number stands
   pub strike-when : (k : ℕ) → stepOf (Strike k) m q .answer .refusal ≡ accepted ↔ (stands (m .standing) k ≡ true)
-  unfolding effectOf
-  strike-when k = rw (edit-answer (strikeRefusal (m .standing) k) (remove k (m .standing))) (strike-accepted (m .standing) k)
+  strike-when k = rw (strike-answer k) (strike-accepted (m .standing) k)
 
-  -- ---- Which check refuses it: 1 to 5 before the others, taken before full
-
-  pub enter-bad : (s : Spell) → (Passes s → ⊥) → stepOf (Enter s) m q .answer .refusal ≡ refusalOf s
-  unfolding effectOf enterRefusal
-  enter-bad s bad = edit-answer (enterRefusal (m .standing) s) (insert s (m .standing)) ∙ sym (stops (refusalOf s) _ bad)
-
-  pub enter-taken : (s : Spell) → Passes s → stands (m .standing) (s .number) ≡ true → stepOf (Enter s) m q .answer .refusal ≡ duplicateNumber
-  unfolding effectOf enterRefusal
-  enter-taken s fine there = edit-answer (enterRefusal (m .standing) s) (insert s (m .standing)) ∙ sym (passes (refusalOf s) _ fine) ∙ rw there
-
-  pub enter-full : (s : Spell) → Passes s → stands (m .standing) (s .number) ≡ false → 1024 ≤ length (m .standing) → stepOf (Enter s) m q .answer .refusal ≡ full
-  unfolding effectOf enterRefusal
-  enter-full s fine free many =
-      edit-answer (enterRefusal (m .standing) s) (insert s (m .standing)) ∙ sym (passes (refusalOf s) _ fine) ∙ rw (free, le-leb 1024 (length (m .standing)) many)
+  -- the checks 1 to 5 of an amend come before the other
 
   pub amend-bad : (s : Spell) → (Passes s → ⊥) → stepOf (Amend s) m q .answer .refusal ≡ refusalOf s
-  unfolding amendRefusal
-  amend-bad s bad = amend-answer s ∙ sym (stops (refusalOf s) _ bad)
+  amend-bad s bad = unfold amendRefusal in amend-answer s ∙ sym (stops (refusalOf s) _ bad)
 
   pub amend-unknown : (s : Spell) → Passes s → stands (m .standing) (s .number) ≡ false → stepOf (Amend s) m q .answer .refusal ≡ unknownNumber
-  unfolding amendRefusal
-  amend-unknown s fine free = amend-answer s ∙ sym (passes (refusalOf s) _ fine) ∙ rw free
-
-  pub strike-unknown : (k : ℕ) → stands (m .standing) k ≡ false → stepOf (Strike k) m q .answer .refusal ≡ unknownNumber
-  unfolding effectOf strikeRefusal
-  strike-unknown k free = edit-answer (strikeRefusal (m .standing) k) (remove k (m .standing)) ∙ rw free
+  amend-unknown s fine free = unfold amendRefusal in amend-answer s ∙ sym (passes (refusalOf s) _ fine) ∙ rw free
 
   -- ---- What an accepted edit does
 
@@ -69,30 +51,26 @@ module _ (m : State) (q : Request) where
 
   edited : {In : Spell → Type 0} (n : ℕ) (l : List Spell) → ((s : Spell) → List·Memᴰ s l ↔ In s)
       → settle (edit n l m) m q .answer .refusal ≡ accepted → Edited In (settle (edit n l m) m q .state)
-  unfolding settle remember
-  edited {In} n l is =
+  edited {In} n l is = unfold settle remember in
       become-does (λ e. settle e m q .answer .refusal ≡ accepted → Edited In (settle e m q .state)) m n l (remember (m .standing) (m .past))
       (λ _ _. record { standing = is; past = refl; published = refl }) (λ no r. absurd (no r))
 
   -- ENTER adds the spell, and no other goes or comes
   pub enter-adds : (s : Spell) → stepOf (Enter s) m q .answer .refusal ≡ accepted
       → Edited (λ x. (x ≡ s) ⊎ List·Memᴰ x (m .standing)) (stepOf (Enter s) m q .state)
-  unfolding effectOf
-  enter-adds s = edited (enterRefusal (m .standing) s) (insert s (m .standing)) (in-insert earlierOf s (m .standing))
+  enter-adds s = unfold effectOf in edited (enterRefusal (m .standing) s) (insert s (m .standing)) (in-insert earlierOf s (m .standing))
 
   -- spell numbers are unique in every state that calls lead to (`always-kept` in `Runs.antt`)
   module _ (unique : distinct (m .standing) ≡ true) where
     -- STRIKE removes the spell of that number, and keeps the others
     pub strike-removes : (k : ℕ) → stepOf (Strike k) m q .answer .refusal ≡ accepted
         → Edited (λ x. List·Memᴰ x (m .standing) × (x .number ≡ k → ⊥)) (stepOf (Strike k) m q .state)
-    unfolding effectOf
-    strike-removes k = edited (strikeRefusal (m .standing) k) (remove k (m .standing)) (in-remove k (m .standing) unique)
+    strike-removes k = unfold effectOf in edited (strikeRefusal (m .standing) k) (remove k (m .standing)) (in-remove k (m .standing) unique)
 
     -- AMEND by another spell than the standing one puts it in the place of that of its number, and keeps the others
     pub amend-replaces : (s : Spell) → idle (m .standing) s ≡ false → stepOf (Amend s) m q .answer .refusal ≡ accepted
         → Edited (λ x. (x ≡ s) ⊎ (List·Memᴰ x (m .standing) × (x .number ≡ s .number → ⊥))) (stepOf (Amend s) m q .state)
-    unfolding effectOf
-    amend-replaces s real =
+    amend-replaces s real = unfold effectOf in
         let less = remove (s .number) (m .standing) in
         rw real (edited (amendRefusal (m .standing) s) (replace s (m .standing)) (λ x.
         let put = in-insert earlierOf s less x in
@@ -103,8 +81,7 @@ module _ (m : State) (q : Request) where
 
   -- AN IDLE AMEND, by a spell that equals the standing one in all fields, answers 0 and leaves the whole state as it is
   pub idle-keeps : (s : Spell) → Passes s → idle (m .standing) s ≡ true → stepOf (Amend s) m q ≡ refuse accepted m q
-  unfolding effectOf settle
-  idle-keeps s fine same =
+  idle-keeps s fine same = unfold effectOf settle in
       let n : amendRefusal (m .standing) s ≡ accepted = amend-accepted (m .standing) s .1 (record { passes = fine; there = idle-stands (m .standing) s same }) in
       rw (same, n)
 
@@ -120,12 +97,13 @@ module _ (m : State) (p e : Request) (rule : ℕ) (known : isRule rule ≡ true)
   abbrev amended : After
   amended = stepOf (Amend s) (stepOf (Publish rule) m p .state) e
 
-  amended-lists : amended .answer .refusal ≡ accepted → (amended .state .standing ≡ replace s (m .standing)) × (amended .state .published ≡ publishedOf rule (m .standing))
-  unfolding effectOf settle
-  amended-lists =
+  amended-is : amended .answer .refusal ≡ accepted
+      → amended .state ≡ withStanding (replace s (m .standing)) (remember (m .standing) (m .past)) (withPublished (publishedOf rule (m .standing)) m)
+  amended-is = unfold effectOf settle in
       let x : State = withPublished (publishedOf rule (m .standing)) m in
-      rw (known, real) (become-does (λ f. settle f x e .answer .refusal ≡ accepted → (settle f x e .state .standing ≡ replace s (m .standing)) × (settle f x e .state .published ≡ publishedOf rule (m .standing)))
-      x (amendRefusal (m .standing) s) (replace s (m .standing)) (remember (m .standing) (m .past)) (λ _ _. (refl, refl)) (λ no r. absurd (no r)))
+      let l : List Spell = replace s (m .standing) in
+      let p : List (List Spell) = remember (m .standing) (m .past) in
+      rw (known, real) (become-does (λ f. settle f x e .answer .refusal ≡ accepted → settle f x e .state ≡ withStanding l p x) x (amendRefusal (m .standing) s) l p (λ _ _. refl) (λ bad r. absurd (bad r)))
 
   -- WRITING gives the amended list, and a DAY still asks the list as it was published
   pub amended-unpublished : amended .answer .refusal ≡ accepted → (q : Request) (d : ℕ)
@@ -133,13 +111,7 @@ module _ (m : State) (p e : Request) (rule : ℕ) (known : isRule rule ≡ true)
       → stepOf Write (amended .state) q .answer .text ≡ over (writeAll (replace s (m .standing))) (q .text))
       × (stepOf (Ask (Day d)) (amended .state) q .answer .refusal ≡ accepted
       → stepOf (Ask (Day d)) (amended .state) q .answer .numbers ≡ over (listed (onDay d) (publishedOf rule (m .standing))) (q .numbers))
-  amended-unpublished r q d =
-      let x = amended .state in
-      let is = amended-lists r in (
-        λ h.
-            let w = write-writes x q h in
-            w .text ∙ ap (λ (n : ℕ). writeAll (x .standing) ++ drop n (q .text)) (w .length) ∙ ap (λ (l : List Spell). over (writeAll l) (q .text)) (is .0),
-        λ h.
-            let a = day-lists x q d h in
-            a .numbers ∙ ap (λ (n : ℕ). listed (onDay d) (x .published) ++ drop n (q .numbers)) (a .count) ∙ ap (λ (l : List Spell). over (listed (onDay d) l) (q .numbers)) (is .1),
-      )
+  amended-unpublished r q d = rw (amended-is r) (
+    λ h. let w = write-writes _ q h in rw (w .length) at (w .text),
+    λ h. let a = day-lists _ q d h in rw (a .count) at (a .numbers),
+  )

@@ -18,14 +18,8 @@ module _ (P : After → Type 0) (m : State) (q : Request) where
   unfolding settle
   settles short (refused n) p = p
   settles short (done m′) p = p
-  settles short (gives ns c t) p =
-      by-test (leb (length ns) (length (q .numbers)))
-      (λ e. rw (fits-given m q ns c t (leb-true (length ns) (length (q .numbers)) e)) p)
-      (λ e. rw (short-refused m q ns c t (leb-false (length ns) (length (q .numbers)) e)) short)
-  settles short (writes t) p =
-      by-test (leb (length t) (length (q .text)))
-      (λ e. rw (text-fits m q t (leb-true (length t) (length (q .text)) e)) p)
-      (λ e. rw (text-short m q t (leb-false (length t) (length (q .text)) e)) short)
+  settles short (gives ns c t) p = by-cases P (leb (length ns) (length (q .numbers))) (λ _. p) (λ _. short)
+  settles short (writes t) p = by-cases P (leb (length t) (length (q .text))) (λ _. p) (λ _. short)
 
 -- ---- What a call does
 
@@ -44,7 +38,7 @@ module _ (F : Effect → Type 0) where
       → (idle (m .standing) s ≡ true → amendRefusal (m .standing) s ≡ accepted → F (done m))
       → (idle (m .standing) s ≡ false → F (edit (amendRefusal (m .standing) s) (replace s (m .standing)) m)) → F (amend s m)
   amend-does m s refusing stays made =
-      by-cases F (idle (m .standing) s) (λ e. become-does m (amendRefusal (m .standing) s) (m .standing) (m .past) (stays e) (refusing _)) made
+      by-cases F (idle (m .standing) s) (λ e. become-does m (amendRefusal (m .standing) s) _ _ (stays e) (refusing _)) made
 
   -- F holds of whatever a question does
   pub record Asking (ds : List ℕ) (p : List Spell) : Type 0 where
@@ -55,12 +49,10 @@ module _ (F : Effect → Type 0) where
 
   module _ (no : Refusing) (p : List Spell) where
     pub day-does : (d : ℕ) (ds : List ℕ) → F (reaching d d p) → F (ask (Day d) ds p)
-    unfolding ask
-    day-does d ds asked = by-cases F (isDay d) (λ _. asked) (λ _. no offCalendar (λ e. omega arith))
+    day-does d ds asked = unfold ask in by-cases F (isDay d) (λ _. asked) (λ _. no offCalendar (λ e. omega arith))
 
     pub span-does : (a b : ℕ) (ds : List ℕ) → F (reaching b a p) → F (ask (Span a b) ds p)
-    unfolding ask
-    span-does a b ds asked =
+    span-does a b ds asked = unfold ask in
         by-cases F (isDay a && isDay b)
         (λ _. by-cases F (leb a b) (λ _. asked) (λ _. no reversed (λ e. omega arith)))
         (λ _. no offCalendar (λ e. omega arith))
@@ -93,15 +85,11 @@ module _ (F : Effect → Type 0) where
         → (reads c ≡ false → (l : List Spell) (p : List (List Spell)) → F (done (withStanding l p m)))
         → ((rule : ℕ) → c ≡ Publish rule → F (done (withPublished (publishedOf rule (m .standing)) m))) → F (effectOf c ds m)
     unfolding effectOf takeBack
-    call-does (Enter s) changed published =
-        become-does m (enterRefusal (m .standing) s) (insert s (m .standing)) (remember (m .standing) (m .past)) (λ _. changed refl _ _) (a .refusing _)
+    call-does (Enter s) changed published = become-does m (enterRefusal (m .standing) s) _ _ (λ _. changed refl _ _) (a .refusing _)
     call-does (Amend s) changed published =
-        amend-does m s (a .refusing) (λ _ _. changed refl (m .standing) (m .past)) (λ _.
-        become-does m (amendRefusal (m .standing) s) (replace s (m .standing)) (remember (m .standing) (m .past)) (λ _. changed refl _ _) (a .refusing _))
-    call-does (Strike k) changed published =
-        become-does m (strikeRefusal (m .standing) k) (remove k (m .standing)) (remember (m .standing) (m .past)) (λ _. changed refl _ _) (a .refusing _)
-    call-does TakeBack changed published =
-        become-does m (takeBackRefusal (m .past)) (frontOr (m .standing) (m .past)) (restOf (m .past)) (λ _. changed refl _ _) (a .refusing _)
+        amend-does m s (a .refusing) (λ _ _. changed refl _ _) (λ _. become-does m (amendRefusal (m .standing) s) _ _ (λ _. changed refl _ _) (a .refusing _))
+    call-does (Strike k) changed published = become-does m (strikeRefusal (m .standing) k) _ _ (λ _. changed refl _ _) (a .refusing _)
+    call-does TakeBack changed published = become-does m (takeBackRefusal (m .past)) _ _ (λ _. changed refl _ _) (a .refusing _)
     call-does (Publish rule) changed published = by-cases F (isRule rule) (λ _. published rule refl) (λ _. a .refusing noSuchRule (λ e. omega arith))
     call-does Write changed published = written
     call-does (Ask w) changed published = asks-does a w

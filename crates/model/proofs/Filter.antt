@@ -1,6 +1,6 @@
 -- The spells of a list that pass a test: exactly those, in the order, each number once. Assumes nothing.
-use Rattle.basis.proofs.Prelude.{_∙_, _≡_, ap, refl, sym, _≤_, suc, ℕ, List, List·Memᴰ, List·Memᴰ·cases-cons, List·Memᴰ·head, List·Memᴰ·not-nil, List·Memᴰ·tail, [], _∷_, Bool, _||_, cond, false, false≢true, not, true, _⊎_, inl, inr, eqb, length, length-map, arith, not-true, both}
-use Rattle.model.proofs.Names.{Spell, orderedBy, stands, distinct, Each, StrictOrder, ordered-tail, ordered-first, ordered-cons, filter, listed}
+use Rattle.basis.proofs.Prelude.{_∙_, _≡_, ap, refl, _≤_, suc, ℕ, List, List·Memᴰ, List·Memᴰ·cases-cons, List·Memᴰ·head, List·Memᴰ·not-nil, List·Memᴰ·tail, [], _∷_, Bool, false, true, inl, inr, eqb, length, length-map, arith, by-cases}
+use Rattle.model.proofs.Names.{Spell, orderedBy, stands, distinct, Each, OrderlyBy, StrictOrder, neither, alone, ordered-tail, ordered-first, ordered-cons, filter, listed}
 
 module _ (t : Spell → Bool) where
   -- ---- In the filtered list are the spells of the list that pass
@@ -8,86 +8,66 @@ module _ (t : Spell → Bool) where
   pub filter-in : (l : List Spell) (x : Spell) → List·Memᴰ x (filter t l) → List·Memᴰ x l × (t x ≡ true)
   unfolding filter
   filter-in [] x i = absurd (List·Memᴰ·not-nil i)
-  filter-in (y ∷ l) x i = go (t y) refl (λ j. filter-in l x j) i
-    where
-      go : (b : Bool) → t y ≡ b → (List·Memᴰ x (filter t l) → List·Memᴰ x l × (t x ≡ true))
-          → List·Memᴰ x (cond b (y ∷ filter t l) (filter t l)) → List·Memᴰ x (y ∷ l) × (t x ≡ true)
-      go true e on i = hit (List·Memᴰ·cases-cons i)
-        where
-          hit : (x ≡ y) ⊎ List·Memᴰ x (filter t l) → List·Memᴰ x (y ∷ l) × (t x ≡ true)
-          hit (inl s) = (List·Memᴰ·head s, ap t s ∙ e)
-          hit (inr j) = (List·Memᴰ·tail (on j .0), on j .1)
-      go false e on i = (List·Memᴰ·tail (on i .0), on i .1)
+  filter-in (y ∷ l) x i =
+      let later : List·Memᴰ x (filter t l) → List·Memᴰ x (y ∷ l) × (t x ≡ true) = λ j. let h = filter-in l x j in (List·Memᴰ·tail (h .0), h .1) in
+      by-cases (λ (r : List Spell). List·Memᴰ x r → List·Memᴰ x (y ∷ l) × (t x ≡ true)) (t y)
+      (λ e i. elim (List·Memᴰ·cases-cons {b = y} {l = filter t l} i) [ inl s ↦ (List·Memᴰ·head s, ap t s ∙ e) | inr j ↦ later j ]) (λ _. later) i
 
   pub in-filter : (l : List Spell) (x : Spell) → List·Memᴰ x l → t x ≡ true → List·Memᴰ x (filter t l)
   unfolding filter
-  in-filter [] x i e = absurd (List·Memᴰ·not-nil i)
-  in-filter (y ∷ l) x i e = go (t y) refl (λ j. in-filter l x j e) (List·Memᴰ·cases-cons i)
-    where
-      go : (b : Bool) → t y ≡ b → (List·Memᴰ x l → List·Memᴰ x (filter t l)) → (x ≡ y) ⊎ List·Memᴰ x l
-          → List·Memᴰ x (cond b (y ∷ filter t l) (filter t l))
-      go true f on (inl s) = List·Memᴰ·head s
-      go true f on (inr j) = List·Memᴰ·tail (on j)
-      go false f on (inl s) = absurd (false≢true (sym f ∙ sym (ap t s) ∙ e))
-      go false f on (inr j) = on j
+  in-filter l x (List·Memᴰ·head {x = y} {xs = m} s) e = rw (rw s at e) (List·Memᴰ·head s)
+  in-filter l x (List·Memᴰ·tail {x = y} {xs = m} j) e = let k = in-filter m x j e in by-cases (List·Memᴰ x) (t y) (λ _. List·Memᴰ·tail k) (λ _. k)
 
   -- ---- They are no more than the list has
 
-  pub filter-few : (l : List Spell) → length (filter t l) ≤ length l
+  filter-few : (l : List Spell) → length (filter t l) ≤ length l
   unfolding filter
   filter-few [] = omega arith
-  filter-few (y ∷ l) = go (t y) (filter-few l)
-    where
-      go : (b : Bool) → length (filter t l) ≤ length l → length (cond b (y ∷ filter t l) (filter t l)) ≤ suc (length l)
-      go true h = omega arith
-      go false h = omega arith
+  filter-few (y ∷ l) = let h = filter-few l in by-cases (λ (r : List Spell). length r ≤ suc (length l)) (t y) (λ _. omega arith) (λ _. omega arith)
 
   pub listed-few : (l : List Spell) → length (listed t l) ≤ length l
   listed-few l = omega (arith, filter-few l, length-map (filter t l) (λ (s : Spell). s .number))
 
   -- ---- What holds of each spell of a list holds of each that passes
 
-  pub filter-each : (P : Spell → Type 0) (l : List Spell) → Each P l → Each P (filter t l)
+  filter-each : (P : Spell → Type 0) (l : List Spell) → Each P l → Each P (filter t l)
   unfolding filter Each
   filter-each P [] h = tt
-  filter-each P (y ∷ l) h = go (t y) (filter-each P l (h .1))
-    where
-      go : (b : Bool) → Each P (filter t l) → Each P (cond b (y ∷ filter t l) (filter t l))
-      go true k = (h .0, k)
-      go false k = k
+  filter-each P (y ∷ l) h = let k = filter-each P l (h .1) in by-cases (Each P) (t y) (λ _. (h .0, k)) (λ _. k)
 
   -- ---- A list in the order stays in the order
 
   pub filter-ordered : {u : Spell → Spell → Bool} (o : StrictOrder u) (l : List Spell) → orderedBy u l ≡ true → orderedBy u (filter t l) ≡ true
-  unfolding filter orderedBy
-  filter-ordered o [] h = refl
-  filter-ordered {u} o (y ∷ l) h = go (t y) (filter-ordered o l (ordered-tail o y l h))
-    where
-      go : (b : Bool) → orderedBy u (filter t l) ≡ true → orderedBy u (cond b (y ∷ filter t l) (filter t l)) ≡ true
-      go true k = ordered-cons o y (filter t l) (filter-each (λ z. u y z ≡ true) l (ordered-first o y l h)) k
-      go false k = k
+  unfolding filter
+  filter-ordered o [] h = h
+  filter-ordered {u} o (y ∷ l) h =
+      let k = filter-ordered o l (ordered-tail o y l h) in
+      by-cases (λ r. orderedBy u r ≡ true) (t y) (λ _. ordered-cons o y (filter t l) (filter-each (λ z. u y z ≡ true) l (ordered-first o y l h)) k) (λ _. k)
 
   -- ---- Unique numbers stay unique
 
-  pub filter-stands : (l : List Spell) (k : ℕ) → stands l k ≡ false → stands (filter t l) k ≡ false
+  filter-stands : (l : List Spell) (k : ℕ) → stands l k ≡ false → stands (filter t l) k ≡ false
   unfolding filter stands
   filter-stands [] k h = refl
-  filter-stands (y ∷ l) k h = go (t y) (eqb (y .number) k) refl h (λ e. filter-stands l k e)
-    where
-      go : (b c : Bool) → eqb (y .number) k ≡ c → c || stands l k ≡ false → (stands l k ≡ false → stands (filter t l) k ≡ false)
-          → stands (cond b (y ∷ filter t l) (filter t l)) k ≡ false
-      go b true e h on = absurd (false≢true (sym h))
-      go true false e h on = rw (e, stands) (on h)
-      go false false e h on = on h
+  filter-stands (y ∷ l) k h =
+      let p = neither (eqb (y .number) k) (stands l k) h in
+      let on = filter-stands l k (p .1) in
+      by-cases (λ r. stands r k ≡ false) (t y) (λ _. rw (p .0) on) (λ _. on)
 
   pub filter-distinct : (l : List Spell) → distinct l ≡ true → distinct (filter t l) ≡ true
   unfolding filter distinct
   filter-distinct [] h = refl
   filter-distinct (y ∷ l) h =
-      let p = both (not (stands l (y .number))) (distinct l) h in
-      go (t y) (filter-stands l (y .number) (not-true _ (p .0))) (filter-distinct l (p .1))
-    where
-      go : (b : Bool) → stands (filter t l) (y .number) ≡ false → distinct (filter t l) ≡ true
-          → distinct (cond b (y ∷ filter t l) (filter t l)) ≡ true
-      go true s d = rw (s, distinct) d
-      go false s d = d
+      let p = alone y l h in
+      let on = filter-distinct l (p .1) in
+      by-cases (λ r. distinct r ≡ true) (t y) (λ _. rw (filter-stands l (y .number) (p .0)) on) (λ _. on)
+
+  -- ---- So a list that can stand can stand without the others
+
+  pub filter-orderly : {u : Spell → Spell → Bool} (o : StrictOrder u) (P : Spell → Type 0) (l : List Spell) → OrderlyBy u P l → OrderlyBy u P (filter t l)
+  filter-orderly o P l g = record {
+    each = filter-each P l (g .each);
+    in-order = filter-ordered o l (g .in-order);
+    unique = filter-distinct l (g .unique);
+    few = omega (arith, filter-few l, g .few);
+  }

@@ -34,8 +34,7 @@ module _ (P : Spell → Type 0) where
     Keeps = Comes (λ (x : After). Kept P (x .state)) m q
 
     edit-keeps : (n : ℕ) (l : List Spell) → (n ≡ accepted → Orderly P l) → Keeps (edit n l m)
-    unfolding remember
-    edit-keeps n l h =
+    edit-keeps n l h = unfold remember in
         become-does Keeps m n l (remember (m .standing) (m .past))
         (λ e. record {
           standing = h e;

@@ -19,20 +19,17 @@ ticking n a = cond (eqb (a .refusal) accepted)
 module _ (m : State) (q : Request) (b k : ℕ) where
   -- A TICKED DAY OFF THE CALENDAR gets 3
   pub mask-off : daysOk (ticks b k) ≡ false → stepOf (Ask (Mask b k)) m q ≡ refuse offCalendar m q
-  unfolding effectOf ask settle
-  mask-off e = rw e
+  mask-off e = unfold effectOf ask settle in rw e
 
   -- WITH ALL TICKED DAYS ON IT there is no check but the short list: they rise, so that 10 is never given
   pub mask-on : daysOk (ticks b k) ≡ true
       → stepOf (Ask (Mask b k)) m q ≡ settle (gives (listed (onAny (ticks b k)) (m .published)) 0 (length (ticks b k))) m q
-  unfolding effectOf ask
-  mask-on e = rw (e, rising-of (ticks b k) (rises b k))
+  mask-on e = unfold effectOf ask in rw (e, rising-of (ticks b k) (rises b k))
 
   -- THE DAYS QUESTION for the ticked days has the same answer, but for the number of days ticked, which is told where it is accepted
   pub mask-as-days : (days : List ℕ) → days ≡ ticks b k
       → stepOf (Ask (Mask b k)) m q .answer ≡ ticking (length (ticks b k)) (step m (record { call = Ask Days; days = days; numbers = q .numbers; text = q .text }) .answer)
-  unfolding effectOf ask settle
-  mask-as-days days e = rw e (by-test (daysOk (ticks b k))
+  mask-as-days days e = unfold effectOf ask settle in rw e (by-test (daysOk (ticks b k))
       (λ on. rw (on, rising-of (ticks b k) (rises b k)) (by-test (leb (length (listed (onAny (ticks b k)) (m .published))) (length (q .numbers))) (λ f. rw f) (λ f. rw f)))
       (λ off. rw off))
 
@@ -43,5 +40,4 @@ nobody (s ∷ p) = nobody p
 
 -- AN EMPTY MASK lists nobody and ticks 0 days, whatever its base and whatever list is lent
 pub mask-empty : (m : State) (q : Request) (b : ℕ) → stepOf (Ask (Mask b 0)) m q ≡ gave [] 0 0 m q
-unfolding effectOf ask daysOk rising
-mask-empty m q b = rw (empty b) (rw (nobody (m .published)) (fits-given m q [] 0 0 (omega arith)))
+mask-empty m q b = unfold effectOf ask daysOk rising in rw (empty b) (rw (nobody (m .published)) (fits-given m q [] 0 0 (omega arith)))

@@ -1,7 +1,7 @@
 -- Document 01's plain account, what begins it and what take back, publish and writing do, as claims of every state. The edits are in
 -- `Editing.antt`, the questions in `Claims.antt`, whole lists of calls in `Runs.antt`. Assumes nothing.
-use Rattle.basis.proofs.Prelude.{_≡_, refl, _<_, _≤_, ℕ, List, [], _++_, _∷_, leb, drop, length, arith, le-leb, leb-false, leb-true, lt-leb, by-test, true, false}
-use Rattle.model.proofs.Names.{accepted, noHistory, shortBuffer, noSuchRule, isRule, Spell, Register, readText, writeAll, good, bad, text-again, TakeBack, Publish, Write, publishedOf, withStanding, withPublished, gives, writes, refuse, gave, wrote, settle, fresh, begun, takeBack, effectOf, stepOf, State, Request, Answer}
+use Rattle.basis.proofs.Prelude.{_≡_, refl, _<_, _≤_, ℕ, List, [], _++_, _∷_, leb, drop, length, arith, le-leb, lt-leb, by-cases, true, false}
+use Rattle.model.proofs.Names.{accepted, noHistory, shortBuffer, noSuchRule, isRule, Spell, Register, readText, writeAll, good, bad, text-again, TakeBack, Publish, Write, publishedOf, withStanding, withPublished, gives, writes, refuse, gave, wrote, settle, fresh, begun, takeBack, effectOf, stepOf, State, After, Request, Answer}
 
 -- ---- The beginning
 
@@ -13,56 +13,46 @@ reading-begins (bad n line) = (refl, refl)
 
 -- accepted, the text's spells stand, and it is their text
 pub reading-stands : (text : List ℕ) (l : List Spell) → readText text ≡ good l → (begun (readText text) .standing ≡ l) × (writeAll l ≡ text)
-unfolding begun
-reading-stands text l e = (rw e, text-again text l e .0)
+reading-stands text l e = unfold begun in (rw e, text-again text l e .0)
 
 -- refused, it makes a fresh service
 pub reading-refused : (text : List ℕ) (n line : ℕ) → readText text ≡ bad n line → begun (readText text) ≡ fresh
-unfolding begun
-reading-refused text n line e = rw e
+reading-refused text n line e = unfold begun in rw e
 
 module _ (m : State) (q : Request) where
   -- ---- The short list
 
   -- NUMBERS THAT FIT the lent list are given, and others are refused with 11; so is a text
   pub fits-given : (ns : List ℕ) (looks ticked : ℕ) → length ns ≤ length (q .numbers) → settle (gives ns looks ticked) m q ≡ gave ns looks ticked m q
-  unfolding settle
-  fits-given ns looks ticked h = rw (le-leb (length ns) (length (q .numbers)) h)
+  fits-given ns looks ticked h = unfold settle in rw (le-leb (length ns) (length (q .numbers)) h)
 
   pub short-refused : (ns : List ℕ) (looks ticked : ℕ) → length (q .numbers) < length ns → settle (gives ns looks ticked) m q ≡ refuse shortBuffer m q
-  unfolding settle
-  short-refused ns looks ticked h = rw (lt-leb (length ns) (length (q .numbers)) h)
+  short-refused ns looks ticked h = unfold settle in rw (lt-leb (length ns) (length (q .numbers)) h)
 
   pub text-fits : (t : List ℕ) → length t ≤ length (q .text) → settle (writes t) m q ≡ wrote t m q
-  unfolding settle
-  text-fits t h = rw (le-leb (length t) (length (q .text)) h)
+  text-fits t h = unfold settle in rw (le-leb (length t) (length (q .text)) h)
 
   pub text-short : (t : List ℕ) → length (q .text) < length t → settle (writes t) m q ≡ refuse shortBuffer m q
-  unfolding settle
-  text-short t h = rw (lt-leb (length t) (length (q .text)) h)
+  text-short t h = unfold settle in rw (lt-leb (length t) (length (q .text)) h)
 
   -- ---- Take back and publish
 
   -- TAKE BACK: the standing list becomes the front of the past, which loses it; the published list is as it was
   pub back-takes : (l : List Spell) (past : List (List Spell)) → m .past ≡ l ∷ past
       → stepOf TakeBack m q ≡ refuse accepted (withStanding l past m) q
-  unfolding effectOf takeBack settle
-  back-takes l past e = rw e
+  back-takes l past e = unfold effectOf takeBack settle in rw e
 
   -- with no past it is refused with 9
   pub back-refused : m .past ≡ [] → stepOf TakeBack m q ≡ refuse noHistory m q
-  unfolding effectOf takeBack settle
-  back-refused e = rw e
+  back-refused e = unfold effectOf takeBack settle in rw e
 
   -- PUBLISH by a rule that there is leaves the standing list and the past as they are
   pub publish-keeps-past : (rule : ℕ) → isRule rule ≡ true → stepOf (Publish rule) m q ≡ refuse accepted (withPublished (publishedOf rule (m .standing)) m) q
-  unfolding effectOf settle
-  publish-keeps-past rule e = rw e
+  publish-keeps-past rule e = unfold effectOf settle in rw e
 
   -- by any other it is refused with 14, its only check, and changes nothing
   pub publish-refused : (rule : ℕ) → isRule rule ≡ false → stepOf (Publish rule) m q ≡ refuse noSuchRule m q
-  unfolding effectOf settle
-  publish-refused rule e = rw e
+  publish-refused rule e = unfold effectOf settle in rw e
 
   -- ---- Writing
 
@@ -72,13 +62,8 @@ module _ (m : State) (q : Request) where
     pub text : a .text ≡ t ++ drop (a .length) (q .text)
     pub numbers : a .numbers ≡ q .numbers
 
-  written : (t : List ℕ) → settle (writes t) m q .answer .refusal ≡ accepted → Writes t (settle (writes t) m q .answer)
-  written t =
-      by-test (leb (length t) (length (q .text)))
-      (λ e. rw (text-fits t (leb-true (length t) (length (q .text)) e)) (λ _. record { length = refl; text = refl; numbers = refl }))
-      (λ e. rw (text-short t (leb-false (length t) (length (q .text)) e)) (λ r. absurd (omega arith)))
-
   -- ACCEPTED WRITING gives the text of the standing list
   pub write-writes : stepOf Write m q .answer .refusal ≡ accepted → Writes (writeAll (m .standing)) (stepOf Write m q .answer)
-  unfolding effectOf
-  write-writes = written (writeAll (m .standing))
+  write-writes = unfold effectOf settle in
+      by-cases (λ (x : After). x .answer .refusal ≡ accepted → Writes (writeAll (m .standing)) (x .answer)) (leb (length (writeAll (m .standing))) (length (q .text)))
+      (λ _ _. record { length = refl; text = refl; numbers = refl }) (λ _ r. absurd (omega arith))

@@ -7,12 +7,10 @@ module _ {A : Type 0} (t : A → A → Bool) where
   -- ---- One element put in
 
   pub hit : (x y : A) (l : List A) → t y x ≡ false → insertBy t x (y ∷ l) ≡ x ∷ y ∷ l
-  unfolding insertBy
-  hit x y l e = ap (λ (b : Bool). cond b (y ∷ insertBy t x l) (x ∷ y ∷ l)) e
+  hit x y l e = unfold insertBy in ap (λ (b : Bool). cond b (y ∷ insertBy t x l) (x ∷ y ∷ l)) e
 
   pub miss : (x y : A) (l : List A) → t y x ≡ true → insertBy t x (y ∷ l) ≡ y ∷ insertBy t x l
-  unfolding insertBy
-  miss x y l e = ap (λ (b : Bool). cond b (y ∷ insertBy t x l) (x ∷ y ∷ l)) e
+  miss x y l e = unfold insertBy in ap (λ (b : Bool). cond b (y ∷ insertBy t x l) (x ∷ y ∷ l)) e
 
   pub each-inserted : (P : A → Type 0) (x : A) (l : List A) → P x → Each P l → Each P (insertBy t x l)
   unfolding insertBy
@@ -33,8 +31,7 @@ module _ {A : Type 0} (t : A → A → Bool) where
   inserted-first x (y ∷ l) k = hit x y l (k .0)
 
   pub sorted-first : (x : A) (l : List A) → Each (λ y. t y x ≡ false) l → sortedBy t (x ∷ l) ≡ x ∷ sortedBy t l
-  unfolding sortedBy
-  sorted-first x l k = inserted-first x (sortedBy t l) (each-sorted (λ y. t y x ≡ false) l k)
+  sorted-first x l k = unfold sortedBy in inserted-first x (sortedBy t l) (each-sorted (λ y. t y x ≡ false) l k)
 
   pub inserted-length : (x : A) (l : List A) → length (insertBy t x l) ≡ suc (length l)
   unfolding insertBy
@@ -51,8 +48,7 @@ module _ {A : Type 0} (t : A → A → Bool) where
   -- ---- A list in order
 
   first-two : (x y : A) (l : List A) → inOrderBy t (x ∷ y ∷ l) ≡ true → (t y x ≡ false) × (inOrderBy t (y ∷ l) ≡ true)
-  unfolding inOrderBy
-  first-two x y l h = let p = both (not (t y x)) (inOrderBy t (y ∷ l)) h in (not-true (t y x) (p .0), p .1)
+  first-two x y l h = unfold inOrderBy in let p = both (not (t y x)) (inOrderBy t (y ∷ l)) h in (not-true (t y x) (p .0), p .1)
 
   pub in-order-tail : (x : A) (l : List A) → inOrderBy t (x ∷ l) ≡ true → inOrderBy t l ≡ true
   unfolding inOrderBy
@@ -72,8 +68,7 @@ module _ {A : Type 0} (t : A → A → Bool) where
     drop-two l i h = drop-cons l i d (omega arith) ∙ ap (λ (r : List A). getD l i d ∷ r) {y = getD l (i + 1) d ∷ drop (suc (i + 1)) l} (rw (← add-one i) (drop-cons l (i + 1) d h))
 
     pass : (l : List A) (i : ℕ) → i + 1 < length l → inOrderBy t (drop i l) ≡ not (t (getD l (i + 1) d) (getD l i d)) && inOrderBy t (drop (i + 1) l)
-    unfolding inOrderBy
-    pass l i h =
+    pass l i h = unfold inOrderBy in
         ap (inOrderBy t) (drop-two l i h)
         ∙ ap (λ (r : List A). not (t (getD l (i + 1) d) (getD l i d)) && inOrderBy t r) (sym (drop-cons l (i + 1) d h))
 

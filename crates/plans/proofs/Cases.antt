@@ -12,8 +12,7 @@ abbrev about : List Call → List ℕ
 about calls = map (λ (c : Call). numberOf c 7) calls
 
 numbers : about (Enter (spell 3) ∷ Amend (spell 4) ∷ Strike 5 ∷ TakeBack ∷ Publish 1 ∷ Write ∷ []) ≡ 3 ∷ 4 ∷ 5 ∷ 7 ∷ 0 ∷ 0 ∷ []
-unfolding numberOf
-numbers = refl
+numbers = unfold numberOf in refl
 
 -- one entry more, and none more
 depths : deeperBy 0 true ∷ deeperBy 63 true ∷ deeperBy 64 true ∷ deeperBy 0 false ∷ deeperBy 63 false ∷ [] ≡ 1 ∷ 64 ∷ 64 ∷ 0 ∷ 63 ∷ []

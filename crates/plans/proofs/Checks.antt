@@ -33,5 +33,4 @@ module _ (l : List Spell) (s : Spell) {n p : ℕ} (long : length l ≡ n) (at-in
   enter-refusal = rw (stands-is l (s .number) long at-index, long) (ap (λ (r : ℕ). orElse (refusalOf s) r) (two (ltb p n) (leb 1024 n)))
 
   pub amend-refusal : amendRefusal l s ≡ amendCheck s p n
-  unfolding amendRefusal
-  amend-refusal = rw (stands-is l (s .number) long at-index) (ap (λ (r : ℕ). orElse (refusalOf s) r) (beyond p n))
+  amend-refusal = unfold amendRefusal in rw (stands-is l (s .number) long at-index) (ap (λ (r : ℕ). orElse (refusalOf s) r) (beyond p n))

@@ -57,8 +57,7 @@ each-more [] s e p = (p, tt)
 each-more (x ∷ l) s e p = (e .0, each-more l s (e .1) p)
 
 pub kept-none : Kept []
-unfolding Each distinct
-kept-none = record { each = tt; unique = refl; few = omega arith }
+kept-none = unfold Each distinct in record { each = tt; unique = refl; few = omega arith }
 
 kept-more : (l : List Spell) (t : List ℕ) (s : Spell) (rest : List ℕ) → readLine t ≡ found s rest → Passes l s → Kept l → Kept (l ++ (s ∷ []))
 kept-more l t s rest e p k = record {

@@ -5,18 +5,15 @@ use Rattle.rules.specs.Rules.{lapsed, lapsedLast, lastOf, cut}
 
 -- RULE 1 publishes each spell as entered
 pub as-entered : (s : Spell) → cut 1 s ≡ s
-unfolding lastOf
-as-entered s = refl
+as-entered s = unfold lastOf in refl
 
 -- RULE 2: a grade as entered
 pub grade-kept : (s : Spell) (g : ℕ) → s .urgency ≡ Grade g → lastOf 2 s ≡ s .last
-unfolding lastOf
-grade-kept s g e = rw e
+grade-kept s g e = unfold lastOf in rw e
 
 -- a reading until the earlier of its last day and its first day + 6
 pub reading-lapses : (s : Spell) {x : _} → s .urgency ≡ Reading x → lastOf 2 s ≡ lapsed (s .first) (s .last)
-unfolding lastOf
-reading-lapses s e = rw e
+reading-lapses s e = unfold lastOf in rw e
 
 -- ---- A cut day is between the first and the last
 
@@ -31,8 +28,7 @@ module _ (first last : ℕ) (forward : first ≤ last) where
   urgency-within (Reading x) = lapsed-within
 
 pub last-within : (rule : ℕ) (s : Spell) → s .first ≤ s .last → (s .first ≤ lastOf rule s) × (lastOf rule s ≤ s .last)
-unfolding lastOf
-last-within rule s h = by-cases (λ d. (s .first ≤ d) × (d ≤ s .last)) (eqb rule 2)
+last-within rule s h = unfold lastOf in by-cases (λ d. (s .first ≤ d) × (d ≤ s .last)) (eqb rule 2)
     (λ _. urgency-within (s .first) (s .last) h (s .urgency))
     (λ _. (h, omega arith))
 

@@ -15,19 +15,11 @@ abbrev mk : ℕ → ℕ → ℕ → ℕ → Urgency → Spell
 mk n c f l u = record { number = n; candidate = c; first = f; last = l; urgency = u }
 
 pub same-equal : (a b : Spell) → HeldUrgency (a .urgency) → HeldUrgency (b .urgency) → T (sameOf a b) → a ≡ b
-unfolding sameOf
-same-equal a b ha hb t =
-    let n = eqb (a .number) (b .number) in
-    let c = eqb (a .candidate) (b .candidate) in
-    let f = eqb (a .first) (b .first) in
-    let l = eqb (a .last) (b .last) in
-    let t4 = and-l (n && c && f && l) _ t in
-    let t3 = and-l (n && c && f) l t4 in
-    let t2 = and-l (n && c) f t3 in
-    let en = eqb→eq (a .number) (b .number) (and-l n c t2) in
-    let ec = eqb→eq (a .candidate) (b .candidate) (and-r n c t2) in
-    let ef = eqb→eq (a .first) (b .first) (and-r (n && c) f t3) in
-    let el = eqb→eq (a .last) (b .last) (and-r (n && c && f) l t4) in
-    let eu = urgency-same (a .urgency) (b .urgency) ha hb (and-r (n && c && f && l) _ t) in
+same-equal a b ha hb t = unfold sameOf in
+    let number : a .number ≡ b .number = eqb→eq _ _ (search (and-l, and-r)) in
+    let candidate : a .candidate ≡ b .candidate = eqb→eq _ _ (search (and-l, and-r)) in
+    let first : a .first ≡ b .first = eqb→eq _ _ (search (and-l, and-r)) in
+    let last : a .last ≡ b .last = eqb→eq _ _ (search (and-l, and-r)) in
+    let urgency : a .urgency ≡ b .urgency = urgency-same _ _ ha hb (search (and-l, and-r)) in
     let joined : mk (a .number) (a .candidate) (a .first) (a .last) (a .urgency) ≡ mk (b .number) (b .candidate) (b .first) (b .last) (b .urgency) = cc in
     joined

@@ -37,29 +37,24 @@ by-keys : (ks : List (Spell → ℕ)) → StrictOrder (lexical (ks ++ (λ s. s .
 by-keys ks = record { irrefl = lexical-irrefl (ks ++ (λ s. s .number) ∷ []); trans = lexical-trans (ks ++ (λ s. s .number) ∷ []); total = lexical-total ks }
 
 pub text-order : StrictOrder earlierOf
-unfolding earlierOf
-text-order = by-keys ((λ s. s .first) ∷ (λ s. s .last) ∷ [])
+text-order = unfold earlierOf in by-keys ((λ s. s .first) ∷ (λ s. s .last) ∷ [])
 
 pub answer-order : StrictOrder listedBefore
-unfolding listedBefore
-answer-order = by-keys ((λ s. s .first) ∷ (λ s. s .last) ∷ (λ s. s .candidate) ∷ [])
+answer-order = unfold listedBefore in by-keys ((λ s. s .first) ∷ (λ s. s .last) ∷ (λ s. s .candidate) ∷ [])
 
 -- of two spells one after the other by keys that begin with the days, the earlier begins earlier, or on the same day and lasts no longer
 days-rise : (ks : List (Spell → ℕ)) (a b : Spell) → lexical ((λ s. s .first) ∷ (λ s. s .last) ∷ ks) a b ≡ true
     → (a .first < b .first) ⊎ ((a .first ≡ b .first) × (a .last ≤ b .last))
-unfolding lexical
-days-rise ks a b h =
+days-rise ks a b h = unfold lexical in
     let f = key-says (a .first) (b .first) _ h in
     by-eq (a .first) (b .first) (f .0) (λ e. inr (e, key-says (a .last) (b .last) (lexical ks a b) (f .1 e) .0)) inl
 
 pub listed-days : (a b : Spell) → listedBefore a b ≡ true → (a .first < b .first) ⊎ ((a .first ≡ b .first) × (a .last ≤ b .last))
-unfolding listedBefore
-listed-days = days-rise ((λ s. s .candidate) ∷ (λ s. s .number) ∷ [])
+listed-days = unfold listedBefore in days-rise ((λ s. s .candidate) ∷ (λ s. s .number) ∷ [])
 
 -- of two with equal days that which comes first has no higher candidate number
 pub twins-rise : (a b : Spell) → a .first ≡ b .first → a .last ≡ b .last → listedBefore a b ≡ true → a .candidate ≤ b .candidate
-unfolding listedBefore lexical
-twins-rise a b f l h =
+twins-rise a b f l h = unfold listedBefore lexical in
     let k = key-says (a .first) (b .first) _ h .1 f in
     key-says (a .candidate) (b .candidate) _ (key-says (a .last) (b .last) _ k .1 l) .0
 
