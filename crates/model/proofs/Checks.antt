@@ -1,6 +1,6 @@
 -- When the checks of an edit accept it. Assumes nothing.
 use Rattle.basis.proofs.Prelude.{_∙_, _≡_, refl, sym, _<_, ℕ, List, Bool, cond, false, true, _↔_, eqb, leb, length, arith, eq-eqb, eqb-false, eqb-true, leb-false, lt-leb, ne-eqb, by-test}
-use Rattle.model.proofs.Names.{accepted, duplicateNumber, unknownNumber, full, Spell, refusalOf, stands, past, orElse, enterRefusal, amendRefusal, strikeRefusal}
+use Rattle.model.proofs.Names.{accepted, duplicateNumber, unknownNumber, full, Spell, refusalOf, stands, needed, past, orElse, enterRefusal, amendRefusal, strikeRefusal}
 
 -- ---- Two checks, one after the other
 
@@ -12,11 +12,6 @@ passes n m h = rw (eq-eqb n accepted h)
 
 both-pass : (n m : ℕ) → orElse n m ≡ accepted → (n ≡ accepted) × (m ≡ accepted)
 both-pass n m h = by-test (eqb n accepted) (λ e. (eqb-true n accepted e, rw e at h)) (λ e. absurd (eqb-false n accepted e (rw e at h)))
-
--- a number that is known
-known : (b : Bool) → cond b accepted unknownNumber ≡ accepted → b ≡ true
-known true e = refl
-known false e = absurd (omega arith)
 
 -- ---- The checks of enter, amend and strike
 
@@ -45,7 +40,7 @@ module _ (l : List Spell) (s : Spell) where
   pub amends : amendRefusal l s ≡ accepted → Amends
   amends h = unfold amendRefusal in
       let p = both-pass (refusalOf s) _ h in
-      record { passes = p .0; there = known (stands l (s .number)) (p .1) }
+      record { passes = p .0; there = needed (stands l (s .number)) 6 0 (p .1) .0 }
 
   pub amend-accepted : amendRefusal l s ≡ accepted ↔ Amends
   unfolding amendRefusal
@@ -53,4 +48,4 @@ module _ (l : List Spell) (s : Spell) where
 
 -- an accepted strike: the number stands
 pub strike-accepted : (l : List Spell) (k : ℕ) → strikeRefusal l k ≡ accepted ↔ (stands l k ≡ true)
-strike-accepted l k = unfold strikeRefusal in (known (stands l k), λ e. rw e)
+strike-accepted l k = unfold strikeRefusal in (λ e. needed (stands l k) 6 0 e .0, λ e. rw e)

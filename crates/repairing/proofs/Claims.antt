@@ -1,8 +1,8 @@
 -- What repairing a register is for. Assumes nothing.
-use Rattle.basis.proofs.Prelude.{_∙_, _≡_, ap, refl, sym, _+_, _*_, _≤_, ℕ, List, List·Memᴰ, [], _∷_, map, true, _↔_, eqb, leb, length, arith, le-leb, leb-true, both, by-test}
-use Rattle.repairing.proofs.{Names.{sortedBy, inOrderBy, Spell, earlierOf, ordered, orderedBy, Good, Sound, text-order, asym, readText, good, writeAll, rising, over, Repaired, linesOf, keptOf, putOf, repairedText, remarksOf, placesOf, displacedIn, fitting, repairRefusal, repairRefused, repairGiven, Repairs}, Keeping.{kept-good, good-kept}, Displaced.{none-displaced, displaced-exactly}, Remarks.{remarks-rise, each-line, places-length, put-sized}}
+use Rattle.basis.proofs.Prelude.{_∙_, _≡_, ap, refl, sym, _+_, _*_, _≤_, ℕ, List, List·Memᴰ, [], _∷_, map, false, true, _↔_, eqb, eqb-true, leb, length, arith, le-leb, leb-true, both, by-test}
+use Rattle.repairing.proofs.{Names.{sortedBy, inOrderBy, Spell, earlierOf, ordered, orderedBy, Good, Sound, text-order, asym, readText, good, writeAll, rising, over, Repaired, linesOf, verdictsAfter, keptOf, putOf, repairedText, remarksOf, placesOf, displacedIn, fitting, repairRefusal, repairRefused, repairGiven, Repairs}, Keeping.{kept-good, good-kept}, Displaced.{none-displaced, stood-ordered}, Remarks.{rise-after, rising-tail, each-line, places-length, put-sized}}
 use Rattle.orders.{proofs.Sorting.in-order-sorted, proofs.Members.sorted-has}
-use Rattle.spell.proofs.Sorted.{sorted-orderly}
+use Rattle.spell.proofs.{Entered.needed, Sorted.sorted-orderly}
 use Rattle.register.proofs.Claims.{list-again, text-again, fits}
 
 -- what is put into the order can stand
@@ -48,7 +48,7 @@ twice t = unaltered (repairedText t) (putOf t) (reads-accepted t)
 
 -- REMARKS RISE by line
 pub rises : (t : List ℕ) → rising (map (λ r. r .line) (remarksOf t)) ≡ true
-rises = remarks-rise
+rises t = rising-tail 0 _ (rise-after 0 1 (verdictsAfter [] (linesOf t)) (omega arith))
 
 -- EVERY LINE is kept or has its remark
 pub kept-or-dropped : (t : List ℕ) → length (keptOf t) + length (remarksOf t) ≡ length (linesOf t)
@@ -56,7 +56,7 @@ kept-or-dropped = each-line
 
 -- THE THIRD NUMBER IS 0 exactly where the kept lines stood in the order
 pub displaced-none-exactly : (t : List ℕ) → (displacedIn (keptOf t) ≡ 0) ↔ (ordered (keptOf t) ≡ true)
-displaced-none-exactly t = displaced-exactly (keptOf t) (kept-good t .unique)
+displaced-none-exactly t = (stood-ordered (keptOf t) (kept-good t .unique), none-displaced (keptOf t))
 
 -- what comes out is never longer than this
 pub text-fits : (t : List ℕ) → length (repairedText t) ≤ 33792
@@ -72,41 +72,44 @@ pub record Inside (out remarks : List ℕ) (r : Repaired) (out′ remarks′ : L
   pub said-sized : length remarks′ ≡ length remarks
 
 module _ {t out remarks out′ remarks′ : List ℕ} {r : Repaired} (a : Repairs t out remarks r out′ remarks′) where
+  -- the number that it meets
+  abbrev met : ℕ
+  met = repairRefusal t (length out) (length remarks)
+
+  refused : eqb met 0 ≡ false → (out′ ≡ out) × (remarks′ ≡ remarks) × (r ≡ repairRefused met)
+  refused e = (a .text ∙ rw e, a .said ∙ rw e, a .answer ∙ rw e)
+
   -- A REFUSAL leaves both lists as they were, and gives 0 for line, length and counts
   pub refused-keeps : (r .refusal ≡ 0 → ⊥) → (out′ ≡ out) × (remarks′ ≡ remarks) × (r ≡ repairRefused (r .refusal))
-  refused-keeps z = by-test (eqb (repairRefusal t (length out) (length remarks)) 0)
+  refused-keeps z = by-test (eqb met 0)
       (λ e. absurd (z (ap (λ (r : Repaired). r .refusal) (a .answer) ∙ rw e)))
-      (λ e.
-      let is : r ≡ repairRefused (repairRefusal t (length out) (length remarks)) = a .answer ∙ rw e in
-      (a .text ∙ rw e, a .said ∙ rw e, is ∙ ap repairRefused (sym (ap (λ (r : Repaired). r .refusal) is))))
+      (λ e. let k = refused e in (k .0, k .1, k .2 ∙ ap repairRefused (sym (ap (λ (r : Repaired). r .refusal) (k .2)))))
+
+  fit : met ≡ 0 → (length (repairedText t) ≤ length out) × (length (placesOf (remarksOf t)) ≤ length remarks)
+  fit e = unfold repairRefusal fitting in
+      let p = both _ _ (needed _ 10 0 (needed (leb (length t) 65536) 11 _ e .1) .0) in
+      (leb-true (length (repairedText t)) (length out) (p .0), leb-true (length (placesOf (remarksOf t))) (length remarks) (p .1))
 
   -- what is given lies inside
   pub within : Inside out remarks r out′ remarks′
-  unfolding repairRefusal fitting
-  within = by-test (leb (length t) 65536)
-      (λ h. by-test (leb (length (repairedText t)) (length out))
-      (λ f. by-test (leb (length (placesOf (remarksOf t))) (length remarks))
-      (λ g.
-      let is : r ≡ repairGiven t = a .answer ∙ rw (h, f, g) in
-      let fit = leb-true (length (repairedText t)) (length out) f in
-      let room = leb-true (length (placesOf (remarksOf t))) (length remarks) g in
+  within = by-test (eqb met 0)
+      (λ e.
+      let room = fit (eqb-true met 0 e) in
+      let is : r ≡ repairGiven t = a .answer ∙ rw e in
       record {
         text = omega (arith, ap (λ (r : Repaired). r .length) is);
         said = omega (arith, ap (λ (r : Repaired). r .dropped) is, places-length (remarksOf t));
-        text-sized = put-sized (repairedText t) out fit (a .text ∙ rw (h, f, g));
-        said-sized = put-sized (placesOf (remarksOf t)) remarks room (a .said ∙ rw (h, f, g));
+        text-sized = put-sized (repairedText t) out (room .0) (a .text ∙ rw e);
+        said-sized = put-sized (placesOf (remarksOf t)) remarks (room .1) (a .said ∙ rw e);
       })
-      (λ g. nothing 11 (a .answer ∙ rw (h, f, g)) (a .text ∙ rw (h, f, g)) (a .said ∙ rw (h, f, g))))
-      (λ f. nothing 11 (a .answer ∙ rw (h, f)) (a .text ∙ rw (h, f)) (a .said ∙ rw (h, f))))
-      (λ h. nothing 12 (a .answer ∙ rw h) (a .text ∙ rw h) (a .said ∙ rw h))
-    where
-      nothing : (k : ℕ) → r ≡ repairRefused k → out′ ≡ out → remarks′ ≡ remarks → Inside out remarks r out′ remarks′
-      nothing k is o m = record {
-        text = omega (arith, ap (λ (r : Repaired). r .length) is);
-        said = omega (arith, ap (λ (r : Repaired). r .dropped) is);
-        text-sized = ap length o;
-        said-sized = ap length m;
-      }
+      (λ e.
+      let k = refused e in
+      record {
+        text = omega (arith, ap (λ (r : Repaired). r .length) (k .2));
+        said = omega (arith, ap (λ (r : Repaired). r .dropped) (k .2));
+        text-sized = ap length (k .0);
+        said-sized = ap length (k .1);
+      })
 
   -- GIVEN ROOM, a good register stands in the first places as it came, and nothing is said
   pub passes-through : (l : List Spell) → readText t ≡ good l → length t ≤ length out

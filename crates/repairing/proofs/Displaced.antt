@@ -1,7 +1,8 @@
 -- How many kept lines now stand after a line that followed them: by the least of those that followed, and when it is none. Assumes nothing.
-use Rattle.basis.proofs.Prelude.{_∙_, _≡_, ap, refl, sym, _+_, ℕ, List, [], _∷_, Bool, _||_, cond, false, not, true, _↔_, eqb, arith, eqb-false, not-true, both, by-cases, by-test, clash}
+use Rattle.basis.proofs.Prelude.{_∙_, _≡_, ap, refl, sym, _+_, ℕ, List, [], _∷_, Bool, _||_, cond, false, true, eqb, arith, eqb-false, by-cases, by-test, clash}
+use mathlib.Core.Bool.{or-false}
 use Rattle.orders.proofs.Keys.{key-is, key-says, key-denies}
-use Rattle.repairing.proofs.Names.{Spell, lexical, earlierOf, ordered, orderedBy, stands, distinct, Each, neither, text-order, asym, ordered-tail, ordered-first, ordered-cons, someBefore, displacedIn}
+use Rattle.repairing.proofs.Names.{Spell, lexical, earlierOf, ordered, orderedBy, stands, distinct, Each, alone, neither, text-order, asym, ordered-tail, ordered-first, ordered-cons, someBefore, displacedIn}
 
 -- ---- The least of the spells that followed is before s where any of them is
 
@@ -22,10 +23,6 @@ lesser m x = cond (earlierOf m x) m x
 -- m stands for the spells of a list: it is before a spell where one of them is
 abbrev pub Least : Spell → List Spell → Type 0
 Least m l = (s : Spell) → someBefore s l ≡ earlierOf m s
-
-or-false : (b : Bool) → b || false ≡ b
-or-false true = refl
-or-false false = refl
 
 pub least-one : (x : Spell) → Least x (x ∷ [])
 least-one x s = unfold someBefore in or-false (earlierOf x s)
@@ -58,25 +55,14 @@ all-after x (y ∷ l) d h = let p = neither (eqb (y .number) (x .number)) (stand
     let q = neither (earlierOf y x) (someBefore x l) h in
     (text-order .total y x (eqb-false (y .number) (x .number) (p .0)) (q .0), all-after x l (p .1) (q .1))
 
-in-order : (l : List Spell) → distinct l ≡ true → displacedIn l ≡ 0 → ordered l ≡ true
-unfolding displacedIn distinct orderedBy
-in-order [] d h = refl
-in-order (x ∷ l) d h =
-    let p = both (not (stands l (x .number))) (distinct l) d in
-    by-test (someBefore x l)
-    (λ e. absurd (one (rw e at h)))
-    (λ e. ordered-cons text-order x l (all-after x l (not-true (stands l (x .number)) (p .0)) e) (in-order l (p .1) (rest (rw e at h))))
-  where
-    one : 1 + displacedIn l ≡ 0 → ⊥
-    one h = omega arith
-
-    rest : 0 + displacedIn l ≡ 0 → displacedIn l ≡ 0
-    rest h = omega arith
+pub stood-ordered : (l : List Spell) → distinct l ≡ true → displacedIn l ≡ 0 → ordered l ≡ true
+unfolding displacedIn orderedBy
+stood-ordered [] d h = refl
+stood-ordered (x ∷ l) d h = let p = alone x l d in by-test (someBefore x l)
+    (λ e. absurd (omega (arith, rw e at h)))
+    (λ e. ordered-cons text-order x l (all-after x l (p .0) e) (stood-ordered l (p .1) (omega (arith, rw e at h))))
 
 pub none-displaced : (l : List Spell) → ordered l ≡ true → displacedIn l ≡ 0
 unfolding displacedIn
 none-displaced [] h = refl
 none-displaced (x ∷ l) h = rw (none-before x l (ordered-first text-order x l h), none-displaced l (ordered-tail text-order x l h))
-
-pub displaced-exactly : (l : List Spell) → distinct l ≡ true → (displacedIn l ≡ 0) ↔ (ordered l ≡ true)
-displaced-exactly l d = (in-order l d, none-displaced l)

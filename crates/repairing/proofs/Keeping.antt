@@ -1,7 +1,7 @@
 -- What is kept of any text can stand, and a good text is kept whole with nothing said. Assumes nothing.
-use Rattle.basis.proofs.Prelude.{_∙_, _≡_, ap, refl, sym, _<_, _≤_, suc, ℕ, List, [], _++_, _∷_, append-nil, append-snoc, Bool, cond, false, true, eqb, ltb, length, length-append, arith, eq-eqb, eqb-true, lt-ltb, ltb-true, ne-eqb, by-cases, by-test, clash}
+use Rattle.basis.proofs.Prelude.{_∙_, _≡_, ap, refl, sym, _<_, _≤_, suc, ℕ, List, [], _++_, _∷_, append-nil, append-snoc, Bool, cond, false, true, eqb, ltb, length, length-append, arith, eq-eqb, eqb-false, eqb-true, lt-ltb, ltb-true, ne-eqb, by-cases, by-test}
 use Rattle.repairing.proofs.{Names.{Spell, stands, distinct, Each, Sound, Good, distinct-fresh, distinct-more, Found, found, unreadable, readDecimal, readLine, lineText, textOnto, read-line, write-line, linesOf, afterLine, verdict, keeping, keptAfter, verdictsAfter, remarksFrom, keptOf, remarksOf}, Lines.{lines-none, lines-first, line-ends}}
-use Rattle.spell.{specs.Entry.refusalOf, proofs.Entered.past}
+use Rattle.spell.{specs.Entry.refusalOf, proofs.Entered.{needed, past}}
 use Rattle.fields.proofs.Bytes.{never}
 
 -- ---- A line that is kept
@@ -16,16 +16,11 @@ pub verdict-none : (kept : List Spell) (s : Spell) (rest : List ℕ) → Passes 
 verdict-none kept s rest p = unfold verdict in rw (eq-eqb (refusalOf s) 0 (p .entered), p .new, lt-ltb (length kept) 1024 (p .room))
 
 pub passes : (kept : List Spell) (s : Spell) (rest : List ℕ) → verdict kept (found s rest) ≡ 0 → Passes kept s
-unfolding verdict
-passes kept s rest e = by-test (eqb (refusalOf s) 0)
+passes kept s rest e = unfold verdict in by-test (eqb (refusalOf s) 0)
     (λ r.
-    let p = past (stands kept (s .number)) 5 (cond (ltb (length kept) 1024) 0 8) (rw r at e) in
-    record { entered = eqb-true (refusalOf s) 0 r; new = p .0; room = ltb-true (length kept) 1024 (roomy (ltb (length kept) 1024) (p .1)) })
-    (λ r. absurd (clash (eq-eqb (refusalOf s) 0 (rw r at e)) r))
-  where
-    roomy : (b : Bool) → cond {A = ℕ} b 0 8 ≡ 0 → b ≡ true
-    roomy true e = refl
-    roomy false e = absurd (omega arith)
+    let p = past (stands kept (s .number)) 5 _ (rw r at e) in
+    record { entered = eqb-true (refusalOf s) 0 r; new = p .0; room = ltb-true (length kept) 1024 (needed (ltb (length kept) 1024) 7 0 (p .1) .0) })
+    (λ r. absurd (eqb-false (refusalOf s) 0 r (rw r at e)))
 
 pub keeps-it : (kept : List Spell) (s : Spell) (rest : List ℕ) → Passes kept s → keeping kept (found s rest) ≡ kept ++ (s ∷ [])
 keeps-it kept s rest p = unfold keeping in rw (verdict-none kept s rest p)
@@ -66,56 +61,42 @@ kept-more l t s rest e p k = record {
   few = omega (arith, length-append l (s ∷ []), p .room);
 }
 
-kept-line : (l : List Spell) (t : List ℕ) → Kept l → Kept (keeping l (readLine t))
+kept-line : (l : List Spell) (t : List ℕ) (f : Found Spell) → readLine t ≡ f → Kept l → Kept (keeping l f)
 unfolding keeping
-kept-line l t k = go (readLine t) refl
-  where
-    go : (f : Found Spell) → readLine t ≡ f → Kept (keeping l f)
-    go unreadable e = k
-    go (found s rest) e = by-cases Kept (eqb (verdict l (found s rest)) 0)
-        (λ v. kept-more l t s rest e (passes l s rest (eqb-true (verdict l (found s rest)) 0 v)) k)
-        (λ v. k)
+kept-line l t unreadable e k = k
+kept-line l t (found s rest) e k = by-cases Kept (eqb (verdict l (found s rest)) 0)
+    (λ v. kept-more l t s rest e (passes l s rest (eqb-true (verdict l (found s rest)) 0 v)) k) (λ v. k)
 
 pub kept-after : (l : List Spell) (lines : List (List ℕ)) → Kept l → Kept (keptAfter l lines)
 unfolding keptAfter
 kept-after l [] k = k
-kept-after l (t ∷ lines) k = kept-after (keeping l (readLine t)) lines (kept-line l t k)
+kept-after l (t ∷ lines) k = kept-after (keeping l (readLine t)) lines (kept-line l t (readLine t) refl k)
 
 pub kept-good : (t : List ℕ) → Kept (keptOf t)
 kept-good t = kept-after [] (linesOf t) kept-none
 
 -- ---- A good text is kept whole
 
--- the lines of t, after what is kept of those before, keep and say what those of u do after s
-record On (kept : List Spell) (t : List ℕ) (s : Spell) (u : List ℕ) : Type 0 where
-  keeps : keptAfter kept (linesOf t) ≡ keptAfter (kept ++ (s ∷ [])) (linesOf u)
-  says : (n : ℕ) → remarksFrom n (verdictsAfter kept (linesOf t)) ≡ remarksFrom (suc n) (verdictsAfter (kept ++ (s ∷ [])) (linesOf u))
-
 there : (t : List ℕ) (s : Spell) (rest : List ℕ) → readLine t ≡ found s rest → 0 < length t
 unfolding readLine readDecimal
 there [] s rest e = absurd (never e)
 there (b ∷ t) s rest e = omega arith
 
-line-kept : (kept : List Spell) (t : List ℕ) (s : Spell) (rest : List ℕ) → readLine t ≡ found s rest → Passes kept s → On kept t s rest
-line-kept kept t s rest e p = unfold remarksFrom in let v = verdict-none kept s rest p in
-    let h = there t s rest e in
-    let k = keeps-it kept s rest p in record {
-      keeps = kept-first kept t (found s rest) h e ∙ rw (k, line-ends t s rest e);
-      says = λ n. ap (remarksFrom n) (verdicts-first kept t (found s rest) h e) ∙ rw (v, k, line-ends t s rest e);
-    }
-
-record Whole (before m : List Spell) : Type 0 where
-  keeps : keptAfter before (linesOf (textOnto m [])) ≡ before ++ m
-  says : (n : ℕ) → remarksFrom n (verdictsAfter before (linesOf (textOnto m []))) ≡ []
-
-whole : (m before : List Spell) → Each Sound m → distinct (before ++ m) ≡ true → length (before ++ m) ≤ 1024 → Whole before m
+-- the lines of m, after what is kept of those before, are all kept, and nothing is said of them
+whole : (m before : List Spell) → Each Sound m → distinct (before ++ m) ≡ true → length (before ++ m) ≤ 1024
+    → (keptAfter before (linesOf (textOnto m [])) ≡ before ++ m) × ((n : ℕ) → remarksFrom n (verdictsAfter before (linesOf (textOnto m []))) ≡ [])
 unfolding textOnto Each keptAfter verdictsAfter remarksFrom
-whole [] before e d h = record { keeps = rw lines-none (sym (append-nil before)); says = λ n. rw lines-none }
-whole (x ∷ m) before e d h = let room : length before < 1024 = omega (arith, length-append before (x ∷ m)) in
+whole [] before e d h = (rw lines-none (sym (append-nil before)), λ n. rw lines-none)
+whole (x ∷ m) before e d h =
+    let room : length before < 1024 = omega (arith, length-append before (x ∷ m)) in
     let p : Passes before x = record { entered = e .0 .entered; new = distinct-fresh before x m d; room = room } in
-    let on = line-kept before (lineText x (textOnto m [])) x (textOnto m []) (read-line x (textOnto m []) (e .0)) p in
+    let rest = textOnto m [] in
+    let t = lineText x rest in
+    let read = read-line x rest (e .0) in
+    let some = there t x rest read in
     let later = whole m (before ++ (x ∷ [])) (e .1) (rw append-snoc d) (rw append-snoc h) in
-    record { keeps = on .keeps ∙ later .keeps ∙ append-snoc before x m; says = λ n. on .says n ∙ later .says (suc n) }
+    (kept-first before t (found x rest) some read ∙ rw (keeps-it before x rest p, line-ends t x rest read) (later .0 ∙ append-snoc before x m),
+    λ n. ap (remarksFrom n) (verdicts-first before t (found x rest) some read) ∙ rw (verdict-none before x rest p, keeps-it before x rest p, line-ends t x rest read) (later .1 (suc n)))
 
 pub good-kept : (l : List Spell) → Good l → (keptOf (textOnto l []) ≡ l) × (remarksOf (textOnto l []) ≡ [])
-good-kept l g = let w = whole l [] (g .each) (g .unique) (g .few) in (w .keeps, w .says 1)
+good-kept l g = let w = whole l [] (g .each) (g .unique) (g .few) in (w .0, w .1 1)

@@ -5,20 +5,17 @@ use Rattle.buffer.proofs.Over.{over-length}
 
 -- ---- The lines rise
 
-rise-after : (k n : ℕ) (met : List ℕ) → k < n → rising (k ∷ map (λ r. r .line) (remarksFrom n met)) ≡ true
+pub rise-after : (k n : ℕ) (met : List ℕ) → k < n → rising (k ∷ map (λ r. r .line) (remarksFrom n met)) ≡ true
 unfolding remarksFrom rising
 rise-after k n [] h = refl
 rise-after k n (v ∷ met) h = by-cases (λ (l : List Remark). rising (k ∷ map (λ r. r .line) l) ≡ true) (eqb v 0)
     (λ _. rise-after k (suc n) met (omega arith))
     (λ _. rw (lt-ltb k n h) (rise-after n (suc n) met (omega arith)))
 
-rising-tail : (k : ℕ) (l : List ℕ) → rising (k ∷ l) ≡ true → rising l ≡ true
+pub rising-tail : (k : ℕ) (l : List ℕ) → rising (k ∷ l) ≡ true → rising l ≡ true
 unfolding rising
 rising-tail k [] h = refl
 rising-tail k (n ∷ l) h = both (ltb k n) (rising (n ∷ l)) h .1
-
-pub remarks-rise : (t : List ℕ) → rising (map (λ r. r .line) (remarksOf t)) ≡ true
-remarks-rise t = rising-tail 0 (map (λ r. r .line) (remarksOf t)) (rise-after 0 1 (verdictsAfter [] (linesOf t)) (omega arith))
 
 -- ---- As many as there are lines that are not kept
 
