@@ -1,5 +1,5 @@
 -- The bits of a mask that are set: the next, the highest, how many, and which days they are. Assumes nothing.
-use Rattle.basis.proofs.Prelude.{_≡_, refl, sym, ap, _∙_, ℕ, zero, suc, _+_, _-_, _*_, _/_, _%_, _≤_, _<_, List, List·Memᴰ, List·Memᴰ·head, List·Memᴰ·tail, List·Memᴰ·not-nil, List·Memᴰ·cases-cons, [], _∷_, true, false, _⊎_, inl, inr, getD, length, le-trans, add-one, decLe, arith, eq-eqb, ne-eqb, eqb-true}
+use Rattle.basis.proofs.Prelude.{_≡_, refl, sym, ap, _∙_, ℕ, zero, suc, _+_, _-_, _*_, _/_, _%_, _≤_, _<_, List, List·Memᴰ, List·Memᴰ·head, List·Memᴰ·tail, List·Memᴰ·not-nil, List·Memᴰ·cases-cons, [], _∷_, true, false, _≢_, inl, inr, getD, length, le-trans, add-one, decLe, arith, eq-eqb, ne-eqb, eqb-false, eqb-true, by-cases, by-eq, by-test}
 use Prim.Native.Nat.{_^_}
 use native.Mathlib.Nat.{div-lt-iff-lt-mul}
 use lib.{Count.{ones, ones-step, trailingZeros}, Pow.{shr-shr, shr-lt, pow-pos, pow-mono}}
@@ -12,12 +12,6 @@ half m i = rw (← add-one i) (sym (shr-shr m i 1))
 half-lt : {m : ℕ} (n : ℕ) → m < 2 ^ suc n → m / 2 < 2 ^ n
 half-lt {m} n h = shr-lt n 1 (rw (add-one n) h)
 
-low-bit : (m : ℕ) → (m % 2 ≡ 0) ⊎ (m % 2 ≡ 1)
-low-bit m = elim (decLe 1 (m % 2)) [
-  | yes h ↦ inr (omega arith)
-  | no h ↦ inl (omega arith)
-]
-
 is-set : (m i : ℕ) → m / 2 ^ i % 2 ≡ 1 → isSet m i ≡ true
 is-set m i e = unfold isSet in eq-eqb _ 1 e
 
@@ -27,14 +21,8 @@ not-set m i e = unfold isSet in ne-eqb (m / 2 ^ i % 2) 1 (λ (o : m / 2 ^ i % 2 
 set-is : (m i : ℕ) → isSet m i ≡ true → m / 2 ^ i % 2 ≡ 1
 set-is m i e = unfold isSet in eqb-true (m / 2 ^ i % 2) 1 e
 
-ones-none : ones 0 ≡ 0
-ones-none = unfold ones in refl
-
-zeros-even : (k m : ℕ) → m % 2 ≡ 0 → trailingZeros (suc k) m ≡ suc (trailingZeros k (m / 2))
-zeros-even k m e = unfold trailingZeros in rw e
-
-zeros-odd : (k m : ℕ) → m % 2 ≡ 1 → trailingZeros (suc k) m ≡ 0
-zeros-odd k m e = unfold trailingZeros in rw e
+unset-is : (m i : ℕ) → isSet m i ≡ false → m / 2 ^ i % 2 ≡ 0
+unset-is m i e = unfold isSet in let n : m / 2 ^ i % 2 ≢ 1 = eqb-false (m / 2 ^ i % 2) 1 e in omega arith
 
 -- ---- The highest: the bit t of a mask from 2 ^ t on and below 2 ^ (t + 1)
 pub highest-set : (m t : ℕ) → 2 ^ t ≤ m → m < 2 ^ suc t → isSet m t ≡ true
@@ -50,10 +38,9 @@ pub highest : (m t j : ℕ) → m < 2 ^ suc t → isSet m j ≡ true → j ≤ t
 highest m t j h e = elim (decLe j t) [
   | yes g ↦ g
   | no g ↦
-      let o = set-is m j e in
       let z : m < 2 ^ j = le-trans h (pow-mono (omega arith)) in
       let y : m / 2 ^ j < 1 = div-lt-iff-lt-mul (pow-pos j) .1 (omega arith) in
-      absurd (omega arith)
+      absurd (omega (arith, set-is m j e))
 ]
 
 -- a list that rises, and a number below its first
@@ -64,39 +51,27 @@ rises-on d l first later (suc k) h = later k (omega arith)
 
 -- ---- The bits from i on
 module _ (base mask : ℕ) where
-  ticks-none : (i : ℕ) → ticksFrom base mask i 0 ≡ []
-  ticks-none i = unfold ticksFrom in refl
-
-  ticks-set : (i n : ℕ) → isSet mask i ≡ true → ticksFrom base mask i (suc n) ≡ (base + i) ∷ ticksFrom base mask (suc i) n
-  ticks-set i n e = unfold ticksFrom in rw e
-
-  ticks-not : (i n : ℕ) → isSet mask i ≡ false → ticksFrom base mask i (suc n) ≡ ticksFrom base mask (suc i) n
-  ticks-not i n e = unfold ticksFrom in rw e
-
   -- none is set where nothing is left
   pub none-from : (n i : ℕ) → mask / 2 ^ i ≡ 0 → ticksFrom base mask i n ≡ []
-  none-from zero i e = ticks-none i
-  none-from (suc n) i e = ticks-not i n (not-set mask i (omega arith)) ∙ none-from n (suc i) (half mask i ∙ ap (λ (x : ℕ). x / 2) e)
+  unfolding ticksFrom
+  none-from zero i e = refl
+  none-from (suc n) i e = rw (not-set mask i (omega arith)) (none-from n (suc i) (half mask i ∙ ap (λ (x : ℕ). x / 2) e))
 
   -- they are as many as the bits at most
   pub few-from : (n i : ℕ) → length (ticksFrom base mask i n) ≤ n
-  few-from zero i = rw (ticks-none i) (omega arith)
-  few-from (suc n) i = elim (low-bit (mask / 2 ^ i)) [
-    | inl e ↦ rw (ticks-not i n (not-set mask i e)) (omega (arith, few-from n (suc i)))
-    | inr e ↦ rw (ticks-set i n (is-set mask i e)) (omega (arith, few-from n (suc i)))
-  ]
+  unfolding ticksFrom
+  few-from zero i = omega arith
+  few-from (suc n) i = let h = few-from n (suc i) in by-cases (λ (r : List ℕ). length r ≤ suc n) (isSet mask i) (λ _. omega arith) (λ _. omega arith)
 
   -- and as many as what is left has ones
   pub count-from : (n i : ℕ) → mask / 2 ^ i < 2 ^ n → length (ticksFrom base mask i n) ≡ ones (mask / 2 ^ i)
-  count-from zero i h =
-      let z : mask / 2 ^ i ≡ 0 = omega arith in
-      rw (z, ticks-none i, ones-none)
+  unfolding ticksFrom
+  count-from zero i h = let z : mask / 2 ^ i ≡ 0 = omega arith in rw z (unfold ones in refl)
   count-from (suc n) i h =
       let rest = count-from n (suc i) (rw half (half-lt n h)) ∙ ap ones (half mask i) in
-      elim (low-bit (mask / 2 ^ i)) [
-        | inl e ↦ ap length (ticks-not i n (not-set mask i e)) ∙ omega (arith, rest, ones-step (mask / 2 ^ i))
-        | inr e ↦ ap length (ticks-set i n (is-set mask i e)) ∙ omega (arith, rest, ones-step (mask / 2 ^ i))
-      ]
+      by-cases (λ (r : List ℕ). length r ≡ ones (mask / 2 ^ i)) (isSet mask i)
+      (λ e. omega (arith, rest, set-is mask i e, ones-step (mask / 2 ^ i)))
+      (λ e. omega (arith, rest, unset-is mask i e, ones-step (mask / 2 ^ i)))
 
   -- the first is the one at which the zeros end
   pub record Next (i n z : ℕ) : Type 0 where
@@ -104,19 +79,21 @@ module _ (base mask : ℕ) where
     pub is : ticksFrom base mask i n ≡ (base + (i + z)) ∷ ticksFrom base mask (suc (i + z)) (n - suc z)
 
   pub next : (n k i : ℕ) → n ≤ k → 0 < mask / 2 ^ i → mask / 2 ^ i < 2 ^ n → Next i n (trailingZeros k (mask / 2 ^ i))
+  unfolding ticksFrom trailingZeros
   next zero k i l p h = absurd (omega arith)
   next (suc n) zero i l p h = absurd (omega arith)
-  next (suc n) (suc k) i l p h = elim (low-bit (mask / 2 ^ i)) [
-    | inl e ↦
-        let q : Next (suc i) n (trailingZeros k (mask / 2 ^ i / 2)) = rw half at (next n k (suc i) (omega arith) (rw half (omega arith)) (rw half (half-lt n h))) in
-        let up : suc i + trailingZeros k (mask / 2 ^ i / 2) ≡ i + suc (trailingZeros k (mask / 2 ^ i / 2)) = omega arith in
-        let down : n - suc (trailingZeros k (mask / 2 ^ i / 2)) ≡ suc n - suc (suc (trailingZeros k (mask / 2 ^ i / 2))) = omega arith in
-        rw (zeros-even k (mask / 2 ^ i) e) (record { within = omega (arith, q .within); is = ticks-not i n (not-set mask i e) ∙ (rw (up, down) at (q .is)) })
-    | inr e ↦
-        let here : i + 0 ≡ i = omega arith in
-        let down : suc n - 1 ≡ n = omega arith in
-        rw (zeros-odd k (mask / 2 ^ i) e) (record { within = omega arith; is = rw (here, down) (ticks-set i n (is-set mask i e)) })
-  ]
+  next (suc n) (suc k) i l p h = by-test (isSet mask i)
+      (λ e.
+      let here : i + 0 ≡ i = omega arith in
+      let down : suc n - 1 ≡ n = omega arith in
+      rw (set-is mask i e) (record { within = omega arith; is = rw (e, here, down) }))
+      (λ e.
+      let none = unset-is mask i e in
+      let z : ℕ = trailingZeros k (mask / 2 ^ i / 2) in
+      let q : Next (suc i) n z = rw half at (next n k (suc i) (omega arith) (rw half (omega arith)) (rw half (half-lt n h))) in
+      let up : suc i + z ≡ i + suc z = omega arith in
+      let down : n - suc z ≡ suc n - suc (suc z) = omega arith in
+      rw none (record { within = omega (arith, q .within); is = rw e (rw (up, down) at (q .is)) }))
 
   -- ---- Which days they are
   pub record Bit (i n d : ℕ) : Type 0 where
@@ -130,40 +107,32 @@ module _ (base mask : ℕ) where
   later b = record { bit = b .bit; from = omega (arith, b .from); below = omega (arith, b .below); set = b .set; is = b .is }
 
   pub bit-of : (n i d : ℕ) → List·Memᴰ d (ticksFrom base mask i n) → Bit i n d
-  bit-of zero i d m = absurd (List·Memᴰ·not-nil (rw (ticks-none i) at m))
-  bit-of (suc n) i d m = elim (low-bit (mask / 2 ^ i)) [
-    | inl e ↦ later (bit-of n (suc i) d (rw (ticks-not i n (not-set mask i e)) at m))
-    | inr e ↦ elim (List·Memᴰ·cases-cons (rw (ticks-set i n (is-set mask i e)) at m)) [
-      | inl h ↦ record { bit = i; from = omega arith; below = omega arith; set = is-set mask i e; is = h }
-      | inr t ↦ later (bit-of n (suc i) d t)
-    ]
-  ]
+  unfolding ticksFrom
+  bit-of zero i d m = absurd (List·Memᴰ·not-nil m)
+  bit-of (suc n) i d m = by-cases (λ (r : List ℕ). List·Memᴰ d r → Bit i (suc n) d) (isSet mask i)
+      (λ e m. elim (List·Memᴰ·cases-cons {b = base + i} {l = ticksFrom base mask (suc i) n} m) [
+        | inl h ↦ record { bit = i; from = omega arith; below = omega arith; set = e; is = h }
+        | inr t ↦ later (bit-of n (suc i) d t)
+      ])
+      (λ _ m. later (bit-of n (suc i) d m)) m
 
   pub of-bit : (n i j : ℕ) → i ≤ j → j < i + n → isSet mask j ≡ true → List·Memᴰ (base + j) (ticksFrom base mask i n)
+  unfolding ticksFrom
   of-bit zero i j l h s = absurd (omega arith)
-  of-bit (suc n) i j l h s = elim (decLe j i) [
-    | yes g ↦
-        let z : j ≡ i = omega arith in
-        rw (ticks-set i n (rw z at s)) (List·Memᴰ·head (ap (λ (x : ℕ). base + x) z))
-    | no g ↦
-        let t = of-bit n (suc i) j (omega arith) (omega arith) s in
-        elim (low-bit (mask / 2 ^ i)) [
-          | inl e ↦ rw (ticks-not i n (not-set mask i e)) t
-          | inr e ↦ rw (ticks-set i n (is-set mask i e)) (List·Memᴰ·tail t)
-        ]
-  ]
+  of-bit (suc n) i j l h s = by-eq i j l
+      (λ e. rw (e, s) (List·Memᴰ·head refl))
+      (λ g. let t = of-bit n (suc i) j g (omega arith) s in by-cases (List·Memᴰ (base + j)) (isSet mask i) (λ _. List·Memᴰ·tail t) (λ _. t))
 
   -- ---- Each is above the one before
   first-from : (n i : ℕ) → 0 < length (ticksFrom base mask i n) → base + i ≤ getD (ticksFrom base mask i n) 0 0
-  first-from zero i h = absurd (omega (arith, ap length (ticks-none i)))
-  first-from (suc n) i h = elim (low-bit (mask / 2 ^ i)) [
-    | inl e ↦ rw (ticks-not i n (not-set mask i e)) (let g = first-from n (suc i) (rw (ticks-not i n (not-set mask i e)) at h) in omega arith)
-    | inr e ↦ rw (ticks-set i n (is-set mask i e)) (omega arith)
-  ]
+  unfolding ticksFrom
+  first-from zero i h = absurd (omega arith)
+  first-from (suc n) i h = by-cases (λ (r : List ℕ). 0 < length r → base + i ≤ getD r 0 0) (isSet mask i)
+      (λ _ _. omega arith) (λ _ h. let g = first-from n (suc i) h in omega arith) h
 
   pub rises-from : (n i k : ℕ) → suc k < length (ticksFrom base mask i n) → getD (ticksFrom base mask i n) k 0 < getD (ticksFrom base mask i n) (suc k) 0
-  rises-from zero i k h = absurd (omega (arith, ap length (ticks-none i)))
-  rises-from (suc n) i k h = elim (low-bit (mask / 2 ^ i)) [
-    | inl e ↦ rw (ticks-not i n (not-set mask i e)) (rises-from n (suc i) k (rw (ticks-not i n (not-set mask i e)) at h))
-    | inr e ↦ rw (ticks-set i n (is-set mask i e)) (rises-on (base + i) (ticksFrom base mask (suc i) n) (λ g. omega (arith, first-from n (suc i) g)) (rises-from n (suc i)) k (rw (ticks-set i n (is-set mask i e)) at h))
-  ]
+  unfolding ticksFrom
+  rises-from zero i k h = absurd (omega arith)
+  rises-from (suc n) i k h = by-cases (λ (r : List ℕ). suc k < length r → getD r k 0 < getD r (suc k) 0) (isSet mask i)
+      (λ _. rises-on (base + i) (ticksFrom base mask (suc i) n) (λ g. omega (arith, first-from n (suc i) g)) (rises-from n (suc i)) k)
+      (λ _. rises-from n (suc i) k) h

@@ -65,20 +65,10 @@ module _ {base mask : ℕ} {r : Ticks} {held days : List ℕ} (a : Answer base m
       (λ o. o)
 
 -- ---- Worked: the days 10 and 12; the highest bit; days 0, 1, 4,001 and 65,536
-pub days-10-12 : ticks 10 5 ≡ 10 ∷ 12 ∷ []
-days-10-12 = unfold ticksFrom isSet in refl
-
-pub the-last-bit : ticks 1 9223372036854775808 ≡ 64 ∷ []
-the-last-bit = unfold ticksFrom isSet in refl
-
-pub day-0-off : answered (ticks 0 1) ≡ Off
-day-0-off = unfold ticksFrom isSet daysOk in refl
-
-pub day-1-on : answered (ticks 0 2) ≡ All 1
-day-1-on = unfold ticksFrom isSet daysOk in refl
-
-pub day-4001-off : answered (ticks 4000 3) ≡ Off
-day-4001-off = unfold ticksFrom isSet daysOk in refl
-
-pub past-16-bits-off : answered (ticks 65535 2) ≡ Off
-past-16-bits-off = unfold ticksFrom isSet daysOk in refl
+pub worked : (ticks 10 5 ≡ 10 ∷ 12 ∷ [])
+    × (ticks 1 9223372036854775808 ≡ 64 ∷ [])
+    × (answered (ticks 0 1) ≡ Off)
+    × (answered (ticks 0 2) ≡ All 1)
+    × (answered (ticks 4000 3) ≡ Off)
+    × (answered (ticks 65535 2) ≡ Off)
+worked = unfold ticksFrom isSet daysOk in (refl, refl, refl, refl, refl, refl)

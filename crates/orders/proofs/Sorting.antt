@@ -1,5 +1,5 @@
 -- Insertion sort by a test that is a total order. Assumes nothing.
-use Rattle.basis.proofs.Prelude.{_≡_, refl, sym, ap, _∙_, ℕ, suc, _+_, _≤_, _<_, List, [], _∷_, _++_, append-nil, map, Bool, true, false, not, cond, _&&_, getD, length, drop, length-drop, drop-cons, add-one, arith, both, by-test, clash, not-true, untrue}
+use Rattle.basis.proofs.Prelude.{_≡_, refl, sym, ap, _∙_, ℕ, suc, _+_, _≤_, _<_, List, [], _∷_, _++_, append-nil, map, Bool, true, false, not, cond, _&&_, getD, length, drop, length-drop, drop-cons, add-one, arith, both, by-cases, by-test, clash, not-true, untrue}
 use Rattle.orders.specs.Orders.{insertBy, sortedBy, inOrderBy}
 use Rattle.orders.proofs.Each.{Each, each-weaken}
 
@@ -7,17 +7,15 @@ module _ {A : Type 0} (t : A → A → Bool) where
   -- ---- One element put in
 
   pub hit : (x y : A) (l : List A) → t y x ≡ false → insertBy t x (y ∷ l) ≡ x ∷ y ∷ l
-  hit x y l e = unfold insertBy in ap (λ (b : Bool). cond b (y ∷ insertBy t x l) (x ∷ y ∷ l)) e
+  hit x y l e = unfold insertBy in rw e
 
   pub miss : (x y : A) (l : List A) → t y x ≡ true → insertBy t x (y ∷ l) ≡ y ∷ insertBy t x l
-  miss x y l e = unfold insertBy in ap (λ (b : Bool). cond b (y ∷ insertBy t x l) (x ∷ y ∷ l)) e
+  miss x y l e = unfold insertBy in rw e
 
   pub each-inserted : (P : A → Type 0) (x : A) (l : List A) → P x → Each P l → Each P (insertBy t x l)
   unfolding insertBy
   each-inserted P x [] h k = (h, tt)
-  each-inserted P x (y ∷ l) h k = by-test (t y x)
-      (λ e. rw (miss x y l e) (k .0, each-inserted P x l h (k .1)))
-      (λ e. rw (hit x y l e) (h, k))
+  each-inserted P x (y ∷ l) h k = by-cases (Each P) (t y x) (λ _. (k .0, each-inserted P x l h (k .1))) (λ _. (h, k))
 
   pub each-sorted : (P : A → Type 0) (l : List A) → Each P l → Each P (sortedBy t l)
   unfolding sortedBy
@@ -36,9 +34,7 @@ module _ {A : Type 0} (t : A → A → Bool) where
   pub inserted-length : (x : A) (l : List A) → length (insertBy t x l) ≡ suc (length l)
   unfolding insertBy
   inserted-length x [] = refl
-  inserted-length x (y ∷ l) = by-test (t y x)
-      (λ e. ap length (miss x y l e) ∙ ap suc (inserted-length x l))
-      (λ e. ap length (hit x y l e))
+  inserted-length x (y ∷ l) = by-cases (λ (r : List A). length r ≡ suc (suc (length l))) (t y x) (λ _. ap suc (inserted-length x l)) (λ _. refl)
 
   pub sorted-length : (l : List A) → length (sortedBy t l) ≡ length l
   unfolding sortedBy
@@ -64,19 +60,14 @@ module _ {A : Type 0} (t : A → A → Bool) where
 
   -- a pass over the list, at the place i: the two there are in order, or not, or there are no two
   module _ (d : A) where
-    drop-two : (l : List A) (i : ℕ) → i + 1 < length l → drop i l ≡ getD l i d ∷ getD l (i + 1) d ∷ drop (suc (i + 1)) l
-    drop-two l i h = drop-cons l i d (omega arith) ∙ ap (λ (r : List A). getD l i d ∷ r) {y = getD l (i + 1) d ∷ drop (suc (i + 1)) l} (rw (← add-one i) (drop-cons l (i + 1) d h))
-
     pass : (l : List A) (i : ℕ) → i + 1 < length l → inOrderBy t (drop i l) ≡ not (t (getD l (i + 1) d) (getD l i d)) && inOrderBy t (drop (i + 1) l)
-    pass l i h = unfold inOrderBy in
-        ap (inOrderBy t) (drop-two l i h)
-        ∙ ap (λ (r : List A). not (t (getD l (i + 1) d) (getD l i d)) && inOrderBy t r) (sym (drop-cons l (i + 1) d h))
+    pass l i h = unfold inOrderBy in rw (drop-cons l i d (omega arith), ← add-one i, drop-cons l (i + 1) d h)
 
     pub pass-on : (l : List A) (i : ℕ) → i + 1 < length l → t (getD l (i + 1) d) (getD l i d) ≡ false → inOrderBy t (drop i l) ≡ inOrderBy t (drop (i + 1) l)
-    pass-on l i h e = pass l i h ∙ ap (λ (b : Bool). not b && inOrderBy t (drop (i + 1) l)) e
+    pass-on l i h e = pass l i h ∙ rw e
 
     pub pass-off : (l : List A) (i : ℕ) → i + 1 < length l → t (getD l (i + 1) d) (getD l i d) ≡ true → inOrderBy t (drop i l) ≡ false
-    pass-off l i h e = pass l i h ∙ ap (λ (b : Bool). not b && inOrderBy t (drop (i + 1) l)) e
+    pass-off l i h e = pass l i h ∙ rw e
 
   pub pass-end : (l : List A) (i : ℕ) → length l ≤ i + 1 → inOrderBy t (drop i l) ≡ true
   unfolding inOrderBy
@@ -92,9 +83,7 @@ module _ {A : Type 0} (t : A → A → Bool) where
 inserted-map : {A B : Type 0} (t : B → B → Bool) (f : A → B) (x : A) (l : List A) → insertBy t (f x) (map f l) ≡ map f (insertBy (λ p q. t (f p) (f q)) x l)
 unfolding insertBy
 inserted-map t f x [] = refl
-inserted-map t f x (y ∷ l) = by-test (t (f y) (f x))
-    (λ e. miss t (f x) (f y) (map f l) e ∙ ap (λ r. f y ∷ r) (inserted-map t f x l) ∙ sym (ap (map f) (miss (λ p q. t (f p) (f q)) x y l e)))
-    (λ e. hit t (f x) (f y) (map f l) e ∙ sym (ap (map f) (hit (λ p q. t (f p) (f q)) x y l e)))
+inserted-map t f x (y ∷ l) = by-test (t (f y) (f x)) (λ e. rw e (ap (λ r. f y ∷ r) (inserted-map t f x l))) (λ e. rw e)
 
 pub sorted-map : {A B : Type 0} (t : B → B → Bool) (f : A → B) (l : List A) → sortedBy t (map f l) ≡ map f (sortedBy (λ p q. t (f p) (f q)) l)
 unfolding sortedBy
@@ -107,14 +96,12 @@ module _ {A : Type 0} (t u : A → A → Bool) (P : A → Type 0) (agree : (p q 
   inserted-same : (x : A) (l : List A) → P x → Each P l → insertBy t x l ≡ insertBy u x l
   unfolding insertBy
   inserted-same x [] h k = refl
-  inserted-same x (y ∷ l) h k = ap (λ (b : Bool). cond b (y ∷ insertBy t x l) (x ∷ y ∷ l)) (agree y x (k .0) h)
-      ∙ ap (λ (r : List A). cond (u y x) (y ∷ r) (x ∷ y ∷ l)) (inserted-same x l h (k .1))
+  inserted-same x (y ∷ l) h k = rw (agree y x (k .0) h, inserted-same x l h (k .1))
 
   pub sorted-same : (l : List A) → Each P l → sortedBy t l ≡ sortedBy u l
   unfolding sortedBy
   sorted-same [] k = refl
-  sorted-same (x ∷ l) k =
-      ap (insertBy t x) (sorted-same l (k .1)) ∙ inserted-same x (sortedBy u l) (k .0) (each-sorted u P l (k .1))
+  sorted-same (x ∷ l) k = ap (insertBy t x) (sorted-same l (k .1)) ∙ inserted-same x (sortedBy u l) (k .0) (each-sorted u P l (k .1))
 
 -- ---- A total order: one of any two comes before the other, or they are one
 
@@ -149,11 +136,11 @@ module _ {A : Type 0} {t : A → A → Bool} (o : Total t) where
   inserted-in-order : (x : A) (l : List A) → inOrderBy t l ≡ true → inOrderBy t (insertBy t x l) ≡ true
   unfolding insertBy inOrderBy
   inserted-in-order x [] h = refl
-  inserted-in-order x (y ∷ l) h = by-test (t y x)
-      (λ e. rw (miss t x y l e) (in-order-cons y (insertBy t x l)
-      (each-inserted t (λ z. t z y ≡ false) x l (o .asym y x e) (in-order-first y l h))
-      (inserted-in-order x l (in-order-tail t y l h))))
-      (λ e. rw (hit t x y l e) (in-order-cons x (y ∷ l) (e, each-after x y l e (in-order-first y l h)) h))
+  inserted-in-order x (y ∷ l) h =
+      let first = in-order-first y l h in
+      by-cases (λ (r : List A). inOrderBy t r ≡ true) (t y x)
+      (λ e. in-order-cons y (insertBy t x l) (each-inserted t (λ z. t z y ≡ false) x l (o .asym y x e) first) (inserted-in-order x l (in-order-tail t y l h)))
+      (λ e. in-order-cons x (y ∷ l) (e, each-after x y l e first) h)
 
   -- what sorting gives is in order
   pub sorted-in-order : (l : List A) → inOrderBy t (sortedBy t l) ≡ true
@@ -164,36 +151,28 @@ module _ {A : Type 0} {t : A → A → Bool} (o : Total t) where
   -- ---- The order in which elements are put in does not matter
 
   two : (x y : A) (l : List A) → insertBy t x l ≡ x ∷ l → insertBy t y l ≡ y ∷ l → insertBy t x (y ∷ l) ≡ insertBy t y (x ∷ l)
-  two x y l ex ey = by-test (t y x)
-      (λ e. miss t x y l e ∙ ap (λ (r : List A). y ∷ r) ex ∙ sym (hit t y x l (o .asym y x e)))
-      (λ e. by-test (t x y)
-      (λ d. hit t x y l e ∙ sym (miss t y x l d ∙ ap (λ (r : List A). x ∷ r) ey))
-      (λ d. ap (λ (z : A). insertBy t z (y ∷ l)) (o .one x y d e) ∙ ap (λ (z : A). insertBy t y (z ∷ l)) (sym (o .one x y d e))))
+  two x y l ex ey = unfold insertBy in by-test (t y x) (λ e. rw (e, o .asym y x e, ex))
+      (λ e. by-test (t x y) (λ d. rw (e, d, ey)) (λ d. rw (e, d, o .one x y d e)))
 
   -- z comes before y and not before x: so x before y
   between : (x y z : A) (l : List A) → t z x ≡ false → t z y ≡ true → insertBy t x (insertBy t y (z ∷ l)) ≡ insertBy t y (insertBy t x (z ∷ l))
-  between x y z l a b =
+  between x y z l a b = unfold insertBy in
       let c : t x y ≡ true = by-test (t x y) (λ e. e) (λ e. absurd (clash b (o .trans y x z e a))) in
-      rw (miss t y z l b, hit t x z (insertBy t y l) a, hit t x z l a, miss t y x (z ∷ l) c, miss t y z l b)
+      simp (a, b, c)
 
   pub swap : (x y : A) (l : List A) → insertBy t x (insertBy t y l) ≡ insertBy t y (insertBy t x l)
   unfolding insertBy
   swap x y [] = two x y [] refl refl
   swap x y (z ∷ l) = by-test (t z x)
-      (λ a. by-test (t z y)
-      (λ b. ap (insertBy t x) (miss t y z l b) ∙ miss t x z (insertBy t y l) a ∙ ap (λ (r : List A). z ∷ r) (swap x y l) ∙ sym (ap (insertBy t y) (miss t x z l a) ∙ miss t y z (insertBy t x l) b))
-      (λ b. sym (between y x z l b a)))
-      (λ a. by-test (t z y)
-      (λ b. between x y z l a b)
-      (λ b. ap (insertBy t x) (hit t y z l b) ∙ two x y (z ∷ l) (hit t x z l a) (hit t y z l b) ∙ ap (insertBy t y) (sym (hit t x z l a))))
+      (λ a. by-test (t z y) (λ b. simp (a, b) (ap (λ (r : List A). z ∷ r) (swap x y l))) (λ b. sym (between y x z l b a)))
+      (λ a. by-test (t z y) (λ b. between x y z l a b) (λ b. simp (a, b) (simp (a, b) at (two x y (z ∷ l) (rw a) (rw b)))))
 
   -- sorted what another test sorted: as if the other had not been
   inserted-inside : (u : A → A → Bool) (x : A) (l r : List A) → sortedBy t (insertBy u x l ++ r) ≡ insertBy t x (sortedBy t (l ++ r))
   unfolding insertBy sortedBy
   inserted-inside u x [] r = refl
-  inserted-inside u x (y ∷ l) r = by-test (u y x)
-      (λ e. ap (λ (m : List A). sortedBy t (m ++ r)) (miss u x y l e) ∙ ap (insertBy t y) (inserted-inside u x l r) ∙ swap y x (sortedBy t (l ++ r)))
-      (λ e. ap (λ (m : List A). sortedBy t (m ++ r)) (hit u x y l e))
+  inserted-inside u x (y ∷ l) r =
+      by-test (u y x) (λ e. rw e (ap (insertBy t y) (inserted-inside u x l r) ∙ swap y x (sortedBy t (l ++ r)))) (λ e. rw e)
 
   pub sorted-front : (u : A → A → Bool) (l r : List A) → sortedBy t (sortedBy u l ++ r) ≡ sortedBy t (l ++ r)
   unfolding sortedBy
