@@ -70,27 +70,8 @@ word-at : (pre r : List ℕ) (k j : ℕ) → length pre ≡ codeWidth * k → wo
 word-at pre r k j e =
     ap (λ (n : ℕ). getD (pre ++ r) (n + j) 0) (sym e) ∙ getD-append-add pre r j 0 ∙ ap (λ (n : ℕ). getD r n 0) (sym (zero-add j))
 
--- a code is made of its words
-abbrev codeFrom : (ℕ → ℕ) → Code
-codeFrom w = record {
-  op = w 0;
-  number = low16 (w 1);
-  candidate = low16 (w 2);
-  first = low16 (w 3);
-  last = low16 (w 4);
-  kind = w 5;
-  value = w 6;
-  days = w 7;
-  numbers = w 8;
-  text = w 9;
-}
-
 code-at : (pre r : List ℕ) (k : ℕ) → length pre ≡ codeWidth * k → codeAt (pre ++ r) k ≡ codeAt r 0
-code-at pre r k e = unfold codeAt in
-    let words : ℕ → ℕ = λ j. word (pre ++ r) k j in
-    let words′ : ℕ → ℕ = λ j. word r 0 j in
-    let same : words ≡ words′ = fun-ext (λ j. word-at pre r k j e) in
-    ap codeFrom same
+code-at pre r k e = unfold codeAt in simp (word-at pre r k)
 
 -- ---- A list of calls
 
@@ -119,15 +100,7 @@ from (q ∷ qs) pre k e f =
     decode-go (pre ++ (w ++ r)) (q .days ++ daysOf qs) (q .numbers ++ numbersOf qs) (q .text ++ textOf qs) k (length qs) (codeAt (w ++ r) 0) (q .call)
     (sym (code-at pre (w ++ r) k e))
     (next-back q r _ _ _ (f .0 .call) (omega (arith, length-append (q .days) (daysOf qs))) (omega (arith, length-append (q .numbers) (numbersOf qs))) (omega (arith, length-append (q .text) (textOf qs))))
-    ∙ rw (
-      take-at (q .days) (daysOf qs) (length (q .days)) refl,
-      take-at (q .numbers) (numbersOf qs) (length (q .numbers)) refl,
-      take-at (q .text) (textOf qs) (length (q .text)) refl,
-      drop-at (q .days) (daysOf qs) (length (q .days)) refl,
-      drop-at (q .numbers) (numbersOf qs) (length (q .numbers)) refl,
-      drop-at (q .text) (textOf qs) (length (q .text)) refl,
-      next,
-    )
+    ∙ simp (take-at, drop-at, next)
 
 codes-long : (qs : List Request) → length (codesOf qs) ≡ codeWidth * length qs
 unfolding written
@@ -148,22 +121,11 @@ unfolding written Every
 words-narrow [] f = tt
 words-narrow (q ∷ qs) f =
     let h = f .0 .call in
-    let v = fieldsOf (q .call) .value in (
-      omega (arith, call-back (q .call) 0 0 0 [] h .1),
-      (
-        omega (arith, h .number),
-        (
-          omega (arith, h .candidate),
-          (
-            omega (arith, h .first),
-            (
-              omega (arith, h .last),
-              (omega (arith, kind-few v), (value-few v (h .value), (f .0 .days, (f .0 .numbers, (f .0 .text, words-narrow qs (f .1)))))),
-            ),
-          ),
-        ),
-      ),
-    )
+    let op = call-back (q .call) 0 0 0 [] h .1 in
+    let kind = kind-few (fieldsOf (q .call) .value) in
+    let value = value-few (fieldsOf (q .call) .value) (h .value) in
+    let later = words-narrow qs (f .1) in
+    search arith depth 12
 
 -- ---- The claim
 

@@ -32,10 +32,7 @@ module _ (j : List Undo) (d : ℕ) (e : Undo) (long : length j ≡ 64) where
     where
       -- the newest n of n + 1 entries: those without the oldest
       drop-oldest : (j : List Undo) (n : ℕ) → length j ≡ suc n → take n (reverse j) ≡ reverse (drop 1 j)
-      drop-oldest [] n h = absurd (none h)
-        where
-          none : 0 ≡ suc n → ⊥
-          none h = omega arith
+      drop-oldest [] n h = absurd (omega arith)
       drop-oldest (x ∷ j) n h = rw (reverse-cons x j) (take-at (reverse j) (x ∷ []) n (omega (arith, length-reverse j)))
 
 -- the newest entry, and those before it

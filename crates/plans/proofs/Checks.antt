@@ -20,17 +20,11 @@ module _ (l : List Spell) (k : ℕ) {n p : ℕ} (long : length l ≡ n) (at-inde
 
 -- ---- Enter and amend of the spell s, as the code checks it
 
-two : (t f : Bool) → cond t duplicateNumber (cond f full accepted) ≡ orElse (cond t duplicateNumber accepted) (cond f full accepted)
-two true f = refl
-two false f = refl
-
-beyond : (p n : ℕ) → cond (ltb p n) accepted unknownNumber ≡ cond (leb n p) unknownNumber accepted
-beyond p n = by-test (ltb p n) (λ e. rw (e, lt-leb n p (ltb-true p n e))) (λ e. rw (e, le-leb n p (ltb-false p n e)))
-
 module _ (l : List Spell) (s : Spell) {n p : ℕ} (long : length l ≡ n) (at-index : p ≡ standsAt (s .number) l) where
   pub enter-refusal : enterRefusal l s ≡ enterCheck s p n
-  unfolding enterRefusal
-  enter-refusal = rw (stands-is l (s .number) long at-index, long) (ap (λ (r : ℕ). orElse (refusalOf s) r) (two (ltb p n) (leb 1024 n)))
+  enter-refusal = unfold enterRefusal in rw (stands-is l (s .number) long at-index, long) (by-test (ltb p n) (λ e. rw e) (λ e. rw e))
 
   pub amend-refusal : amendRefusal l s ≡ amendCheck s p n
-  amend-refusal = unfold amendRefusal in rw (stands-is l (s .number) long at-index) (ap (λ (r : ℕ). orElse (refusalOf s) r) (beyond p n))
+  amend-refusal = unfold amendRefusal in
+      rw (stands-is l (s .number) long at-index)
+      (by-test (ltb p n) (λ e. rw (e, lt-leb n p (ltb-true p n e))) (λ e. rw (e, le-leb n p (ltb-false p n e))))

@@ -1,5 +1,5 @@
 -- A plan is what the account says of its call, on the list l of n spells where its number stands at p. Assumes nothing.
-use Rattle.basis.proofs.Prelude.{_∙_, _≡_, ap, refl, sym, _+_, _-_, _<_, _≤_, suc, ℕ, List, _∷_, Bool, cond, false, true, leb, drop, getD, length, length-append, length-drop, length-take, take, arith, eq-eqb, le-leb, leb-false, leb-true, lt-leb, ne-eqb, by-cases}
+use Rattle.basis.proofs.Prelude.{_∙_, _≡_, ap, refl, sym, _+_, _-_, _<_, _≤_, suc, ℕ, List, _∷_, Bool, cond, false, true, leb, drop, getD, length, length-append, length-drop, length-take, take, arith, eq-eqb, le-leb, leb-false, leb-true, lt-leb, ne-eqb, by-test}
 use Rattle.refusal.specs.Table.{accepted, unknownNumber, noHistory}
 use Rattle.spell.specs.{declared.Spell.Spell, Blank.blank, Listing.stands, Same.sameOf}
 use Rattle.model.{specs.Edits.{insert, remove, replace, idle, enterRefusal, amendRefusal}, proofs.Checks.{enters, amends}}
@@ -58,20 +58,14 @@ module _ (l : List Spell) (s : Spell) {n p : ℕ} (long : length l ≡ n) (few :
     idle-is : idle l s ≡ sameOf old s
     idle-is = rw at (idle-index s l (amends l s h .there))
 
-    abbrev amended : Plan
-    amended = record { refusal = accepted; out = p; puts = true; spell = s; notes = true; entry = record { number = s .number; stood = true; spell = old }; depth = d }
-
-    amend-is : (b : Bool) → idle l s ≡ b → planAmend s p old n d ≡ cond b (noPlan d accepted) amended
-    amend-is b i = rw (eq-eqb (amendCheck s p n) accepted passed) (ap (λ (t : Bool). cond t (noPlan d accepted) amended) (sym idle-is ∙ i))
-
     pub amend-idles : idle l s ≡ true → planAmend s p old n d ≡ noPlan d accepted
-    amend-idles = amend-is true
+    amend-idles i = rw (eq-eqb (amendCheck s p n) accepted passed, sym idle-is ∙ i)
 
     pub amend-makes : idle l s ≡ false → Makes (planAmend s p old n d) l (replace s l) (replacing (s .number) l) d
     amend-makes i =
         let there = place-in l (s .number) long at (amends l s h .there) in
         let room : length (without p l) < 1024 = omega (arith, length-append (take p l) (drop (suc p) l), length-take p l, length-drop (suc p) l) in
-        rw (amend-is false i)
+        rw (eq-eqb (amendCheck s p n) accepted passed, sym idle-is ∙ i)
         (record { done = refl; list = put-in s (without p l) room ∙ ap (insert s) (removed-is (s .number) l at); notes = refl; entry = rw at; depth = refl })
 
 -- ---- Strike of the number k
@@ -92,15 +86,13 @@ back-leaves e p none = rw none
 
 pub back-undoes : (l : List Spell) (e : Undo) {p : ℕ} (d : ℕ) → p ≡ standsAt (e .number) l → (d ≡ 0 → ⊥) → (e .stood ≡ true → length (remove (e .number) l) < 1024)
     → Undoes (planBack e p d) l (undo e l) d
-unfolding undo
-back-undoes l e {p} d at some room =
-    rw (ne-eqb d 0 some)
-    (record { done = refl; list = rw (removed-is (e .number) l at) (put-back (e .stood) room); notes = refl; depth = refl })
-  where
-    put-back : (stood : Bool) → (stood ≡ true → length (remove (e .number) l) < 1024)
-        → putting stood (e .spell) (remove (e .number) l) ≡ cond stood (insert (e .spell) (remove (e .number) l)) (remove (e .number) l)
-    put-back true room = put-in (e .spell) (remove (e .number) l) (room refl)
-    put-back false room = refl
+back-undoes l e {p} d at some room = unfold undo in
+    rw (ne-eqb d 0 some) (record {
+      done = refl;
+      list = rw (removed-is (e .number) l at) (by-test (e .stood) (λ s. rw s (put-in (e .spell) (remove (e .number) l) (room s))) (λ s. rw s));
+      notes = refl;
+      depth = refl;
+    })
 
 -- ---- The depth
 
@@ -108,4 +100,4 @@ back-undoes l e {p} d at some room =
 pub deeper-noted : (e : Undo) (es : List Undo) → length es ≤ 64 → deeperBy (length es) true ≡ length (noted e es)
 deeper-noted e es few =
     let many = length-take 64 (e ∷ es) in
-    by-cases (λ (r : ℕ). r ≡ length (noted e es)) (leb 64 (length es)) {x = length es} {y = length es + 1} (λ h. omega (arith, leb-true 64 (length es) h)) (λ h. omega (arith, leb-false 64 (length es) h))
+    by-test (leb 64 (length es)) (λ h. rw h (omega (arith, leb-true 64 (length es) h))) (λ h. rw h (omega (arith, leb-false 64 (length es) h)))

@@ -1,41 +1,28 @@
--- `spell_checks::refusal_of` meets its contract. Assumes nothing.
-use Rattle.basis.proofs.Prelude.{_∙_, _≡_, sym, false, true, eqb, needs, eq-eqb, le-ltb, lt-ltb, ne-eqb, not-false, not-true}
+-- `spell_checks::refusal_of` meets its contract: a law for each return after the first two, of the tests that were passed. Assumes nothing.
+use Rattle.basis.proofs.Prelude.{_∙_, _≡_, _≤_, _<_, sym, false, true, Bool, not, needs, eq-eqb, le-ltb, lt-ltb, ne-eqb, not-false, not-true}
 use Rattle.calendar.specs.Calendar.{isDay}
-use Rattle.spell_checks.proofs.refusal_of.{Statement.statement, Tie.{Else2, Else4, close, spec}}
+use Rattle.spell.specs.{declared.Spell.Spell, Entry.{refusalOf, urgencyOk}}
+use Rattle.spell_checks.proofs.refusal_of.{Statement.statement, Tie.{close, spec}}
 
--- what the tests that were passed leave: of the numbers, and of the days
-named : (c : Else2) → let s = c .before .before .before .before .args .s in (eqb (s .number) 0 ≡ false) × (eqb (s .candidate) 0 ≡ false)
-named c = (ne-eqb _ _ (c .before .before .if1 .left), ne-eqb _ _ (c .if2 .left))
+module _ (s : Spell) (n : s .number ≡ 0 → ⊥) (c : s .candidate ≡ 0 → ⊥) {f : Bool} (first : f ≡ isDay (s .first)) where
+  off-first : not f ≡ true → 3 ≡ refusalOf s
+  off-first h = rw (ne-eqb _ 0 n, ne-eqb _ 0 c, sym first ∙ not-true _ h)
 
-dated : (c : Else4) → let s = c .before .before .before .before .before .before .before .before .args .s in (isDay (s .first) ≡ true) × (isDay (s .last) ≡ true)
-dated c = let f = c .before .before in (sym (f .before .is-day .ensures) ∙ not-false _ (f .if3 .left), sym (c .before .is-day2 .ensures) ∙ not-false _ (c .if4 .left))
+  module _ (on : not f ≡ false) {l : Bool} (last : l ≡ isDay (s .last)) where
+    off-last : not l ≡ true → 3 ≡ refusalOf s
+    off-last h = rw (ne-eqb _ 0 n, ne-eqb _ 0 c, sym first ∙ not-false _ on, sym last ∙ not-true _ h)
+
+    module _ (on′ : not l ≡ false) where
+      backwards : s .last < s .first → 4 ≡ refusalOf s
+      backwards h = rw (ne-eqb _ 0 n, ne-eqb _ 0 c, sym first ∙ not-false _ on, sym last ∙ not-false _ on′, lt-ltb _ _ h)
+
+      bad : s .first ≤ s .last → {u : Bool} → u ≡ urgencyOk (s .urgency) → not u ≡ true → 5 ≡ refusalOf s
+      bad h e k = rw (ne-eqb _ 0 n, ne-eqb _ 0 c, sym first ∙ not-false _ on, sym last ∙ not-false _ on′, le-ltb _ _ h, sym e ∙ not-true _ k)
+
+      good : s .first ≤ s .last → {u : Bool} → u ≡ urgencyOk (s .urgency) → not u ≡ false → 0 ≡ refusalOf s
+      good h e k = rw (ne-eqb _ 0 n, ne-eqb _ 0 c, sym first ∙ not-false _ on, sym last ∙ not-false _ on′, le-ltb _ _ h, sym e ∙ not-false _ k)
 
 pub refusal-of-spec : {M : Type 1} → statement M
 refusal-of-spec = close (spec
-    (λ c. simp (eq-eqb _ _ (c .if1 .taken))) (λ c. simp (ne-eqb _ _ (c .before .before .if1 .left), eq-eqb _ _ (c .if2 .taken)))
-    (λ c κs. search needs)
-    -- the first day
-    (λ c. let e2 = c .before .before in simp (named e2 .0, named e2 .1, sym (c .before .is-day .ensures), not-true (c .before .is-day .result) (c .if3 .taken)))
-    (λ c κs. search needs)
-    -- the last day
-    (λ c.
-    let e3 = c .before .before in
-    let e2 = e3 .before .before in
-    simp (named e2 .0, named e2 .1, sym (e3 .before .is-day .ensures) ∙ not-false _ (e3 .if3 .left), sym (c .before .is-day2 .ensures), not-true (c .before .is-day2 .result) (c .if4 .taken)))
-    -- REVERSED
-    (λ c.
-    let e4 = c .before .before in
-    let e2 = e4 .before .before .before .before in
-    simp (named e2 .0, named e2 .1, dated e4 .0, dated e4 .1, lt-ltb _ _ (c .if5 .taken)))
-    (λ c κs. search needs)
-    -- BAD_URGENCY
-    (λ c.
-    let e5 = c .before .before in
-    let e4 = e5 .before .before in
-    let e2 = e4 .before .before .before .before in
-    simp (named e2 .0, named e2 .1, dated e4 .0, dated e4 .1, le-ltb _ _ (e5 .if5 .left), sym (c .before .urgency-ok .ensures), not-true (c .before .urgency-ok .result) (c .if6 .taken)))
-    (λ c.
-    let e5 = c .before .before in
-    let e4 = e5 .before .before in
-    let e2 = e4 .before .before .before .before in
-    simp (named e2 .0, named e2 .1, dated e4 .0, dated e4 .1, le-ltb _ _ (e5 .if5 .left), sym (c .before .urgency-ok .ensures), not-false (c .before .urgency-ok .result) (c .if6 .left))))
+    (λ c. search eq-eqb) (λ c. search (eq-eqb, ne-eqb)) (λ c κs. search needs) (λ c. search off-first) (λ c κs. search needs)
+    (λ c. search off-last) (λ c. search backwards) (λ c κs. search needs) (λ c. search bad) (λ c. search good))
