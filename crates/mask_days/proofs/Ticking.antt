@@ -39,16 +39,7 @@ pub record Turn (base i n z : ℕ) : Type 0 where
   pub day : base + (i + z) ≤ 4000
 
 pub begins : {base mask : ℕ} {held : List ℕ} → Room base mask held → mask < 2 ^ 64 → Ticking base mask held held mask 0 0
-begins {base} {mask} {held} r f = record {
-  room = r;
-  fits = f;
-  sized = r .places;
-  within = omega arith;
-  upto = omega arith;
-  shifted = div-one mask;
-  ahead = refl;
-  so-far = refl;
-}
+begins r f = search (div-one, arith)
 
 module _ {base mask : ℕ} {held days : List ℕ} {left i n : ℕ} (t : Ticking base mask held days left i n) where
   -- nothing is left: all are put

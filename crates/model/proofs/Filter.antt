@@ -65,9 +65,4 @@ module _ (t : Spell → Bool) where
   -- ---- So a list that can stand can stand without the others
 
   pub filter-orderly : {u : Spell → Spell → Bool} (o : StrictOrder u) (P : Spell → Type 0) (l : List Spell) → OrderlyBy u P l → OrderlyBy u P (filter t l)
-  filter-orderly o P l g = record {
-    each = filter-each P l (g .each);
-    in-order = filter-ordered o l (g .in-order);
-    unique = filter-distinct l (g .unique);
-    few = omega (arith, filter-few l, g .few);
-  }
+  filter-orderly o P l g = let n = filter-few l in search (filter-each, filter-ordered, filter-distinct, arith)

@@ -55,11 +55,7 @@ pub kept-none : Kept []
 kept-none = unfold Each distinct in record { each = tt; unique = refl; few = omega arith }
 
 kept-more : (l : List Spell) (t : List ℕ) (s : Spell) (rest : List ℕ) → readLine t ≡ found s rest → Passes l s → Kept l → Kept (l ++ (s ∷ []))
-kept-more l t s rest e p k = record {
-  each = each-more l s (k .each) (write-line t s rest e (p .entered) .0);
-  unique = distinct-more l s (k .unique) (p .new);
-  few = omega (arith, length-append l (s ∷ []), p .room);
-}
+kept-more l t s rest e p k = let n = length-append l (s ∷ []) in let sound = write-line t s rest e (p .entered) .0 in search (each-more, distinct-more, arith)
 
 kept-line : (l : List Spell) (t : List ℕ) (f : Found Spell) → readLine t ≡ f → Kept l → Kept (keeping l f)
 unfolding keeping
