@@ -19,11 +19,7 @@ next-room c days numbers text q e = unfold nextOf in
     let d : leb (c .days) days ≡ true = picked (leb (c .days) days) _ q e in
     let n : leb (c .numbers) numbers ≡ true = picked (leb (c .numbers) numbers) _ q (rw d at e) in
     let t : leb (c .text) text ≡ true = picked (leb (c .text) text) _ q (rw (d, n) at e) in
-    record {
-      for-days = leb-true (c .days) days d;
-      for-numbers = leb-true (c .numbers) numbers n;
-      for-text = leb-true (c .text) text t;
-    }
+    search leb-true
 
 -- ---- The calls that are still coded
 

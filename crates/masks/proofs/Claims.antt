@@ -50,19 +50,14 @@ module _ {base mask : ℕ} {r : Ticks} {held days : List ℕ} (a : Answer base m
       let h : r ≡ All (length (ticks base mask)) = rw o at (a .says) in
       let many : n ≡ length (ticks base mask) = cc in
       let is : days ≡ over (ticks base mask) held = rw o at (a .holds) in
-      record {
-        on = o;
-        number = many;
-        inside = omega (arith, simp length-append at (ap length is));
-        first = rw (many, is) (take-append-seam (ticks base mask) _);
-      })
+      let long = simp length-append at (ap length is) in
+      let first : take n days ≡ ticks base mask = rw (many, is) (take-append-seam (ticks base mask) _) in
+      search arith)
       (λ o. let h : r ≡ Off = rw o at (a .says) in let z : _≡_ {A = ℕ} 0 1 = cc in absurd (omega arith))
 
   -- one is not
   pub off-gives : r ≡ Off → daysOk (ticks base mask) ≡ false
-  off-gives e = by-test (daysOk (ticks base mask))
-      (λ o. let h : r ≡ All (length (ticks base mask)) = rw o at (a .says) in let z : _≡_ {A = ℕ} 0 1 = cc in absurd (omega arith))
-      (λ o. o)
+  off-gives e = by-test (daysOk (ticks base mask)) (λ o. let h : r ≡ All (length (ticks base mask)) = rw o at (a .says) in cc) (λ o. o)
 
 -- ---- Worked: the days 10 and 12; the highest bit; days 0, 1, 4,001 and 65,536
 pub worked : (ticks 10 5 ≡ 10 ∷ 12 ∷ [])

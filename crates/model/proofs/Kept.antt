@@ -24,7 +24,7 @@ module _ (P : Spell → Type 0) where
       go : (g : Register) → readText text ≡ g → Orderly P (begun g .standing)
       go (good l) e = unfold begun in
           let g : Good l = text-again text l e .1 in
-          record { each = each-map Sound P f l (g .each); in-order = g .in-order; unique = g .unique; few = g .few }
+          let each = each-map Sound P f l (g .each) in search
       go (bad n line) e = unfold begun in orderly-none text-order P
 
   -- ---- A call
@@ -54,20 +54,14 @@ module _ (P : Spell → Type 0) where
     unfolding effectOf
     call-keeps (Enter s) b =
         edit-keeps (enterRefusal (m .standing) s) (insert s (m .standing)) (λ e.
-        let c = enters (m .standing) s e in
-        orderly-insert text-order P s (m .standing) (k .standing) (b s (inl refl) (c .passes)) (c .free) (c .room))
+        let c = enters (m .standing) s e in let p = b s (inl refl) (c .passes) in search (orderly-insert text-order P))
     call-keeps (Amend s) b =
         amend-does Keeps m s (λ _ _. k) (λ _ _. k) (λ _. edit-keeps (amendRefusal (m .standing) s) (replace s (m .standing)) (λ e.
-        let c = amends (m .standing) s e in
-        orderly-replace text-order P s (m .standing) (k .standing) (b s (inr refl) (c .passes)) (c .there)))
+        let c = amends (m .standing) s e in let p = b s (inr refl) (c .passes) in search (orderly-replace text-order P)))
     call-keeps (Strike n) b =
-        edit-keeps (strikeRefusal (m .standing) n) (remove n (m .standing)) (λ e.
-        orderly-remove text-order P n (m .standing) (k .standing) (strike-accepted (m .standing) n .0 e))
+        edit-keeps (strikeRefusal (m .standing) n) (remove n (m .standing)) (λ e. let there = strike-accepted (m .standing) n .0 e in search (orderly-remove text-order P))
     call-keeps TakeBack b = back-keeps (m .past) (k .past) (k .depth)
-    call-keeps (Publish rule) b =
-        by-cases Keeps (isRule rule)
-        (λ _. record { standing = k .standing; past = k .past; depth = k .depth; published = published-orderly rule P cuts (m .standing) (k .standing) })
-        (λ _. k)
+    call-keeps (Publish rule) b = by-cases Keeps (isRule rule) (λ _. search (k .past, published-orderly rule P cuts)) (λ _. k)
     call-keeps Write b = k
     call-keeps (Ask w) b = asks-does Keeps (record { refusing = λ n _. k; asked = λ h l. k; several = k; masked = λ b n. k }) w
 
