@@ -107,16 +107,14 @@ on-days ds x = (on-any ds x, λ f. any-on ds x (f .0) (f .1) (f .2, f .3))
 module _ (m : State) (unique : distinct (m .published) ≡ true) (sorted : orderedBy listedBefore (m .published) ≡ true) (q : Request) where
   answered : (w : Question) (t : Spell → Bool) {c n : ℕ} {a : Answer} → ((x : Spell) → (t x ≡ true) ↔ Fits w (q .days) (m .published) x)
       → Lists m q t c n a → Answered m q w a
-  answered w t is l =
-      let e = listed-exactly t (m .published) in
-      record {
-        spells = filter t (m .published);
-        exactly = λ x. (λ i. (e x .0 i .0, is x .0 (e x .0 i .1)), λ i. e x .1 (i .0, is x .1 (i .1)));
-        once = listed-once t (m .published) unique;
-        in-order = listed-ordered t (m .published) sorted;
-        count = l .count ∙ length-map (filter t (m .published)) (λ (s : Spell). s .number);
-        numbers = l .numbers;
-      }
+  answered w t is l = record {
+    spells = filter t (m .published);
+    exactly = λ x. let e = listed-exactly t (m .published) x in (λ i. (e .0 i .0, is x .0 (e .0 i .1)), λ i. e .1 (i .0, is x .1 (i .1)));
+    once = listed-once t (m .published) unique;
+    in-order = listed-ordered t (m .published) sorted;
+    count = l .count ∙ length-map (filter t (m .published)) (λ (s : Spell). s .number);
+    numbers = l .numbers;
+  }
 
   pub answers : (w : Question) → stepOf (Ask w) m q .answer .refusal ≡ accepted → Answered m q w (stepOf (Ask w) m q .answer)
   answers (Day d) r = answered (Day d) (onDay d) (reaching d d) (day-lists m q d r)

@@ -96,20 +96,12 @@ module _ {t out remarks out′ remarks′ : List ℕ} {r : Repaired} (a : Repair
       (λ e.
       let room = fit (eqb-true met 0 e) in
       let is : r ≡ repairGiven t = a .answer ∙ rw e in
-      record {
-        text = omega (arith, ap (λ (r : Repaired). r .length) is);
-        said = omega (arith, ap (λ (r : Repaired). r .dropped) is, places-length (remarksOf t));
-        text-sized = put-sized (repairedText t) out (room .0) (a .text ∙ rw e);
-        said-sized = put-sized (placesOf (remarksOf t)) remarks (room .1) (a .said ∙ rw e);
-      })
-      (λ e.
-      let k = refused e in
-      record {
-        text = omega (arith, ap (λ (r : Repaired). r .length) (k .2));
-        said = omega (arith, ap (λ (r : Repaired). r .dropped) (k .2));
-        text-sized = ap length (k .0);
-        said-sized = ap length (k .1);
-      })
+      let text = put-sized (repairedText t) out (room .0) (a .text ∙ rw e) in
+      let said = put-sized (placesOf (remarksOf t)) remarks (room .1) (a .said ∙ rw e) in
+      let long = ap (λ (r : Repaired). r .length) is in
+      let many = ap (λ (r : Repaired). 2 * r .dropped) is ∙ sym (places-length (remarksOf t)) in
+      search arith)
+      (λ e. let k = refused e in rw (k .0, k .1, k .2) (search arith))
 
   -- GIVEN ROOM, a good register stands in the first places as it came, and nothing is said
   pub passes-through : (l : List Spell) → readText t ≡ good l → length t ≤ length out
