@@ -1,5 +1,5 @@
 -- An entry's words read back as the entry. Assumes nothing.
-use Rattle.basis.proofs.Prelude.{_∙_, _≡_, ap, refl, sym, _+_, _<_, _≤_, suc, ℕ, List, _++_, Bool, cond, false, not, true, eqb, drop, getD, length, length-append, length-drop, length-set, set, drop-drop, getD-drop, add-zero, add-one, add-two, arith, le-leb, lt-leb}
+use Rattle.basis.proofs.Prelude.{_∙_, _≡_, ap, refl, sym, _+_, _<_, _≤_, suc, ℕ, List, _++_, Bool, cond, false, not, true, eqb, drop, getD, length, length-append, length-drop, length-set, set, drop-drop, getD-drop, add-zero, add-one, add-two, arith, le-leb, lt-leb, by-test}
 use mir.Val.{Val, boolByte}
 use denote.Laws.{Is}
 use Rattle.spell.specs.declared.Spell.{Spell}
@@ -20,13 +20,9 @@ entry-reads e r = unfold entryOf in
     rw (le-leb 9 (length (entryWords e ++ r)) (omega (arith, length-append (entryWords e) r, entry-long e)), le-leb 9 (length (entryWords e)) (omega (arith, entry-long e)))
     (unfold entryWords in ap (read (e .number) (cond (e .stood) 1 0)) (spell-reads (e .spell) r))
 
-flag-back : (b : Bool) → not (eqb (cond b 1 0) 0) ≡ b
-flag-back true = refl
-flag-back false = refl
-
 pub entry-back : (e : Undo) → spellOf (spellWords (e .spell)) ≡ e .spell → entryOf (entryWords e) ≡ e
 unfolding entryOf
-entry-back e h = rw (le-leb 9 (length (entryWords e)) (omega (arith, entry-long e))) (unfold entryWords in rw (h, flag-back (e .stood)))
+entry-back e h = rw (le-leb 9 (length (entryWords e)) (omega (arith, entry-long e))) (unfold entryWords in rw h (by-test (e .stood) (λ s. rw s) (λ s. rw s)))
 
 -- what the checker knows of every entry that a program holds: its spell's urgency has its type's width, so that the entry reads back
 pub entry-held : (e : Undo) (vs : List Val) → Is entry-row e vs → entryOf (entryWords e) ≡ e

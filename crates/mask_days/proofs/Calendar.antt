@@ -1,5 +1,6 @@
 -- Whether every ticked day is on the calendar, by the lowest and the highest. Assumes nothing.
 use Rattle.basis.proofs.Prelude.{_≡_, refl, sym, _∙_, ℕ, zero, suc, _+_, _-_, _≤_, _<_, List, List·Memᴰ, List·Memᴰ·head, List·Memᴰ·tail, List·Memᴰ·cases-cons, [], _∷_, Bool, true, false, _&&_, inl, inr, leb, getD, length, arith, decLe, le-leb, lt-leb, both}
+use mathlib.Core.Bool.{and-false}
 use Prim.Native.Nat.{_^_}
 use native.Mathlib.Nat.{div-one}
 use lib.Count.{trailingZeros, leadingZeros, leading-top}
@@ -7,10 +8,6 @@ use Rattle.calendar.{specs.Calendar.{isDay, daysOk}, proofs.Calendar.dated}
 use Rattle.masks.{specs.Masks.ticks, proofs.Bits.{highest-set, highest, none-from, Next, next, bit-of, of-bit}}
 
 -- ---- A list of days
-and-false : (a : Bool) → a && false ≡ false
-and-false true = refl
-and-false false = refl
-
 all-on : (l : List ℕ) → ((d : ℕ) → List·Memᴰ d l → (1 ≤ d) × (d ≤ 4000)) → daysOk l ≡ true
 unfolding daysOk
 all-on [] f = refl
@@ -30,23 +27,23 @@ each-on (d ∷ l) zero e h = dated d (both (isDay d) (daysOk l) e .0) .1
 each-on (d ∷ l) (suc n) e h = each-on l n (both (isDay d) (daysOk l) e .1) (omega arith)
 
 -- ---- The ticked days
+pub zeros-above : (mask : ℕ) → (mask ≡ 0 → ⊥) → mask < 2 ^ 64 → leadingZeros 64 mask ≤ 63
+zeros-above mask some fits = omega (arith, leading-top 64 mask (omega (arith, some)) fits .1)
+
 module _ (base mask : ℕ) where
   pub empty-on : mask ≡ 0 → true ≡ daysOk (ticks base mask)
   empty-on e = unfold daysOk in rw (none-from base mask 64 0 (div-one mask ∙ e))
 
-  module _ (some : 0 < mask) (fits : mask < 2 ^ 64) where
+  module _ (some : mask ≡ 0 → ⊥) (fits : mask < 2 ^ 64) where
     first : Next base mask 0 64 (trailingZeros 64 mask)
-    first = rw (div-one mask) at (next base mask 64 64 0 (omega arith) (rw (div-one mask) some) (rw (div-one mask) fits))
-
-    pub zeros-above : leadingZeros 64 mask ≤ 63
-    zeros-above = omega (arith, leading-top 64 mask some fits .1)
+    first = rw (div-one mask) at (next base mask 64 64 0 (omega arith) (rw (div-one mask) (omega (arith, some))) (rw (div-one mask) fits))
 
     pub low-off : base + trailingZeros 64 mask < 1 → false ≡ daysOk (ticks base mask)
     low-off h = unfold daysOk in rw (first .is) (rw (lt-leb 1 (base + (0 + trailingZeros 64 mask)) (omega arith)))
 
     pub high-on : 1 ≤ base + trailingZeros 64 mask → leb (base + (63 - leadingZeros 64 mask)) 4000 ≡ daysOk (ticks base mask)
     high-on l =
-        let t = leading-top 64 mask some fits in
+        let t = leading-top 64 mask (omega (arith, some)) fits in
         let same : 63 - leadingZeros 64 mask ≡ t .0 = omega (arith, t .1) in
         elim (decLe (base + t .0) 4000) [
           | yes h ↦ rw (same, le-leb (base + t .0) 4000 h) (sym (all-on (ticks base mask) (λ d m.

@@ -49,11 +49,11 @@ module _ {base mask : ℕ} {held days : List ℕ} {left i n : ℕ} (t : Ticking 
       let all : n ≡ length (ticks base mask) = omega (arith, t .upto, simp length-drop at (ap length none)) in
       t .so-far ∙ rw (all, take-all (length (ticks base mask)) (ticks base mask) (omega arith))
 
-  module _ (some : 0 < left) where
+  module _ (some : left ≡ 0 → ⊥) where
     step : Next base mask i (64 - i) (trailingZeros 64 left)
     step =
         let f : mask < 2 ^ (64 - i + i) = let z : 64 - i + i ≡ 64 = omega (arith, t .within) in rw z (t .fits) in
-        rw (t .shifted) at (next base mask (64 - i) 64 i (omega arith) (rw (t .shifted) some) (shr-lt (64 - i) i f))
+        rw (t .shifted) at (next base mask (64 - i) 64 i (omega arith) (rw (t .shifted) (omega (arith, some))) (shr-lt (64 - i) i f))
 
     abbrev z : ℕ
     z = trailingZeros 64 left
@@ -64,24 +64,20 @@ module _ {base mask : ℕ} {held days : List ℕ} {left i n : ℕ} (t : Ticking 
     pub turn : Turn base i n z
     turn =
         let inside = coming-in _ n _ _ comes in
-        record {
-          bit = omega (arith, step .within);
-          place = omega (arith, inside, in-sheet base mask);
-          day = rw (coming-is _ n _ _ comes) at (each-on (ticks base mask) n (t .room .on) inside);
-        }
+        let day : base + (i + z) ≤ 4000 = rw (coming-is _ n _ _ comes) at (each-on (ticks base mask) n (t .room .on) inside) in
+        let few = in-sheet base mask in
+        let bit = step .within in
+        search arith
 
     pub goes-on : Ticking base mask held (set days n (base + (i + z))) (left / 2 ^ z / 2) (i + z + 1) (n + 1)
     goes-on =
         let inside = coming-in _ n _ _ comes in
+        let known = turn in
         let up : suc (i + z) ≡ i + z + 1 = omega arith in
         let fewer : 64 - i - suc z ≡ 64 - (i + z + 1) = omega arith in
-        record {
-          room = t .room;
-          fits = t .fits;
-          sized = length-set days n (base + (i + z)) ∙ t .sized;
-          within = omega (arith, turn);
-          upto = omega arith;
-          shifted = sym (shr-shr mask (i + z) 1) ∙ ap (λ (x : ℕ). x / 2) (sym (shr-shr mask i z) ∙ rw (t .shifted));
-          ahead = coming-on _ n _ _ comes ∙ rw (up, fewer);
-          so-far = rw (t .so-far) (buffer.filled held (ticks base mask) n 0 (base + (i + z)) (sym (coming-is _ n _ _ comes)) (omega (arith, t .room .places, turn)) inside);
-        }
+        let sized = length-set days n (base + (i + z)) ∙ t .sized in
+        let shifted = sym (shr-shr mask (i + z) 1) ∙ ap (λ (x : ℕ). x / 2) (sym (shr-shr mask i z) ∙ ap (λ (x : ℕ). x / 2 ^ z) (t .shifted)) in
+        let ahead = rw (up, fewer) at (coming-on _ n _ _ comes) in
+        let so-far : set days n (base + (i + z)) ≡ take (n + 1) (ticks base mask) ++ drop (n + 1) held =
+        rw (t .so-far) (buffer.filled held (ticks base mask) n 0 (base + (i + z)) (sym (coming-is _ n _ _ comes)) (omega (arith, t .room .places)) inside) in
+        search arith

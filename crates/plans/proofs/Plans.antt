@@ -31,41 +31,32 @@ none-keeps l d z few = without-none 1024 l few
 
 module _ (l : List Spell) (s : Spell) {n p : ℕ} (long : length l ≡ n) (few : n ≤ 1024) (at : p ≡ standsAt (s .number) l) (d : ℕ) where
   pub enter-leaves : (enterRefusal l s ≡ accepted → ⊥) → planEnter s p n d ≡ noPlan d (enterRefusal l s)
-  enter-leaves h =
-      let is = enter-refusal l s long at in
-      rw (ne-eqb (enterCheck s p n) accepted (λ z. h (is ∙ z))) (ap (noPlan d) (sym is))
+  enter-leaves h = rw (← enter-refusal l s long at, ne-eqb (enterRefusal l s) accepted h)
 
   pub enter-makes : enterRefusal l s ≡ accepted → Makes (planEnter s p n d) l (insert s l) (entering s) d
   enter-makes h =
-      let none = without-none 1024 l (omega arith) in
-      let room : length (without 1024 l) < 1024 = rw none (enters l s h .room) in
-      rw (eq-eqb (enterCheck s p n) accepted (sym (enter-refusal l s long at) ∙ h))
-      (record { done = refl; list = put-in s (without 1024 l) room ∙ ap (insert s) none; notes = refl; entry = refl; depth = refl })
+      rw (← enter-refusal l s long at, eq-eqb (enterRefusal l s) accepted h)
+      (record { done = refl; list = rw (without-none 1024 l (omega arith)) (put-in s l (enters l s h .room)); notes = refl; entry = refl; depth = refl })
 
   abbrev old : Spell
   old = getD l p blank
 
   pub amend-leaves : (amendRefusal l s ≡ accepted → ⊥) → planAmend s p old n d ≡ noPlan d (amendRefusal l s)
-  amend-leaves h =
-      let is = amend-refusal l s long at in
-      rw (ne-eqb (amendCheck s p n) accepted (λ z. h (is ∙ z))) (ap (noPlan d) (sym is))
+  amend-leaves h = rw (← amend-refusal l s long at, ne-eqb (amendRefusal l s) accepted h)
 
   module _ (h : amendRefusal l s ≡ accepted) where
-    passed : amendCheck s p n ≡ accepted
-    passed = sym (amend-refusal l s long at) ∙ h
-
     -- what is found is the spell of an idle amend
     idle-is : idle l s ≡ sameOf old s
     idle-is = rw at (idle-index s l (amends l s h .there))
 
     pub amend-idles : idle l s ≡ true → planAmend s p old n d ≡ noPlan d accepted
-    amend-idles i = rw (eq-eqb (amendCheck s p n) accepted passed, sym idle-is ∙ i)
+    amend-idles i = rw (← amend-refusal l s long at, eq-eqb (amendRefusal l s) accepted h, ← idle-is, i)
 
     pub amend-makes : idle l s ≡ false → Makes (planAmend s p old n d) l (replace s l) (replacing (s .number) l) d
     amend-makes i =
         let there = place-in l (s .number) long at (amends l s h .there) in
         let room : length (without p l) < 1024 = omega (arith, length-append (take p l) (drop (suc p) l), length-take p l, length-drop (suc p) l) in
-        rw (eq-eqb (amendCheck s p n) accepted passed, sym idle-is ∙ i)
+        rw (← amend-refusal l s long at, eq-eqb (amendRefusal l s) accepted h, ← idle-is, i)
         (record { done = refl; list = put-in s (without p l) room ∙ ap (insert s) (removed-is (s .number) l at); notes = refl; entry = rw at; depth = refl })
 
 -- ---- Strike of the number k

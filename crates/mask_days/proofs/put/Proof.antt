@@ -9,11 +9,8 @@ Inv-loop base mask held left₀ i₀ n₀ days left i n = Ticking base mask held
 abbrev μ-loop : MeasureT-loop
 μ-loop base mask held left₀ i₀ n₀ days left i n = 64 - i
 
-some : (c : In-loop Inv-loop μ-loop) → 0 < c .before .loop .left
-some c = let ne = c .loop-test .taken in omega (arith, ne)
-
 known : (c : In-loop Inv-loop μ-loop) → Turn (c .before .before .args .base) (c .before .loop .i) (c .before .loop .n) (trailingZeros 64 (c .before .loop .left))
-known c = turn (c .before .loop .inv) (some c)
+known c = turn (c .before .loop .inv) (c .loop-test .taken)
 
 pub put-spec : {M : Type 1} → statement M
 put-spec = close (spec
@@ -27,5 +24,5 @@ put-spec = close (spec
     (λ c. record { fits = omega (arith, known c) }) (λ c. omega (arith, known c))
     -- i += 1; n += 1
     (λ c. record { fits = omega (arith, known c) }) (λ c. record { fits = omega (arith, known c) }) (λ c. omega (arith, known c))
-    (λ c. goes-on (c .before .loop .inv) (some c)) (λ c. c .before .loop .inv .sized ∙ sym (c .before .loop .inv .room .places))
-    (λ c. ends (c .before .loop .inv) (c .loop-test .left)))
+    (λ c. search goes-on) (λ c. c .before .loop .inv .sized ∙ sym (c .before .loop .inv .room .places))
+    (λ c. search ends))

@@ -1,28 +1,24 @@
 -- `mask_days::ticked` meets its contract. Assumes nothing.
-use Rattle.basis.proofs.Prelude.{_≡_, sym, _∙_, true, false, arith, needs, not-true, not-false}
-use lib.Count.{ones-le}
+use Rattle.basis.proofs.Prelude.{_≡_, _<_, sym, _∙_, ℕ, List, Bool, true, false, not, arith, needs, not-true, not-false}
+use Prim.Native.Nat.{_^_}
+use lib.Count.{ones, ones-le}
+use Rattle.buffer.specs.Buffer.{over}
 use Rattle.calendar.specs.Calendar.{daysOk}
-use Rattle.masks.{specs.Masks.ticks, proofs.Claims.as-many}
-use Rattle.mask_days.proofs.ticked.{Statement.statement, Tie.{Else1, Need-returns, Need-returns-2, close, spec}}
+use Rattle.masks.{specs.{declared.Ticks.the-variants.{All, Off}, Masks.ticks, Answers.{Answer, Room}}, proofs.Claims.as-many}
+use Rattle.mask_days.proofs.ticked.{Statement.statement, Tie.{close, spec}}
 
-on : (c : Else1) → daysOk (ticks (c .before .before .args .base) (c .before .before .args .mask)) ≡ true
-on c = sym (c .before .on-calendar .ensures) ∙ not-false _ (c .if1 .left)
+module _ (base mask : ℕ) {r : Bool} (on : r ≡ daysOk (ticks base mask)) where
+  off : (held : List ℕ) → not r ≡ true → Answer base mask Off held held
+  off held h = let e = sym on ∙ not-true _ h in record { says = rw e; holds = rw e }
 
-returns : Need-returns
-returns c =
-    let off : daysOk (ticks (c .before .before .args .base) (c .before .before .args .mask)) ≡ false = sym (c .before .on-calendar .ensures) ∙ not-true _ (c .if1 .taken) in
-    record { says = rw off; holds = rw off }
+  is-on : not r ≡ false → daysOk (ticks base mask) ≡ true
+  is-on h = sym on ∙ not-false _ h
 
-returns-2 : Need-returns-2
-returns-2 c =
-    let a = c .before .before .before .before in
-    record {
-      says = rw (on (c .before .before), as-many (a .args .base) (a .args .mask) (a .fits .mask .fits));
-      holds = rw (on (c .before .before)) (c .put .ensures);
-    }
+  all : (held days : List ℕ) → not r ≡ false → mask < 2 ^ 64 → days ≡ over (ticks base mask) held → Answer base mask (All (ones mask)) held days
+  all held days h fits put = record { says = rw (is-on h, as-many base mask fits); holds = rw (is-on h) put }
 
 pub ticked-spec : {M : Type 1} → statement M
 ticked-spec = close (spec
-    (λ c κs. search needs) returns (λ c κs. record { on = on (c .before); places = search needs })
+    (λ c κs. search needs) (λ c. search off) (λ c κs. search (is-on, needs))
     -- u64::count_ones(mask) as usize
-    (λ c. let a = c .before .before .before .before in record { fits = omega (arith, ones-le 64 (a .args .mask) (a .fits .mask .fits)) }) returns-2)
+    (λ c. let a = c .before .before .before .before in record { fits = omega (arith, ones-le 64 (a .args .mask) (a .fits .mask .fits)) }) (λ c. search all))
