@@ -1,5 +1,5 @@
 -- Document 01's register A, M1 and M2 run through the account: what each call answers, computed. Assumes nothing.
-use Rattle.basis.proofs.Prelude.{_≡_, refl, suc, zero, ℕ, List, [], _++_, _∷_, map, false, true, length, replicate, take}
+use Rattle.basis.proofs.Prelude.{_≡_, refl, ℕ, List, [], _++_, _∷_, map, false, true, length, replicate, take}
 use Rattle.model.proofs.Names.{State, Question, over, binary32, isNan, toBits, ofBits, Urgency, Grade, Reading, Spell, listedBefore, earlierOf, stands, sameOf, below, keep, count, head, parent, child, leftSibling, lastChild, fitsAt, start, onPath, formula, Call, Enter, Amend, Strike, TakeBack, Publish, Ask, sortedBy, lastOf, remove, idle, enterRefusal, amendRefusal, strikeRefusal, remember, publishedOf, daysOk, isSet, ticksFrom, onAny, rising, filter, comparisonsOf, settle, fresh, takeBack, cover, ask, effectOf, run, Request, Answer}
 use Rattle.model.specs.{declared.Question.the-variants.{Day, Span, Cover, Days, Mask}, Edits.insertBy}
 use Rattle.stabbing.specs.Tree.{next}
@@ -57,12 +57,6 @@ wanted = lists 0 (11 ∷ 12 ∷ []) ∷ lists 2 (11 ∷ 14 ∷ 13 ∷ []) ∷ li
 abbrev plainly : ℕ → ℕ → ℕ → Request
 plainly n f l = call (Enter (spell n 1 f l (Grade 1)))
 
-abbrev M1 : List Request
-M1 = plainly 1 1 10 ∷ plainly 2 3 4 ∷ call (Publish 1) ∷ call (Ask (Span 6 7)) ∷ []
-
-abbrev M2 : List Request
-M2 = plainly 1 1 20 ∷ plainly 2 2 5 ∷ plainly 3 6 8 ∷ plainly 4 10 12 ∷ call (Publish 1) ∷ asked (Ask Days) (3 ∷ 11 ∷ []) ∷ []
-
 -- The account with all that its calls compute by, opened together
 account : State → List Request → List Answer
 unfolding run settle effectOf takeBack ask cover enterRefusal amendRefusal strikeRefusal insertBy remove remember earlierOf stands idle sameOf
@@ -75,7 +69,9 @@ account m qs = run m qs
 abbrev answers : List Request → List (List ℕ)
 answers qs = map told (run fresh qs)
 
-pub document-cases : map answers ((entering ++ asking) ∷ M1 ∷ M2 ∷ [])
+pub document-cases : map answers ((entering ++ asking)
+    ∷ (plainly 1 1 10 ∷ plainly 2 3 4 ∷ call (Publish 1) ∷ call (Ask (Span 6 7)) ∷ [])
+    ∷ (plainly 1 1 20 ∷ plainly 2 2 5 ∷ plainly 3 6 8 ∷ plainly 4 10 12 ∷ call (Publish 1) ∷ asked (Ask Days) (3 ∷ 11 ∷ []) ∷ []) ∷ [])
     ≡ (replicate 7 (plain 0) ++ wanted)
     ∷ (replicate 3 (plain 0) ++ (lists 0 (1 ∷ []) ∷ []))
     ∷ (replicate 5 (plain 0) ++ (lists 0 (1 ∷ 2 ∷ 4 ∷ []) ∷ []))
@@ -84,14 +80,11 @@ document-cases = unfold account in refl
 
 -- ---- Document 02, W3: a reading of eight days and a grade of seven, published by rule 1, by rule 2, by a rule that there is not
 
-abbrev byRules : List Request
-byRules = entered (spell 1 7 1 8 nought ∷ spell 2 7 1 7 (Grade 1) ∷ [])
+-- under rule 2 both end on day 7 and change places; what rule 3 asks for is refused with 14 and leaves that list
+pub rules-in-turn : answers (entered (spell 1 7 1 8 nought ∷ spell 2 7 1 7 (Grade 1) ∷ [])
     ++ (call (Publish 1) ∷ asks (Day 7 ∷ Day 8 ∷ []))
     ++ (call (Publish 2) ∷ asks (Day 7 ∷ Day 8 ∷ []))
-    ++ (call (Publish 3) ∷ asks (Day 7 ∷ []))
-
--- under rule 2 both end on day 7 and change places; what rule 3 asks for is refused with 14 and leaves that list
-pub rules-in-turn : answers byRules
+    ++ (call (Publish 3) ∷ asks (Day 7 ∷ [])))
     ≡ replicate 3 (plain 0) ++ (lists 1 (2 ∷ 1 ∷ []) ∷ lists 1 (1 ∷ [])
     ∷ plain 0 ∷ lists 1 (1 ∷ 2 ∷ []) ∷ plain 0
     ∷ plain 14 ∷ lists 1 (1 ∷ 2 ∷ []) ∷ [])
@@ -99,11 +92,9 @@ rules-in-turn = unfold account in refl
 
 -- ---- Document 02, W6: twins go by candidate and then by number, and under rule 2 spells are twins by their published days
 
-abbrev twins : List Request
-twins = entered (spell 1 9 1 8 nought ∷ spell 2 8 1 9 nought ∷ spell 3 7 1 7 (Grade 1) ∷ spell 4 8 1 7 (Grade 1) ∷ [])
-    ++ (call (Publish 1) ∷ call (Ask (Day 7)) ∷ call (Publish 2) ∷ call (Ask (Day 7)) ∷ [])
-
-pub twins-in-turn : answers twins ≡ replicate 5 (plain 0) ++ (lists 3 (3 ∷ 4 ∷ 1 ∷ 2 ∷ []) ∷ plain 0 ∷ lists 3 (3 ∷ 2 ∷ 4 ∷ 1 ∷ []) ∷ [])
+pub twins-in-turn : answers (entered (spell 1 9 1 8 nought ∷ spell 2 8 1 9 nought ∷ spell 3 7 1 7 (Grade 1) ∷ spell 4 8 1 7 (Grade 1) ∷ [])
+    ++ (call (Publish 1) ∷ call (Ask (Day 7)) ∷ call (Publish 2) ∷ call (Ask (Day 7)) ∷ []))
+    ≡ replicate 5 (plain 0) ++ (lists 3 (3 ∷ 4 ∷ 1 ∷ 2 ∷ []) ∷ plain 0 ∷ lists 3 (3 ∷ 2 ∷ 4 ∷ 1 ∷ []) ∷ [])
 twins-in-turn = unfold account in refl
 
 -- ---- Refusals, each at the state that the calls before it left
@@ -111,17 +102,17 @@ twins-in-turn = unfold account in refl
 abbrev one : Spell
 one = spell 11 7 1 10 (Grade 2)
 
+abbrev refusalsOf : List Request → List ℕ
+refusalsOf qs = map (λ (a : Answer). a .refusal) (run fresh qs)
+
 -- lent these places for numbers
 abbrev lent : List ℕ → Call → Request
 lent ns c = record { call = c; days = []; numbers = ns; text = [] }
 
-abbrev refusing : List Request
-refusing = call TakeBack ∷ entered (one ∷ one ∷ spell 0 0 0 0 (Grade 0) ∷ [])
+pub refusals : refusalsOf (call TakeBack ∷ entered (one ∷ one ∷ spell 0 0 0 0 (Grade 0) ∷ [])
     ++ (call (Amend (spell 12 7 1 10 (Grade 2))) ∷ call (Amend (spell 11 7 1 4001 (Grade 2))) ∷ call (Strike 12) ∷ call (Ask (Cover 11))
     ∷ call (Publish 1) ∷ lent [] (Ask (Day 1)) ∷ lent (99 ∷ []) (Ask (Day 1)) ∷ asks (Day 0 ∷ Span 5 4 ∷ Span 5 0 ∷ []))
-    ++ (asked (Ask Days) (5 ∷ 5 ∷ []) ∷ asked (Ask Days) (5 ∷ 4 ∷ 4001 ∷ []) ∷ call (Strike 11) ∷ replicate 3 (call TakeBack))
-
-pub refusals : map (λ (a : Answer). a .refusal) (run fresh refusing)
+    ++ (asked (Ask Days) (5 ∷ 5 ∷ []) ∷ asked (Ask Days) (5 ∷ 4 ∷ 4001 ∷ []) ∷ call (Strike 11) ∷ replicate 3 (call TakeBack)))
     ≡ 9 ∷ 0 ∷ 6 ∷ 1 ∷ 7 ∷ 3 ∷ 7 ∷ 7 ∷ 0 ∷ 11 ∷ 0 ∷ 3 ∷ 4 ∷ 3 ∷ 10 ∷ 3 ∷ 0 ∷ 0 ∷ 0 ∷ 9 ∷ []
 refusals = unfold account in refl
 
@@ -135,11 +126,9 @@ nothing n = 0 ∷ plain n
 
 -- Days 4 and 11 of register A, as bits 0 and 7 of base 4. Days 0, 4,001 and 65,598 (bit 63 of base 65,535) are off the calendar. An empty
 -- mask of base 65,535 is accepted with no place lent, where a mask that lists somebody is refused with 11 and ticks none.
-abbrev reviewing : List Request
-reviewing = asks (Mask 4 129 ∷ Mask 0 1 ∷ Mask 3937 9223372036854775808 ∷ Mask 3938 9223372036854775808 ∷ Mask 65535 9223372036854775808 ∷ [])
-    ++ (lent [] (Ask (Mask 65535 0)) ∷ lent [] (Ask (Mask 4 129)) ∷ [])
-
-pub masks : map review (run fresh (entering ++ reviewing))
+pub masks : map review (run fresh (entering
+    ++ asks (Mask 4 129 ∷ Mask 0 1 ∷ Mask 3937 9223372036854775808 ∷ Mask 3938 9223372036854775808 ∷ Mask 65535 9223372036854775808 ∷ [])
+    ++ (lent [] (Ask (Mask 65535 0)) ∷ lent [] (Ask (Mask 4 129)) ∷ [])))
     ≡ replicate 7 (nothing 0)
     ++ ((2 ∷ lists 0 (11 ∷ 12 ∷ 15 ∷ [])) ∷ nothing 3 ∷ (1 ∷ plain 0) ∷ nothing 3 ∷ nothing 3 ∷ replicate 4 0 ∷ (0 ∷ 11 ∷ 0 ∷ 0 ∷ []) ∷ [])
 masks = unfold account in refl
@@ -151,13 +140,10 @@ abbrev found : Answer → List ℕ
 found a = take (a .count) (a .numbers)
 
 -- Three spells; 2 is struck; 3, on days 5 to 8, is amended to days 2 and 3, which is taken back. A day is asked before and after each publish.
-abbrev editing : List Request
-editing = plainly 1 1 10 ∷ plainly 2 3 4 ∷ plainly 3 5 8 ∷ call (Publish 1)
+pub edits : map found (run fresh (plainly 1 1 10 ∷ plainly 2 3 4 ∷ plainly 3 5 8 ∷ call (Publish 1)
     ∷ call (Strike 2) ∷ call (Ask (Day 3)) ∷ call (Publish 1) ∷ call (Ask (Day 3)) ∷ call (Ask (Day 6))
     ∷ call (Amend (spell 3 1 2 3 (Grade 1))) ∷ call (Ask (Day 6)) ∷ call (Publish 1) ∷ call (Ask (Day 6)) ∷ call (Ask (Day 3))
-    ∷ call TakeBack ∷ call (Ask (Day 3)) ∷ call (Publish 1) ∷ call (Ask (Day 3)) ∷ []
-
-pub edits : map found (run fresh editing)
+    ∷ call TakeBack ∷ call (Ask (Day 3)) ∷ call (Publish 1) ∷ call (Ask (Day 3)) ∷ []))
     ≡ replicate 5 [] ++ ((1 ∷ 2 ∷ []) ∷ [] ∷ (1 ∷ []) ∷ (1 ∷ 3 ∷ [])
     ∷ [] ∷ (1 ∷ 3 ∷ []) ∷ [] ∷ (1 ∷ []) ∷ (1 ∷ 3 ∷ [])
     ∷ [] ∷ (1 ∷ 3 ∷ []) ∷ [] ∷ (1 ∷ []) ∷ [])
@@ -169,28 +155,23 @@ edits = unfold account in refl
 abbrev measured : ℕ → Spell
 measured bits = spell 11 7 1 10 (Reading (ofBits binary32 bits))
 
--- amends of spell 11, two at a time: by a reading, and back to its grade
-unfoldable pub alternating : ℕ → List Request
-alternating zero = []
-alternating (suc n) = call (Amend (measured 0)) ∷ call (Amend one) ∷ alternating n
+abbrev twice : List Request → List Request
+twice qs = qs ++ qs
 
 -- An enter and 64 amends leave 64 lists of the past. 64 are taken back, the 65th refused, and what the enter put in still stands.
-abbrev longPast : List Request
-longPast = (call (Enter one) ∷ alternating 32) ++ (replicate 65 (call TakeBack) ++ (call (Strike 11) ∷ call (Strike 11) ∷ []))
-
-pub past-64 : map (λ (a : Answer). a .refusal) (run fresh longPast) ≡ replicate 129 0 ++ (9 ∷ 0 ∷ 7 ∷ [])
-past-64 = unfold account alternating in refl
+pub past-64 : refusalsOf ((call (Enter one) ∷ twice (twice (twice (twice (twice (call (Amend (measured 0)) ∷ call (Amend one) ∷ []))))))
+    ++ (replicate 65 (call TakeBack) ++ (call (Strike 11) ∷ call (Strike 11) ∷ [])))
+    ≡ replicate 129 0 ++ (9 ∷ 0 ∷ 7 ∷ [])
+past-64 = unfold account in refl
 
 -- ---- Saving a form twice
 
 -- An enter, and two amends, the second of the reading's lowest bit alone; then 64 idle ones. Minus zero and a NaN are refused. All three
 -- edits are taken back; after the first of them the former reading stands, by which an amend is idle.
-abbrev saving : List Request
-saving = call (Enter one) ∷ call (Amend (measured 0x3F80_0000)) ∷ replicate 65 (call (Amend (measured 0x3F80_0001)))
+pub saves : refusalsOf (call (Enter one) ∷ call (Amend (measured 0x3F80_0000)) ∷ replicate 65 (call (Amend (measured 0x3F80_0001)))
     ++ (call (Amend (measured 0x8000_0000)) ∷ call (Amend (measured 0x7FC0_0000)) ∷ call TakeBack
-    ∷ call (Amend (measured 0x3F80_0000)) ∷ replicate 3 (call TakeBack))
-
-pub saves : map (λ (a : Answer). a .refusal) (run fresh saving) ≡ replicate 67 0 ++ (5 ∷ 5 ∷ 0 ∷ 0 ∷ 0 ∷ 0 ∷ 9 ∷ [])
+    ∷ call (Amend (measured 0x3F80_0000)) ∷ replicate 3 (call TakeBack)))
+    ≡ replicate 67 0 ++ (5 ∷ 5 ∷ 0 ∷ 0 ∷ 0 ∷ 0 ∷ 9 ∷ [])
 saves = unfold account in refl
 
 -- What is idle: the spell that stands, and none that differs in one field.
