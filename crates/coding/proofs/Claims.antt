@@ -33,28 +33,24 @@ urgency-back : (u : Urgency) → Narrow u → urgencyOf (kindOf u) (valueOf u) �
 urgency-back (Grade g) h = ap Grade (mod-eq-of-lt (omega arith))
 urgency-back (Reading x) h = rw (mod-eq-of-lt (value-narrow (Reading x) h)) (ap Reading (ofBits-toBits binary32 x h))
 
--- the code of these words, whatever stands after them
-abbrev codeOf : Call → ℕ → ℕ → ℕ → List ℕ → Code
-codeOf c d n t rest = codeAt (wordsOf (opOf c) (fieldsOf c) d n t ++ rest) 0
-
 spell-back : (s : Spell) → Fits (spellFields s)
     → record { number = low16 (s .number); candidate = low16 (s .candidate); first = low16 (s .first); last = low16 (s .last); urgency = urgencyOf (kindOf (s .urgency)) (valueOf (s .urgency)) } ≡ s
 spell-back s f = rw (mod-eq-of-lt (f .number), mod-eq-of-lt (f .candidate), mod-eq-of-lt (f .first), mod-eq-of-lt (f .last), urgency-back (s .urgency) (f .value))
 
-call-back : (c : Call) (d n t : ℕ) (rest : List ℕ) → Fits (fieldsOf c) → (callOf (codeOf c d n t rest) ≡ Go c) × (opOf c ≤ 11)
+call-back : (c : Call) (d n t : ℕ) (rest : List ℕ) → Fits (fieldsOf c) 
+    → (callOf (codeAt (wordsOf (opOf c) (fieldsOf c) d n t ++ rest) 0) ≡ Go c) × (opOf c ≤ 11)
 unfolding codeAt callOf
 call-back (Enter s) d n t rest f = (ap (λ (x : Spell). Go (Enter x)) (spell-back s f), omega arith)
 call-back (Amend s) d n t rest f = (ap (λ (x : Spell). Go (Amend x)) (spell-back s f), omega arith)
-call-back (Strike k) d n t rest f = (ap (λ (x : ℕ). Go (Strike x)) (mod-eq-of-lt (f .number)), omega arith)
+call-back (Strike k) d n t rest f = (rw (mod-eq-of-lt (f .number)), omega arith)
 call-back TakeBack d n t rest f = (refl, omega arith)
-call-back (Publish rule) d n t rest f = (ap (λ (x : ℕ). Go (Publish x)) (mod-eq-of-lt (f .number)), omega arith)
+call-back (Publish rule) d n t rest f = (rw (mod-eq-of-lt (f .number)), omega arith)
 call-back Write d n t rest f = (refl, omega arith)
-call-back (Ask (Day e)) d n t rest f = (ap (λ (x : ℕ). Go (Ask (Day x))) (mod-eq-of-lt (f .first)), omega arith)
-call-back (Ask (Span a b)) d n t rest f =
-    (ap (λ (x : ℕ). Go (Ask (Span x (low16 b)))) (mod-eq-of-lt (f .first)) ∙ ap (λ (x : ℕ). Go (Ask (Span a x))) (mod-eq-of-lt (f .last)), omega arith)
-call-back (Ask (Cover k)) d n t rest f = (ap (λ (x : ℕ). Go (Ask (Cover x))) (mod-eq-of-lt (f .number)), omega arith)
+call-back (Ask (Day e)) d n t rest f = (rw (mod-eq-of-lt (f .first)), omega arith)
+call-back (Ask (Span a b)) d n t rest f = (rw (mod-eq-of-lt (f .first), mod-eq-of-lt (f .last)), omega arith)
+call-back (Ask (Cover k)) d n t rest f = (rw (mod-eq-of-lt (f .number)), omega arith)
 call-back (Ask Days) d n t rest f = (refl, omega arith)
-call-back (Ask (Mask b k)) d n t rest f = (ap (λ (x : ℕ). Go (Ask (Mask x k))) (mod-eq-of-lt (f .first)), omega arith)
+call-back (Ask (Mask b k)) d n t rest f = (rw (mod-eq-of-lt (f .first)), omega arith)
 
 -- and with room for its lists the call is made
 next-back : (q : Request) (rest : List ℕ) (d n t : ℕ) → Fits (fieldsOf (q .call))
@@ -107,14 +103,10 @@ unfolding written
 codes-long [] = refl
 codes-long (q ∷ qs) = omega (arith, codes-long qs)
 
-kind-few : (v : Value) → kindIn v ≤ 1
-kind-few (urgent (Grade g)) = omega arith
-kind-few (urgent (Reading x)) = omega arith
-kind-few (masked k) = omega arith
-
-value-few : (v : Value) → Wide v → valueIn v < 18446744073709551616
-value-few (urgent u) h = omega (arith, value-narrow u h)
-value-few (masked k) h = h
+value-few : (v : Value) → Wide v → (kindIn v ≤ 1) × (valueIn v < 18446744073709551616)
+value-few (urgent (Grade g)) h = omega arith
+value-few (urgent (Reading x)) h = let n = value-narrow (Reading x) h in omega arith
+value-few (masked k) h = omega arith
 
 words-narrow : (qs : List Request) → Every Codable qs → Every (λ (w : ℕ). w < 18446744073709551616) (codesOf qs)
 unfolding written Every
@@ -122,7 +114,6 @@ words-narrow [] f = tt
 words-narrow (q ∷ qs) f =
     let h = f .0 .call in
     let op = call-back (q .call) 0 0 0 [] h .1 in
-    let kind = kind-few (fieldsOf (q .call) .value) in
     let value = value-few (fieldsOf (q .call) .value) (h .value) in
     let later = words-narrow qs (f .1) in
     search arith depth 12

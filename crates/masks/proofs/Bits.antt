@@ -1,5 +1,5 @@
 -- The bits of a mask that are set: the next, the highest, how many, and which days they are. Assumes nothing.
-use Rattle.basis.proofs.Prelude.{_≡_, refl, sym, ap, _∙_, ℕ, zero, suc, _+_, _-_, _*_, _/_, _%_, _≤_, _<_, List, List·Memᴰ, List·Memᴰ·head, List·Memᴰ·tail, List·Memᴰ·not-nil, List·Memᴰ·cases-cons, [], _∷_, true, false, _≢_, inl, inr, getD, length, le-trans, add-one, decLe, arith, eq-eqb, ne-eqb, eqb-false, eqb-true, by-cases, by-eq, by-test}
+use Rattle.basis.proofs.Prelude.{_≡_, refl, sym, ap, _∙_, ℕ, zero, suc, _+_, _-_, _*_, _/_, _%_, _≤_, _<_, List, List·Memᴰ, List·Memᴰ·head, List·Memᴰ·tail, List·Memᴰ·not-nil, List·Memᴰ·cases-cons, [], _∷_, true, false, _≢_, inl, inr, getD, length, le-trans, add-one, decLe, arith, eq-eqb, eqb-false, eqb-true, by-cases, by-eq, by-test, untrue}
 use Prim.Native.Nat.{_^_}
 use native.Mathlib.Nat.{div-lt-iff-lt-mul}
 use lib.{Count.{ones, ones-step, trailingZeros}, Pow.{shr-shr, shr-lt, pow-pos, pow-mono}}
@@ -12,12 +12,6 @@ half m i = rw (← add-one i) (sym (shr-shr m i 1))
 half-lt : {m : ℕ} (n : ℕ) → m < 2 ^ suc n → m / 2 < 2 ^ n
 half-lt {m} n h = shr-lt n 1 (rw (add-one n) h)
 
-is-set : (m i : ℕ) → m / 2 ^ i % 2 ≡ 1 → isSet m i ≡ true
-is-set m i e = unfold isSet in eq-eqb _ 1 e
-
-not-set : (m i : ℕ) → m / 2 ^ i % 2 ≡ 0 → isSet m i ≡ false
-not-set m i e = unfold isSet in ne-eqb (m / 2 ^ i % 2) 1 (λ (o : m / 2 ^ i % 2 ≡ 1). omega arith)
-
 set-is : (m i : ℕ) → isSet m i ≡ true → m / 2 ^ i % 2 ≡ 1
 set-is m i e = unfold isSet in eqb-true (m / 2 ^ i % 2) 1 e
 
@@ -29,7 +23,7 @@ pub highest-set : (m t : ℕ) → 2 ^ t ≤ m → m < 2 ^ suc t → isSet m t �
 highest-set m t l h =
     let up : 1 + t ≡ suc t = omega arith in
     let small : m / 2 ^ t < 2 = shr-lt 1 t (rw up h) in
-    is-set m t (elim (decLe 1 (m / 2 ^ t)) [
+    unfold isSet in eq-eqb (m / 2 ^ t % 2) 1 (elim (decLe 1 (m / 2 ^ t)) [
       | yes g ↦ omega arith
       | no g ↦ let z : m < 1 * 2 ^ t = div-lt-iff-lt-mul (pow-pos t) .0 (omega arith) in absurd (omega arith)
     ])
@@ -55,7 +49,7 @@ module _ (base mask : ℕ) where
   pub none-from : (n i : ℕ) → mask / 2 ^ i ≡ 0 → ticksFrom base mask i n ≡ []
   unfolding ticksFrom
   none-from zero i e = refl
-  none-from (suc n) i e = rw (not-set mask i (omega arith)) (none-from n (suc i) (half mask i ∙ ap (λ (x : ℕ). x / 2) e))
+  none-from (suc n) i e = rw (untrue (isSet mask i) (λ s. omega (arith, set-is mask i s))) (none-from n (suc i) (half mask i ∙ ap (λ (x : ℕ). x / 2) e))
 
   -- they are as many as the bits at most
   pub few-from : (n i : ℕ) → length (ticksFrom base mask i n) ≤ n

@@ -36,13 +36,11 @@ digits-passed (suc k) n t = by-cases (λ (l : List ℕ). afterLine l ≡ afterLi
     (λ _. byte-passed (48 + n) t (λ e. omega arith))
     (λ _. digits-passed k (n / 10) ((48 + n % 10) ∷ t) ∙ byte-passed (48 + n % 10) t (λ e. omega arith))
 
-hex-byte : (d : ℕ) → hexDigit d ≡ 10 → ⊥
-hex-byte d = unfold hexDigit in by-cases (λ (b : ℕ). b ≡ 10 → ⊥) (ltb d 10) (λ _ e. omega arith) (λ _ e. omega arith)
-
 hex-passed : (k n : ℕ) (t : List ℕ) → afterLine (hexOf k n t) ≡ afterLine t
 unfolding hexOf
 hex-passed zero n t = refl
-hex-passed (suc k) n t = hex-passed k (n / 16) (hexDigit (n % 16) ∷ t) ∙ byte-passed (hexDigit (n % 16)) t (hex-byte (n % 16))
+hex-passed (suc k) n t = hex-passed k (n / 16) (hexDigit (n % 16) ∷ t) ∙ byte-passed (hexDigit (n % 16)) t (unfold hexDigit in
+    by-cases (λ (b : ℕ). b ≡ 10 → ⊥) (ltb (n % 16) 10) (λ _ e. omega arith) (λ _ e. omega arith))
 
 number-passed : (e n : ℕ) (s : List ℕ) {t : List ℕ} → readNumber e s ≡ found n t → afterLine s ≡ afterLine (e ∷ t)
 number-passed e n s {t} r = unfold decimalOf in ap afterLine (write-number e s n t r .1) ∙ digits-passed 4 n (e ∷ t)
