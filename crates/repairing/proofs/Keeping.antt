@@ -51,11 +51,11 @@ unfolding Each
 each-more [] s e p = (p, tt)
 each-more (x ∷ l) s e p = (e .0, each-more l s (e .1) p)
 
-pub kept-none : Kept []
-kept-none = unfold Each distinct in record { each = tt; unique = refl; few = omega arith }
-
 kept-more : (l : List Spell) (t : List ℕ) (s : Spell) (rest : List ℕ) → readLine t ≡ found s rest → Passes l s → Kept l → Kept (l ++ (s ∷ []))
-kept-more l t s rest e p k = let n = length-append l (s ∷ []) in let sound = write-line t s rest e (p .entered) .0 in search (each-more, distinct-more, arith)
+kept-more l t s rest e p k =
+    let n = length-append l (s ∷ []) in
+    let sound = write-line t s rest e (p .entered) .0 in
+    search (each-more, distinct-more, arith)
 
 kept-line : (l : List Spell) (t : List ℕ) (f : Found Spell) → readLine t ≡ f → Kept l → Kept (keeping l f)
 unfolding keeping
@@ -69,7 +69,7 @@ kept-after l [] k = k
 kept-after l (t ∷ lines) k = kept-after (keeping l (readLine t)) lines (kept-line l t (readLine t) refl k)
 
 pub kept-good : (t : List ℕ) → Kept (keptOf t)
-kept-good t = kept-after [] (linesOf t) kept-none
+kept-good t = unfold Each distinct in kept-after [] (linesOf t) (record { each = tt; unique = refl; few = omega arith })
 
 -- ---- A good text is kept whole
 
@@ -91,8 +91,10 @@ whole (x ∷ m) before e d h =
     let read = read-line x rest (e .0) in
     let some = there t x rest read in
     let later = whole m (before ++ (x ∷ [])) (e .1) (rw append-snoc d) (rw append-snoc h) in
-    (kept-first before t (found x rest) some read ∙ rw (keeps-it before x rest p, line-ends t x rest read) (later .0 ∙ append-snoc before x m),
-    λ n. ap (remarksFrom n) (verdicts-first before t (found x rest) some read) ∙ rw (verdict-none before x rest p, keeps-it before x rest p, line-ends t x rest read) (later .1 (suc n)))
+    let kept = keeps-it before x rest p in
+    let ends = line-ends t x rest read in
+    (kept-first before t (found x rest) some read ∙ rw (kept, ends) (later .0 ∙ append-snoc before x m),
+    λ n. rw (verdicts-first before t (found x rest) some read, verdict-none before x rest p, kept, ends) (later .1 (suc n)))
 
 pub good-kept : (l : List Spell) → Good l → (keptOf (textOnto l []) ≡ l) × (remarksOf (textOnto l []) ≡ [])
 good-kept l g = let w = whole l [] (g .each) (g .unique) (g .few) in (w .0, w .1 1)

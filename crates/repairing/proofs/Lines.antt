@@ -57,22 +57,18 @@ value-ends : (l : ℕ) (s : List ℕ) (u : Urgency) (rest : List ℕ) → readVa
 value-ends l s u rest e = unfold readValue in by-test (eqb l 71)
     (λ g.
     let st = step (readNumber 10 s) (λ g. found (Grade g)) u rest (rw g at e) in
-    let on = st .on in let same : st .after ≡ rest = cc in number-passed 10 (st .value) s (st .read) ∙ byte-ends (st .after) ∙ same)
+    cc (number-passed 10 (st .value) s (st .read), byte-ends (st .after)))
     (λ g.
     let st = step (readBits 10 s) (λ n. found (Reading (ofBits binary32 n))) u rest (rw g at e) in
-    let on = st .on in
-    let same : st .after ≡ rest = cc in
-    ap afterLine (write-bits 10 s (st .value) (st .after) (st .read) .1) ∙ hex-passed 8 (st .value) (10 ∷ st .after) ∙ byte-ends (st .after) ∙ same)
+    cc (write-bits 10 s (st .value) (st .after) (st .read) .1, hex-passed 8 (st .value) (10 ∷ st .after), byte-ends (st .after)))
 
 pub line-ends : (t : List ℕ) (s : Spell) (rest : List ℕ) → readLine t ≡ found s rest → afterLine t ≡ rest
-line-ends t s rest e = unfold readLine readUrgency in let s1 = step (readNumber 9 t) _ s rest e in
+line-ends t s rest e = unfold readLine readUrgency in
+    let s1 = step (readNumber 9 t) _ s rest e in
     let s2 = step (readNumber 9 (s1 .after)) _ s rest (s1 .on) in
     let s3 = step (readNumber 9 (s2 .after)) _ s rest (s2 .on) in
     let s4 = step (readNumber 9 (s3 .after)) _ s rest (s3 .on) in
     let s5 = step (readUrgency (s4 .after)) _ s rest (s4 .on) in
     let s6 = step (readLetter (s4 .after)) readValue (s5 .value) (s5 .after) (s5 .read) in
-    let on = s5 .on in
-    let same : s5 .after ≡ rest = cc in
-    field-passed (s1 .value) t (s1 .read) ∙ field-passed (s2 .value) (s1 .after) (s2 .read) ∙ field-passed (s3 .value) (s2 .after) (s3 .read)
-    ∙ field-passed (s4 .value) (s3 .after) (s4 .read) ∙ letter-passed (s6 .value) (s4 .after) (s6 .read)
-    ∙ value-ends (s6 .value) (s6 .after) (s5 .value) (s5 .after) (s6 .on) ∙ same
+    let fields = field-passed _ t (s1 .read) ∙ field-passed _ _ (s2 .read) ∙ field-passed _ _ (s3 .read) ∙ field-passed _ _ (s4 .read) in
+    cc (fields, letter-passed (s6 .value) (s4 .after) (s6 .read), value-ends (s6 .value) (s6 .after) (s5 .value) (s5 .after) (s6 .on))
