@@ -1,12 +1,11 @@
 -- The lists of the account stay in the order, their numbers unique, through every call. Assumes nothing.
-use Rattle.basis.proofs.Prelude.{by-cases, _≡_, refl, _≤_, suc, zero, ℕ, List, List·Memᴰ, List·Memᴰ·cases-cons, List·Memᴰ·head, List·Memᴰ·not-nil, List·Memᴰ·tail, [], _∷_, inl, inr, length, length-take, take, arith}
+use Rattle.basis.proofs.Prelude.{by-cases, _≡_, refl, _≤_, suc, zero, ℕ, List, List·Memᴰ, List·Memᴰ·cases-cons, List·Memᴰ·head, List·Memᴰ·not-nil, List·Memᴰ·tail, [], _∷_, inl, inr, length, length-take, drop, take, take-append-drop, arith}
+use mathlib.Core.List.{Memᴰ·append-left}
 use Rattle.model.proofs.{Names.{accepted, Spell, Sound, Good, Orderly, text-order, answer-order, each-map, Register, readText, good, bad, text-again, Call, Enter, Amend, Strike, TakeBack, Publish, Write, Ask, insert, remove, replace, enterRefusal, amendRefusal, strikeRefusal, remember, After, Effect, begun, edit, takeBack, effectOf, step, Begun, afresh, after, Kept, Brings, isRule, State, Request}, Edits.{orderly-none, orderly-insert, orderly-remove, orderly-replace}, Publishing.{Cuts, published-orderly}, Checks.{enters, amends, strike-accepted}, Effects.{Comes, settles, become-does, amend-does, asks-does}, Rules.reading-begins}
 use Rattle.model.specs.Reached.{reading}
 
 in-take : {A : Type 0} {x : A} (n : ℕ) (l : List A) → List·Memᴰ x (take n l) → List·Memᴰ x l
-in-take zero l i = absurd (List·Memᴰ·not-nil i)
-in-take (suc n) [] i = i
-in-take (suc n) (y ∷ l) i = elim (List·Memᴰ·cases-cons i) [ inl e ↦ List·Memᴰ·head e | inr j ↦ List·Memᴰ·tail (in-take n l j) ]
+in-take n l i = rw (take-append-drop n l) at (Memᴰ·append-left (drop n l) i)
 
 module _ (P : Spell → Type 0) where
   -- ---- The beginning
@@ -33,22 +32,18 @@ module _ (P : Spell → Type 0) where
     abbrev Keeps : Effect → Type 0
     Keeps = Comes (λ (x : After). Kept P (x .state)) m q
 
+    remembered : (x : List Spell) → List·Memᴰ x (remember (m .standing) (m .past)) → Orderly P x
+    remembered x i = unfold remember in elim (List·Memᴰ·cases-cons (in-take 64 (m .standing ∷ m .past) i)) [ inl s ↦ rw s (k .standing) | inr j ↦ k .past x j ]
+
     edit-keeps : (n : ℕ) (l : List Spell) → (n ≡ accepted → Orderly P l) → Keeps (edit n l m)
-    edit-keeps n l h = unfold remember in
-        become-does Keeps m n l (remember (m .standing) (m .past))
-        (λ e. record {
-          standing = h e;
-          past = λ x i. elim (List·Memᴰ·cases-cons (in-take 64 (m .standing ∷ m .past) i)) [ inl s ↦ rw s (k .standing) | inr j ↦ k .past x j ];
-          depth = omega (arith, length-take 64 (m .standing ∷ m .past));
-          published = k .published;
-        })
-        (λ _. k)
+    edit-keeps n l h =
+        let few : length (remember (m .standing) (m .past)) ≤ 64 = unfold remember in omega (arith, length-take 64 (m .standing ∷ m .past)) in
+        become-does Keeps m n l (remember (m .standing) (m .past)) (λ e. search remembered) (λ _. k)
 
     back-keeps : (past : List (List Spell)) → ((l : List Spell) → List·Memᴰ l past → Orderly P l) → length past ≤ 64 → Keeps (takeBack past m)
     unfolding takeBack
     back-keeps [] h few = k
-    back-keeps (l ∷ past) h few =
-        record { standing = h l (List·Memᴰ·head refl); past = λ x i. h x (List·Memᴰ·tail i); depth = omega arith; published = k .published }
+    back-keeps (l ∷ past) h few = search (List·Memᴰ·head, List·Memᴰ·tail, arith)
 
     call-keeps : (c : Call) → Brings P c → Keeps (effectOf c (q .days) m)
     unfolding effectOf
