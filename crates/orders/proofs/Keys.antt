@@ -31,22 +31,28 @@ numbers = record {
 
 -- ---- Any keys
 
-module _ {A : Type 0} (k : A → ℕ) (apart : (a b : A) → k a ≡ k b → a ≡ b) where
-  pub by-keys : (ks : List (A → ℕ)) → Total (lexical (ks ++ (k ∷ [])))
+module _ {A : Type 0} where
+  pub lexical-asym : (ks : List (A → ℕ)) (a b : A) → lexical ks a b ≡ true → lexical ks b a ≡ false
   unfolding lexical
-  by-keys [] = record {
-    asym = λ a b h. key-is-not (k b) (k a) false (key-says (k a) (k b) false h .0) (λ _. refl);
-    trans = λ a b c h i. key-is-not (k c) (k a) false (omega (arith, key-denies (k b) (k a) false h .0, key-denies (k c) (k b) false i .0)) (λ _. refl);
-    one = λ a b h i. apart a b (omega (arith, key-denies (k a) (k b) false h .0, key-denies (k b) (k a) false i .0));
-  }
-  by-keys (f ∷ ks) = let o = by-keys ks in record {
-    asym = λ a b h. let s = key-says (f a) (f b) _ h in key-is-not (f b) (f a) _ (s .0) (λ e. o .asym a b (s .1 (sym e)));
-    trans = λ a b c h i.
-        let s = key-denies (f b) (f a) _ h in
-        let z = key-denies (f c) (f b) _ i in
-        key-is-not (f c) (f a) _ (omega arith) (λ e. o .trans a b c (s .1 (omega arith)) (z .1 (omega arith)));
-    one = λ a b h i.
+  lexical-asym [] a b h = refl
+  lexical-asym (f ∷ ks) a b h = let s = key-says (f a) (f b) _ h in key-is-not (f b) (f a) _ (s .0) (λ e. lexical-asym ks a b (s .1 (sym e)))
+
+  pub lexical-over : (ks : List (A → ℕ)) (a b c : A) → lexical ks b a ≡ false → lexical ks c b ≡ false → lexical ks c a ≡ false
+  unfolding lexical
+  lexical-over [] a b c h i = refl
+  lexical-over (f ∷ ks) a b c h i =
+      let s = key-denies (f b) (f a) _ h in
+      let z = key-denies (f c) (f b) _ i in
+      key-is-not (f c) (f a) _ (omega arith) (λ e. lexical-over ks a b c (s .1 (omega arith)) (z .1 (omega arith)))
+
+  module _ (k : A → ℕ) (apart : (a b : A) → k a ≡ k b → a ≡ b) where
+    lexical-one : (ks : List (A → ℕ)) (a b : A) → lexical (ks ++ (k ∷ [])) a b ≡ false → lexical (ks ++ (k ∷ [])) b a ≡ false → a ≡ b
+    unfolding lexical
+    lexical-one [] a b h i = apart a b (omega (arith, key-denies (k a) (k b) false h .0, key-denies (k b) (k a) false i .0))
+    lexical-one (f ∷ ks) a b h i =
         let s = key-denies (f a) (f b) _ h in
         let z = key-denies (f b) (f a) _ i in
-        o .one a b (s .1 (omega arith)) (z .1 (omega arith));
-  }
+        lexical-one ks a b (s .1 (omega arith)) (z .1 (omega arith))
+
+    pub by-keys : (ks : List (A → ℕ)) → Total (lexical (ks ++ (k ∷ [])))
+    by-keys ks = record { asym = lexical-asym (ks ++ (k ∷ [])); trans = lexical-over (ks ++ (k ∷ [])); one = lexical-one ks }

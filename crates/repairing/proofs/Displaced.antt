@@ -1,20 +1,14 @@
 -- How many kept lines now stand after a line that followed them: by the least of those that followed, and when it is none. Assumes nothing.
 use Rattle.basis.proofs.Prelude.{_∙_, _≡_, ap, refl, sym, _+_, ℕ, List, [], _∷_, Bool, _||_, cond, false, true, eqb, arith, eqb-false, by-cases, by-test, clash}
 use mathlib.Core.Bool.{or-false}
-use Rattle.orders.proofs.Keys.{key-is, key-says, key-denies}
-use Rattle.repairing.proofs.Names.{Spell, lexical, earlierOf, ordered, orderedBy, stands, distinct, Each, alone, neither, text-order, asym, ordered-tail, ordered-first, ordered-cons, someBefore, displacedIn}
+use Rattle.orders.proofs.Keys.{lexical-over}
+use Rattle.spell.specs.Order.{textKeys}
+use Rattle.repairing.proofs.Names.{Spell, earlierOf, ordered, orderedBy, stands, distinct, Each, alone, neither, text-order, asym, ordered-tail, ordered-first, ordered-cons, someBefore, displacedIn}
 
 -- ---- The least of the spells that followed is before s where any of them is
 
-lexical-weak : (ks : List (Spell → ℕ)) (a b c : Spell) → lexical ks a b ≡ false → lexical ks a c ≡ true → lexical ks b c ≡ true
-unfolding lexical
-lexical-weak [] a b c h k = k
-lexical-weak (f ∷ ks) a b c h k = let d = key-denies (f a) (f b) (lexical ks a b) h in
-    let s = key-says (f a) (f c) (lexical ks a c) k in
-    key-is (f b) (f c) (lexical ks b c) (omega arith) (λ e. lexical-weak ks a b c (d .1 (omega arith)) (s .1 (omega arith)))
-
 weak : (a b c : Spell) → earlierOf a b ≡ false → earlierOf a c ≡ true → earlierOf b c ≡ true
-weak = unfold earlierOf in lexical-weak ((λ s. s .first) ∷ (λ s. s .last) ∷ (λ s. s .number) ∷ [])
+weak a b c h k = unfold earlierOf in by-test (earlierOf b c) (λ e. e) (λ e. absurd (clash k (lexical-over textKeys c b a e h)))
 
 -- the earlier one of two
 abbrev pub lesser : Spell → Spell → Spell

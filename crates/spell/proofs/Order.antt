@@ -1,23 +1,16 @@
 -- An order by keys that end in the spell number is a strict total order on spells of different numbers; and what a list that is kept in it
 -- says of its spells. Assumes nothing.
-use Rattle.basis.proofs.Prelude.{_≡_, refl, sym, _<_, _≤_, ℕ, List, List·Memᴰ, List·Memᴰ·cases-cons, List·Memᴰ·not-nil, [], _++_, _∷_, Bool, false, true, _⊎_, inl, inr, arith, eq-eqb, both, by-eq, clash, untrue}
-use Rattle.orders.proofs.Keys.{key-is, key-says, key-denies}
+use Rattle.basis.proofs.Prelude.{_≡_, refl, sym, _<_, _≤_, ℕ, List, List·Memᴰ, List·Memᴰ·cases-cons, List·Memᴰ·not-nil, [], _++_, _∷_, Bool, false, true, _⊎_, inl, inr, arith, eq-eqb, both, by-eq, by-test, clash, untrue}
+use Rattle.orders.proofs.Keys.{key-is, key-says, key-denies, lexical-asym, lexical-over}
 use Rattle.spell.specs.{declared.Spell.Spell, Order.{lexical, earlierOf, listedBefore, orderedBy}, Listing.Each}
 
 -- ---- Orders by keys
 
 lexical-irrefl : (ks : List (Spell → ℕ)) (a : Spell) → lexical ks a a ≡ false
-unfolding lexical
-lexical-irrefl [] a = refl
-lexical-irrefl (k ∷ ks) a = rw (eq-eqb (k a) (k a) refl) (lexical-irrefl ks a)
+lexical-irrefl ks a = untrue _ (λ e. clash e (lexical-asym ks a a e))
 
 lexical-trans : (ks : List (Spell → ℕ)) (a b c : Spell) → lexical ks a b ≡ true → lexical ks b c ≡ true → lexical ks a c ≡ true
-unfolding lexical
-lexical-trans [] a b c p q = p
-lexical-trans (k ∷ ks) a b c p q =
-    let h = key-says (k a) (k b) (lexical ks a b) p in
-    let i = key-says (k b) (k c) (lexical ks b c) q in
-    key-is (k a) (k c) (lexical ks a c) (omega arith) (λ e. lexical-trans ks a b c (h .1 (omega arith)) (i .1 (omega arith)))
+lexical-trans ks a b c p q = by-test (lexical ks a c) (λ e. e) (λ e. absurd (clash q (lexical-over ks c a b e (lexical-asym ks a b p))))
 
 lexical-total : (ks : List (Spell → ℕ)) (a b : Spell) → (a .number ≡ b .number → ⊥)
     → lexical (ks ++ (λ s. s .number) ∷ []) a b ≡ false → lexical (ks ++ (λ s. s .number) ∷ []) b a ≡ true
