@@ -22,7 +22,9 @@ entry-reads e r = unfold entryOf in
 
 pub entry-back : (e : Undo) → spellOf (spellWords (e .spell)) ≡ e .spell → entryOf (entryWords e) ≡ e
 unfolding entryOf
-entry-back e h = rw (le-leb 9 (length (entryWords e)) (omega (arith, entry-long e))) (unfold entryWords in rw h (by-test (e .stood) (λ s. rw s) (λ s. rw s)))
+entry-back e h =
+    rw (le-leb 9 (length (entryWords e)) (omega (arith, entry-long e)))
+    (unfold entryWords in rw h (by-test (e .stood) (λ s. rw s) (λ s. rw s)))
 
 -- what the checker knows of every entry that a program holds: its spell's urgency has its type's width, so that the entry reads back
 pub entry-held : (e : Undo) (vs : List Val) → Is entry-row e vs → entryOf (entryWords e) ≡ e

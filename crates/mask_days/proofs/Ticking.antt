@@ -76,8 +76,9 @@ module _ {base mask : ℕ} {held days : List ℕ} {left i n : ℕ} (t : Ticking 
         let up : suc (i + z) ≡ i + z + 1 = omega arith in
         let fewer : 64 - i - suc z ≡ 64 - (i + z + 1) = omega arith in
         let sized = length-set days n (base + (i + z)) ∙ t .sized in
-        let shifted = sym (shr-shr mask (i + z) 1) ∙ ap (λ (x : ℕ). x / 2) (sym (shr-shr mask i z) ∙ ap (λ (x : ℕ). x / 2 ^ z) (t .shifted)) in
+        let shifted = sym (shr-shr mask (i + z) 1) ∙ ap (λ x. x / 2) (sym (shr-shr mask i z) ∙ ap (λ x. x / 2 ^ z) (t .shifted)) in
         let ahead = rw (up, fewer) at (coming-on _ n _ _ comes) in
+        let day = sym (coming-is _ n _ _ comes) in
         let so-far : set days n (base + (i + z)) ≡ take (n + 1) (ticks base mask) ++ drop (n + 1) held =
-        rw (t .so-far) (buffer.filled held (ticks base mask) n 0 (base + (i + z)) (sym (coming-is _ n _ _ comes)) (omega (arith, t .room .places)) inside) in
+        rw (t .so-far) (buffer.filled held (ticks base mask) n 0 (base + (i + z)) day (omega (arith, t .room .places)) inside) in
         search arith

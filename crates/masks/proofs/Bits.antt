@@ -49,13 +49,14 @@ module _ (base mask : ℕ) where
   pub none-from : (n i : ℕ) → mask / 2 ^ i ≡ 0 → ticksFrom base mask i n ≡ []
   unfolding ticksFrom
   none-from zero i e = refl
-  none-from (suc n) i e = rw (untrue (isSet mask i) (λ s. omega (arith, set-is mask i s))) (none-from n (suc i) (half mask i ∙ ap (λ (x : ℕ). x / 2) e))
+  none-from (suc n) i e =
+      rw (untrue (isSet mask i) (λ s. omega (arith, set-is mask i s))) (none-from n (suc i) (half mask i ∙ ap (λ x. x / 2) e))
 
   -- they are as many as the bits at most
   pub few-from : (n i : ℕ) → length (ticksFrom base mask i n) ≤ n
   unfolding ticksFrom
   few-from zero i = omega arith
-  few-from (suc n) i = let h = few-from n (suc i) in by-cases (λ (r : List ℕ). length r ≤ suc n) (isSet mask i) (λ _. omega arith) (λ _. omega arith)
+  few-from (suc n) i = let h = few-from n (suc i) in by-test (isSet mask i) (λ e. rw e (omega arith)) (λ e. rw e (omega arith))
 
   -- and as many as what is left has ones
   pub count-from : (n i : ℕ) → mask / 2 ^ i < 2 ^ n → length (ticksFrom base mask i n) ≡ ones (mask / 2 ^ i)

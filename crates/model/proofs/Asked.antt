@@ -19,21 +19,21 @@ module _ (m : State) (q : Request) where
   Accepted P e = settle e m q .answer .refusal ≡ accepted → P (settle e m q .answer)
 
   lists : (t : Spell → Bool) (c n : ℕ) → Accepted (Lists t c n) (gives (listed t (m .published)) c n)
-  lists t c n = unfold settle in
-      by-cases (λ (x : After). x .answer .refusal ≡ accepted → Lists t c n (x .answer)) (leb (length (listed t (m .published))) (length (q .numbers)))
-      (λ _ _. record { count = refl; numbers = refl; comparisons = refl; ticked = refl; text = refl }) (λ _ r. absurd (omega arith))
+  lists t c n = unfold settle in by-test (leb (length (listed t (m .published))) (length (q .numbers)))
+      (λ e. rw e (λ _. record { count = refl; numbers = refl; comparisons = refl; ticked = refl; text = refl }))
+      (λ e. rw e (λ r. absurd (omega arith)))
 
   -- AN ACCEPTED DAY lists the spells with first ≤ d ≤ last, its looks by the formula
   pub day-lists : (d : ℕ) → stepOf (Ask (Day d)) m q .answer .refusal ≡ accepted
       → Lists (onDay d) (comparisonsOf d d (m .published)) 0 (stepOf (Ask (Day d)) m q .answer)
   day-lists d = unfold effectOf settle in
-      day-does (Accepted (Lists (onDay d) (comparisonsOf d d (m .published)) 0)) (λ n bad r. absurd (bad r)) (m .published) d (q .days) (lists _ _ 0)
+      day-does (Accepted (Lists (onDay d) (comparisonsOf d d (m .published)) 0)) (λ n bad r. absurd (bad r)) _ d _ (lists _ _ 0)
 
   -- AN ACCEPTED SPAN lists the spells with first ≤ b and last ≥ a, its looks by the formula
   pub span-lists : (a b : ℕ) → stepOf (Ask (Span a b)) m q .answer .refusal ≡ accepted
       → Lists (onSpan a b) (comparisonsOf b a (m .published)) 0 (stepOf (Ask (Span a b)) m q .answer)
   span-lists a b = unfold effectOf settle in
-      span-does (Accepted (Lists (onSpan a b) (comparisonsOf b a (m .published)) 0)) (λ n bad r. absurd (bad r)) (m .published) a b (q .days) (lists _ _ 0)
+      span-does (Accepted (Lists (onSpan a b) (comparisonsOf b a (m .published)) 0)) (λ n bad r. absurd (bad r)) _ a b _ (lists _ _ 0)
 
   -- the cover of a published spell x with the number k
   pub record Covers (k : ℕ) (a : Answer) : Type 0 where
@@ -49,7 +49,7 @@ module _ (m : State) (q : Request) where
       (λ x i e r. record { of = x; published = i; number = e; lists = lists (covers x) _ 0 r })
 
   several-lists : (ds : List ℕ) (n : ℕ) → Accepted (Lists (onAny ds) 0 n) (several ds n (m .published))
-  several-lists ds n = unfold settle in several-does (Accepted (Lists (onAny ds) 0 n)) (λ k bad r. absurd (bad r)) (m .published) ds n (lists _ 0 n)
+  several-lists ds n = unfold settle in several-does (Accepted (Lists (onAny ds) 0 n)) (λ k bad r. absurd (bad r)) _ ds n (lists _ 0 n)
 
   -- ACCEPTED DAYS list the spells that contain at least one of them, and report no looks
   pub days-lists : stepOf (Ask Days) m q .answer .refusal ≡ accepted → Lists (onAny (q .days)) 0 0 (stepOf (Ask Days) m q .answer)
@@ -86,7 +86,8 @@ pub record Answered (m : State) (q : Request) (w : Question) (a : Answer) : Type
 
 reaching : (h l : ℕ) (x : Spell) → (reaches h l x ≡ true) ↔ ((x .first ≤ h) × (l ≤ x .last))
 reaching h l x =
-    (λ e. let p = both _ (leb l (x .last)) e in (leb-true (x .first) h (p .0), leb-true l (x .last) (p .1)), λ f. rw (le-leb (x .first) h (f .0), le-leb l (x .last) (f .1)))
+    (λ e. let p = both _ (leb l (x .last)) e in (leb-true (x .first) h (p .0), leb-true l (x .last) (p .1)),
+    λ f. rw (le-leb (x .first) h (f .0), le-leb l (x .last) (f .1)))
 
 on-any : (ds : List ℕ) (x : Spell) → onAny ds x ≡ true → Contains ds x
 unfolding onAny

@@ -14,7 +14,7 @@ keep-front u zero = by-test (u 0) (λ e. keep-hit u 0 e ∙ rw e) (λ e. keep-mi
 keep-front u (suc n) =
     let v : ℕ → Bool = λ k. u (suc k) in
     by-test (u (suc n))
-    (λ e. rw (keep-hit u (suc n) e, keep-front u n, keep-hit v n e, map-append suc (keep v n) (n ∷ [])) (append-assoc (front (u 0)) (map suc (keep v n)) (suc n ∷ [])))
+    (λ e. rw (keep-hit u (suc n) e, keep-front u n, keep-hit v n e, map-append suc (keep v n) (n ∷ [])) (append-assoc (front (u 0)) _ _))
     (λ e. rw (keep-miss u (suc n) e, keep-miss v n e) (keep-front u n))
 
 -- ---- The bridge
@@ -39,7 +39,8 @@ rows-kept f u t [] h = refl
 rows-kept f u t (x ∷ p) h =
     let v : ℕ → Bool = λ k. u (suc k) in
     let at : ℕ → ℕ = λ k. getD (map f (x ∷ p)) k 0 in
-    rw (keep-front u (length p), map-append at (front (u 0)) (map suc (keep v (length p))), map-map at suc (keep v (length p)), rows-kept f v t p (h .1))
+    let kept = keep v (length p) in
+    rw (keep-front u (length p), map-append at (front (u 0)) (map suc kept), map-map at suc kept, rows-kept f v t p (h .1))
     (by-test (t x) (λ e. rw (h .0 ∙ e, e)) (λ e. rw (h .0 ∙ e, e)))
 
 -- as many positions as rows pass

@@ -49,8 +49,8 @@ abbrev asking : List Request
 asking = asks (Day 3 ∷ Day 5 ∷ Day 7 ∷ Day 9 ∷ Day 10 ∷ Day 13 ∷ Span 9 10 ∷ Cover 14 ∷ []) ++ (asked (Ask Days) (4 ∷ 11 ∷ []) ∷ [])
 
 abbrev wanted : List (List ℕ)
-wanted = lists 0 (11 ∷ 12 ∷ []) ∷ lists 2 (11 ∷ 14 ∷ 13 ∷ []) ∷ lists 4 (11 ∷ 13 ∷ 15 ∷ []) ∷ lists 2 (11 ∷ 15 ∷ 16 ∷ []) ∷ lists 2 (11 ∷ 15 ∷ [])
-    ∷ plain 0 ∷ lists 2 (11 ∷ 15 ∷ 16 ∷ []) ∷ lists 2 (11 ∷ 14 ∷ 13 ∷ []) ∷ lists 0 (11 ∷ 12 ∷ 15 ∷ []) ∷ []
+wanted = lists 0 (11 ∷ 12 ∷ []) ∷ lists 2 (11 ∷ 14 ∷ 13 ∷ []) ∷ lists 4 (11 ∷ 13 ∷ 15 ∷ []) ∷ lists 2 (11 ∷ 15 ∷ 16 ∷ [])
+    ∷ lists 2 (11 ∷ 15 ∷ []) ∷ plain 0 ∷ lists 2 (11 ∷ 15 ∷ 16 ∷ []) ∷ lists 2 (11 ∷ 14 ∷ 13 ∷ []) ∷ lists 0 (11 ∷ 12 ∷ 15 ∷ []) ∷ []
 
 -- ---- M1 and M2: spells numbered from 1, candidate 1, grade 1
 
@@ -59,8 +59,8 @@ plainly n f l = call (Enter (spell n 1 f l (Grade 1)))
 
 -- The account with all that its calls compute by, opened together
 account : State → List Request → List Answer
-unfolding run settle effectOf takeBack ask cover enterRefusal amendRefusal strikeRefusal insertBy remove remember earlierOf stands idle sameOf
-    isNan toBits ofBits publishedOf lastOf sortedBy listedBefore onAny daysOk rising filter ticksFrom isSet
+unfolding run settle effectOf takeBack ask cover enterRefusal amendRefusal strikeRefusal insertBy remove remember earlierOf stands idle
+    sameOf isNan toBits ofBits publishedOf lastOf sortedBy listedBefore onAny daysOk rising filter ticksFrom isSet
     comparisonsOf below keep count head next parent child leftSibling lastChild fitsAt start onPath formula
 account m qs = run m qs
 

@@ -1,5 +1,5 @@
 -- What the edits do, each claim one of every state. Assumes nothing.
-use Rattle.basis.proofs.Prelude.{_∙_, _≡_, ap, refl, sym, _≤_, ℕ, List, List·Memᴰ, _++_, _∷_, false, true, _↔_, _⊎_, inl, inr, drop, length, take, le-leb, by-cases}
+use Rattle.basis.proofs.Prelude.{_∙_, _≡_, ap, refl, sym, _≤_, ℕ, List, List·Memᴰ, _++_, _∷_, false, true, _↔_, _⊎_, inl, inr, drop, length, take, eqb, eqb-false, by-test}
 use Rattle.model.proofs.{Names.{accepted, duplicateNumber, unknownNumber, full, isRule, Spell, refusalOf, earlierOf, stands, distinct, writeAll, Enter, Amend, Strike, TakeBack, Publish, Write, Ask, insert, remove, replace, idle, enterRefusal, amendRefusal, strikeRefusal, remember, onDay, listed, publishedOf, withStanding, withPublished, After, Effect, refuse, settle, over, become, edit, effectOf, stepOf, Passes, State, Request}, Checks.{stops, passes, Enters, enter-accepted, Amends, amend-accepted, strike-accepted}, Edits.{in-insert, in-remove}, Idle.idle-stands, Effects.become-does, Rules.{back-takes, write-writes}, Asked.day-lists}
 use Rattle.model.specs.declared.Question.the-variants.{Day}
 
@@ -14,8 +14,7 @@ module _ (m : State) (q : Request) where
   enter-answer s = unfold effectOf in become-answer _ _ _
 
   pub amend-answer : (s : Spell) → stepOf (Amend s) m q .answer .refusal ≡ amendRefusal (m .standing) s
-  amend-answer s = unfold effectOf in
-      by-cases (λ e. settle e m q .answer .refusal ≡ amendRefusal (m .standing) s) (idle (m .standing) s) (λ _. become-answer _ _ _) (λ _. become-answer _ _ _)
+  amend-answer s = unfold effectOf in by-test (idle (m .standing) s) (λ e. rw e (become-answer _ _ _)) (λ e. rw e (become-answer _ _ _))
 
   pub strike-answer : (k : ℕ) → stepOf (Strike k) m q .answer .refusal ≡ strikeRefusal (m .standing) k
   strike-answer k = unfold effectOf in become-answer _ _ _
@@ -98,12 +97,10 @@ module _ (m : State) (p e : Request) (rule : ℕ) (known : isRule rule ≡ true)
   amended = stepOf (Amend s) (stepOf (Publish rule) m p .state) e
 
   amended-is : amended .answer .refusal ≡ accepted
-      → amended .state ≡ withStanding (replace s (m .standing)) (remember (m .standing) (m .past)) (withPublished (publishedOf rule (m .standing)) m)
-  amended-is = unfold effectOf settle in
-      let x : State = withPublished (publishedOf rule (m .standing)) m in
-      let l : List Spell = replace s (m .standing) in
-      let p : List (List Spell) = remember (m .standing) (m .past) in
-      rw (known, real) (become-does (λ f. settle f x e .answer .refusal ≡ accepted → settle f x e .state ≡ withStanding l p x) x (amendRefusal (m .standing) s) l p (λ _ _. refl) (λ bad r. absurd (bad r)))
+      → amended .state
+      ≡ withStanding (replace s (m .standing)) (remember (m .standing) (m .past)) (withPublished (publishedOf rule (m .standing)) m)
+  amended-is = unfold effectOf settle in rw (known, real) (by-test (eqb (amendRefusal (m .standing) s) accepted)
+      (λ a. rw a (λ _. refl)) (λ a. rw a (λ r. absurd (eqb-false (amendRefusal (m .standing) s) accepted a r))))
 
   -- WRITING gives the amended list, and a DAY still asks the list as it was published
   pub amended-unpublished : amended .answer .refusal ≡ accepted → (q : Request) (d : ℕ)

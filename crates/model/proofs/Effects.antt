@@ -87,7 +87,8 @@ module _ (F : Effect → Type 0) where
     unfolding effectOf takeBack
     call-does (Enter s) changed published = become-does m (enterRefusal (m .standing) s) _ _ (λ _. changed refl _ _) (a .refusing _)
     call-does (Amend s) changed published =
-        amend-does m s (a .refusing) (λ _ _. changed refl _ _) (λ _. become-does m (amendRefusal (m .standing) s) _ _ (λ _. changed refl _ _) (a .refusing _))
+        amend-does m s (a .refusing) (λ _ _. changed refl _ _)
+        (λ _. become-does m (amendRefusal (m .standing) s) _ _ (λ _. changed refl _ _) (a .refusing _))
     call-does (Strike k) changed published = become-does m (strikeRefusal (m .standing) k) _ _ (λ _. changed refl _ _) (a .refusing _)
     call-does TakeBack changed published = become-does m (takeBackRefusal (m .past)) _ _ (λ _. changed refl _ _) (a .refusing _)
     call-does (Publish rule) changed published = by-cases F (isRule rule) (λ _. published rule refl) (λ _. a .refusing noSuchRule (λ e. omega arith))

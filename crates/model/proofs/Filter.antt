@@ -1,5 +1,5 @@
 -- The spells of a list that pass a test: exactly those, in the order, each number once. Assumes nothing.
-use Rattle.basis.proofs.Prelude.{_∙_, _≡_, ap, refl, _≤_, suc, ℕ, List, List·Memᴰ, List·Memᴰ·cases-cons, List·Memᴰ·head, List·Memᴰ·not-nil, List·Memᴰ·tail, [], _∷_, Bool, false, true, inl, inr, eqb, length, length-map, arith, by-cases}
+use Rattle.basis.proofs.Prelude.{_∙_, _≡_, ap, refl, _≤_, suc, ℕ, List, List·Memᴰ, List·Memᴰ·cases-cons, List·Memᴰ·head, List·Memᴰ·not-nil, List·Memᴰ·tail, [], _∷_, Bool, false, true, inl, inr, eqb, length, length-map, arith, by-cases, by-test}
 use Rattle.model.proofs.Names.{Spell, orderedBy, stands, distinct, Each, OrderlyBy, StrictOrder, neither, alone, ordered-tail, ordered-first, ordered-cons, filter, listed}
 
 module _ (t : Spell → Bool) where
@@ -9,21 +9,26 @@ module _ (t : Spell → Bool) where
   unfolding filter
   filter-in [] x i = absurd (List·Memᴰ·not-nil i)
   filter-in (y ∷ l) x i =
-      let later : List·Memᴰ x (filter t l) → List·Memᴰ x (y ∷ l) × (t x ≡ true) = λ j. let h = filter-in l x j in (List·Memᴰ·tail (h .0), h .1) in
+      let later = filter-in l x in
       by-cases (λ (r : List Spell). List·Memᴰ x r → List·Memᴰ x (y ∷ l) × (t x ≡ true)) (t y)
-      (λ e i. elim (List·Memᴰ·cases-cons {b = y} {l = filter t l} i) [ inl s ↦ (List·Memᴰ·head s, ap t s ∙ e) | inr j ↦ later j ]) (λ _. later) i
+      (λ e i. elim (List·Memᴰ·cases-cons {b = y} {l = filter t l} i) [
+        | inl s ↦ (List·Memᴰ·head s, ap t s ∙ e)
+        | inr j ↦ (List·Memᴰ·tail (later j .0), later j .1)
+      ])
+      (λ _ j. (List·Memᴰ·tail (later j .0), later j .1)) i
 
   pub in-filter : (l : List Spell) (x : Spell) → List·Memᴰ x l → t x ≡ true → List·Memᴰ x (filter t l)
   unfolding filter
   in-filter l x (List·Memᴰ·head {x = y} {xs = m} s) e = rw (rw s at e) (List·Memᴰ·head s)
-  in-filter l x (List·Memᴰ·tail {x = y} {xs = m} j) e = let k = in-filter m x j e in by-cases (List·Memᴰ x) (t y) (λ _. List·Memᴰ·tail k) (λ _. k)
+  in-filter l x (List·Memᴰ·tail {x = y} {xs = m} j) e =
+      let k = in-filter m x j e in by-test (t y) (λ f. rw f (List·Memᴰ·tail k)) (λ f. rw f k)
 
   -- ---- They are no more than the list has
 
   filter-few : (l : List Spell) → length (filter t l) ≤ length l
   unfolding filter
   filter-few [] = omega arith
-  filter-few (y ∷ l) = let h = filter-few l in by-cases (λ (r : List Spell). length r ≤ suc (length l)) (t y) (λ _. omega arith) (λ _. omega arith)
+  filter-few (y ∷ l) = let h = filter-few l in by-test (t y) (λ e. rw e (omega arith)) (λ e. rw e (omega arith))
 
   pub listed-few : (l : List Spell) → length (listed t l) ≤ length l
   listed-few l = omega (arith, filter-few l, length-map (filter t l) (λ (s : Spell). s .number))
@@ -42,7 +47,8 @@ module _ (t : Spell → Bool) where
   filter-ordered o [] h = h
   filter-ordered {u} o (y ∷ l) h =
       let k = filter-ordered o l (ordered-tail o y l h) in
-      by-cases (λ r. orderedBy u r ≡ true) (t y) (λ _. ordered-cons o y (filter t l) (filter-each (λ z. u y z ≡ true) l (ordered-first o y l h)) k) (λ _. k)
+      let first = filter-each (λ z. u y z ≡ true) l (ordered-first o y l h) in
+      by-test (t y) (λ e. rw e (ordered-cons o y (filter t l) first k)) (λ e. rw e k)
 
   -- ---- Unique numbers stay unique
 
@@ -64,5 +70,6 @@ module _ (t : Spell → Bool) where
 
   -- ---- So a list that can stand can stand without the others
 
-  pub filter-orderly : {u : Spell → Spell → Bool} (o : StrictOrder u) (P : Spell → Type 0) (l : List Spell) → OrderlyBy u P l → OrderlyBy u P (filter t l)
+  pub filter-orderly : {u : Spell → Spell → Bool} (o : StrictOrder u) (P : Spell → Type 0) (l : List Spell)
+      → OrderlyBy u P l → OrderlyBy u P (filter t l)
   filter-orderly o P l g = let n = filter-few l in search (filter-each, filter-ordered, filter-distinct, arith)

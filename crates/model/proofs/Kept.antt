@@ -33,12 +33,13 @@ module _ (P : Spell → Type 0) where
     Keeps = Comes (λ (x : After). Kept P (x .state)) m q
 
     remembered : (x : List Spell) → List·Memᴰ x (remember (m .standing) (m .past)) → Orderly P x
-    remembered x i = unfold remember in elim (List·Memᴰ·cases-cons (in-take 64 (m .standing ∷ m .past) i)) [ inl s ↦ rw s (k .standing) | inr j ↦ k .past x j ]
+    remembered x i = unfold remember in
+        elim (List·Memᴰ·cases-cons (in-take 64 (m .standing ∷ m .past) i)) [ inl s ↦ rw s (k .standing) | inr j ↦ k .past x j ]
 
     edit-keeps : (n : ℕ) (l : List Spell) → (n ≡ accepted → Orderly P l) → Keeps (edit n l m)
-    edit-keeps n l h =
-        let few : length (remember (m .standing) (m .past)) ≤ 64 = unfold remember in omega (arith, length-take 64 (m .standing ∷ m .past)) in
-        become-does Keeps m n l (remember (m .standing) (m .past)) (λ e. search remembered) (λ _. k)
+    edit-keeps n l h = unfold remember in
+        let few = length-take 64 (m .standing ∷ m .past) in
+        become-does Keeps m n l (remember (m .standing) (m .past)) (λ e. search (remembered, arith)) (λ _. k)
 
     back-keeps : (past : List (List Spell)) → ((l : List Spell) → List·Memᴰ l past → Orderly P l) → length past ≤ 64 → Keeps (takeBack past m)
     unfolding takeBack
@@ -54,7 +55,8 @@ module _ (P : Spell → Type 0) where
         amend-does Keeps m s (λ _ _. k) (λ _ _. k) (λ _. edit-keeps (amendRefusal (m .standing) s) (replace s (m .standing)) (λ e.
         let c = amends (m .standing) s e in let p = b s (inr refl) (c .passes) in search (orderly-replace text-order P)))
     call-keeps (Strike n) b =
-        edit-keeps (strikeRefusal (m .standing) n) (remove n (m .standing)) (λ e. let there = strike-accepted (m .standing) n .0 e in search (orderly-remove text-order P))
+        edit-keeps (strikeRefusal (m .standing) n) (remove n (m .standing)) (λ e.
+        let there = strike-accepted (m .standing) n .0 e in search (orderly-remove text-order P))
     call-keeps TakeBack b = back-keeps (m .past) (k .past) (k .depth)
     call-keeps (Publish rule) b = by-cases Keeps (isRule rule) (λ _. search (k .past, published-orderly rule P cuts)) (λ _. k)
     call-keeps Write b = k

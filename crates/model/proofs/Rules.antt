@@ -1,7 +1,7 @@
 -- Document 01's plain account, what begins it and what take back, publish and writing do, as claims of every state. The edits are in
 -- `Editing.antt`, the questions in `Claims.antt`, whole lists of calls in `Runs.antt`. Assumes nothing.
-use Rattle.basis.proofs.Prelude.{_≡_, refl, _<_, _≤_, ℕ, List, [], _++_, _∷_, leb, drop, length, arith, le-leb, lt-leb, by-cases, true, false}
-use Rattle.model.proofs.Names.{accepted, noHistory, shortBuffer, noSuchRule, isRule, Spell, Register, readText, writeAll, good, bad, text-again, TakeBack, Publish, Write, publishedOf, withStanding, withPublished, gives, writes, refuse, gave, wrote, settle, fresh, begun, takeBack, effectOf, stepOf, State, After, Request, Answer}
+use Rattle.basis.proofs.Prelude.{_≡_, refl, _<_, _≤_, ℕ, List, [], _++_, _∷_, leb, drop, length, arith, le-leb, lt-leb, by-test, true, false}
+use Rattle.model.proofs.Names.{accepted, noHistory, shortBuffer, noSuchRule, isRule, Spell, Register, readText, writeAll, good, bad, text-again, TakeBack, Publish, Write, publishedOf, withStanding, withPublished, gives, writes, refuse, gave, wrote, settle, fresh, begun, takeBack, effectOf, stepOf, State, Request, Answer}
 
 -- ---- The beginning
 
@@ -64,6 +64,5 @@ module _ (m : State) (q : Request) where
 
   -- ACCEPTED WRITING gives the text of the standing list
   pub write-writes : stepOf Write m q .answer .refusal ≡ accepted → Writes (writeAll (m .standing)) (stepOf Write m q .answer)
-  write-writes = unfold effectOf settle in
-      by-cases (λ (x : After). x .answer .refusal ≡ accepted → Writes (writeAll (m .standing)) (x .answer)) (leb (length (writeAll (m .standing))) (length (q .text)))
-      (λ _ _. record { length = refl; text = refl; numbers = refl }) (λ _ r. absurd (omega arith))
+  write-writes = unfold effectOf settle in by-test (leb (length (writeAll (m .standing))) (length (q .text)))
+      (λ e. rw e (λ _. record { length = refl; text = refl; numbers = refl })) (λ e. rw e (λ r. absurd (omega arith)))

@@ -35,7 +35,9 @@ module _ {A : Type 0} where
   pub lexical-asym : (ks : List (A → ℕ)) (a b : A) → lexical ks a b ≡ true → lexical ks b a ≡ false
   unfolding lexical
   lexical-asym [] a b h = refl
-  lexical-asym (f ∷ ks) a b h = let s = key-says (f a) (f b) _ h in key-is-not (f b) (f a) _ (s .0) (λ e. lexical-asym ks a b (s .1 (sym e)))
+  lexical-asym (f ∷ ks) a b h =
+      let s = key-says (f a) (f b) _ h in
+      key-is-not (f b) (f a) _ (s .0) (λ e. lexical-asym ks a b (s .1 (sym e)))
 
   pub lexical-over : (ks : List (A → ℕ)) (a b c : A) → lexical ks b a ≡ false → lexical ks c b ≡ false → lexical ks c a ≡ false
   unfolding lexical

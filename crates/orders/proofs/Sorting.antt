@@ -34,7 +34,7 @@ module _ {A : Type 0} (t : A → A → Bool) where
   pub inserted-length : (x : A) (l : List A) → length (insertBy t x l) ≡ suc (length l)
   unfolding insertBy
   inserted-length x [] = refl
-  inserted-length x (y ∷ l) = by-cases (λ (r : List A). length r ≡ suc (suc (length l))) (t y x) (λ _. ap suc (inserted-length x l)) (λ _. refl)
+  inserted-length x (y ∷ l) = by-test (t y x) (λ e. rw (e, inserted-length x l)) (λ e. rw e)
 
   pub sorted-length : (l : List A) → length (sortedBy t l) ≡ length l
   unfolding sortedBy
@@ -139,7 +139,9 @@ module _ {A : Type 0} {t : A → A → Bool} (o : Total t) where
   inserted-in-order x (y ∷ l) h =
       let first = in-order-first y l h in
       by-cases (λ (r : List A). inOrderBy t r ≡ true) (t y x)
-      (λ e. in-order-cons y (insertBy t x l) (each-inserted t (λ z. t z y ≡ false) x l (o .asym y x e) first) (inserted-in-order x l (in-order-tail t y l h)))
+      (λ e.
+      let others = each-inserted t (λ z. t z y ≡ false) x l (o .asym y x e) first in
+      in-order-cons y (insertBy t x l) others (inserted-in-order x l (in-order-tail t y l h)))
       (λ e. in-order-cons x (y ∷ l) (e, each-after x y l e first) h)
 
   -- what sorting gives is in order

@@ -35,8 +35,8 @@ module _ (l : List Spell) (s : Spell) {n p : ℕ} (long : length l ≡ n) (few :
 
   pub enter-makes : enterRefusal l s ≡ accepted → Makes (planEnter s p n d) l (insert s l) (entering s) d
   enter-makes h =
-      rw (← enter-refusal l s long at, eq-eqb (enterRefusal l s) accepted h)
-      (record { done = refl; list = rw (without-none 1024 l (omega arith)) (put-in s l (enters l s h .room)); notes = refl; entry = refl; depth = refl })
+      let list : putting true s (without 1024 l) ≡ insert s l = rw (without-none 1024 l (omega arith)) (put-in s l (enters l s h .room)) in
+      rw (← enter-refusal l s long at, eq-eqb (enterRefusal l s) accepted h) (search)
 
   abbrev old : Spell
   old = getD l p blank
@@ -80,7 +80,7 @@ pub back-undoes : (l : List Spell) (e : Undo) {p : ℕ} (d : ℕ) → p ≡ stan
 back-undoes l e {p} d at some room = unfold undo in
     rw (ne-eqb d 0 some) (record {
       done = refl;
-      list = rw (removed-is (e .number) l at) (by-test (e .stood) (λ s. rw s (put-in (e .spell) (remove (e .number) l) (room s))) (λ s. rw s));
+      list = rw (removed-is (e .number) l at) (by-test (e .stood) (λ s. rw s (put-in (e .spell) _ (room s))) (λ s. rw s));
       notes = refl;
       depth = refl;
     })
@@ -91,4 +91,5 @@ back-undoes l e {p} d at some room = unfold undo in
 pub deeper-noted : (e : Undo) (es : List Undo) → length es ≤ 64 → deeperBy (length es) true ≡ length (noted e es)
 deeper-noted e es few =
     let many = length-take 64 (e ∷ es) in
-    by-test (leb 64 (length es)) (λ h. rw h (omega (arith, leb-true 64 (length es) h))) (λ h. rw h (omega (arith, leb-false 64 (length es) h)))
+    by-test (leb 64 (length es))
+    (λ h. rw h (omega (arith, leb-true 64 (length es) h))) (λ h. rw h (omega (arith, leb-false 64 (length es) h)))

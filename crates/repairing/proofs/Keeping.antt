@@ -19,7 +19,7 @@ pub passes : (kept : List Spell) (s : Spell) (rest : List ℕ) → verdict kept 
 passes kept s rest e = unfold verdict in by-test (eqb (refusalOf s) 0)
     (λ r.
     let p = past (stands kept (s .number)) 5 _ (rw r at e) in
-    record { entered = eqb-true (refusalOf s) 0 r; new = p .0; room = ltb-true (length kept) 1024 (needed (ltb (length kept) 1024) 7 0 (p .1) .0) })
+    record { entered = eqb-true (refusalOf s) 0 r; new = p .0; room = ltb-true (length kept) 1024 (needed _ 7 0 (p .1) .0) })
     (λ r. absurd (eqb-false (refusalOf s) 0 r (rw r at e)))
 
 pub keeps-it : (kept : List Spell) (s : Spell) (rest : List ℕ) → Passes kept s → keeping kept (found s rest) ≡ kept ++ (s ∷ [])
@@ -80,7 +80,8 @@ there (b ∷ t) s rest e = omega arith
 
 -- the lines of m, after what is kept of those before, are all kept, and nothing is said of them
 whole : (m before : List Spell) → Each Sound m → distinct (before ++ m) ≡ true → length (before ++ m) ≤ 1024
-    → (keptAfter before (linesOf (textOnto m [])) ≡ before ++ m) × ((n : ℕ) → remarksFrom n (verdictsAfter before (linesOf (textOnto m []))) ≡ [])
+    → (keptAfter before (linesOf (textOnto m [])) ≡ before ++ m)
+    × ((n : ℕ) → remarksFrom n (verdictsAfter before (linesOf (textOnto m []))) ≡ [])
 unfolding textOnto Each keptAfter verdictsAfter remarksFrom
 whole [] before e d h = (rw lines-none (sym (append-nil before)), λ n. rw lines-none)
 whole (x ∷ m) before e d h =

@@ -25,12 +25,13 @@ module _ (f : Spell → ℕ) (a : List Spell) (before : List ℕ) where
   pub filled-more : (c : List ℕ) (i : ℕ) {v : ℕ} → v ≡ f (getD a i blank) → i < length a → i < length before → Filled f a before c i → Filled f a before (set c i v) (i + 1)
   filled-more c i is ha hb e = record {
     long = length-set c i _ ∙ e .long;
-    so-far = rw (e .so-far, map-take f i a, map-take f (i + 1) a) (buffer.filled before (map f a) i (f blank) _ (is ∙ sym (List·getD-map f a i blank)) hb (rw length-map ha));
+    so-far = rw (e .so-far, map-take f i a, map-take f (i + 1) a)
+        (buffer.filled before (map f a) i (f blank) _ (is ∙ sym (List·getD-map f a i blank)) hb (rw length-map ha));
   }
 
 -- the column of the first n, in a field of the spells as a rule publishes them, is that of their list
-laid : (rule n : ℕ) (a : List Spell) (few : n ≤ length a) (f : Spell → ℕ) {before c : List ℕ} {i : ℕ} → i ≡ n → Filled (λ s. f (cut rule s)) a before c i
-    → c ≡ columnOf f (map (cut rule) (take n a)) before
+laid : (rule n : ℕ) (a : List Spell) (few : n ≤ length a) (f : Spell → ℕ) {before c : List ℕ} {i : ℕ} → i ≡ n
+    → Filled (λ s. f (cut rule s)) a before c i → c ≡ columnOf f (map (cut rule) (take n a)) before
 laid rule n a few f done e = rw (map-map f (cut rule) (take n a), length-map, length-take-le n a few, ← done) (e .so-far)
 
 -- the columns of the first n spells as a rule publishes them

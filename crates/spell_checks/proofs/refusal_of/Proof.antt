@@ -4,23 +4,23 @@ use Rattle.calendar.specs.Calendar.{isDay}
 use Rattle.spell.specs.{declared.Spell.Spell, Entry.{refusalOf, urgencyOk}}
 use Rattle.spell_checks.proofs.refusal_of.{Statement.statement, Tie.{close, spec}}
 
-module _ (s : Spell) (n : s .number ≡ 0 → ⊥) (c : s .candidate ≡ 0 → ⊥) {f : Bool} (first : f ≡ isDay (s .first)) where
+module _ (s : Spell) (n : s .number ≡ 0 → ⊥) (c : s .candidate ≡ 0 → ⊥) {f : Bool} (fs : f ≡ isDay (s .first)) where
   off-first : not f ≡ true → 3 ≡ refusalOf s
-  off-first h = rw (ne-eqb _ 0 n, ne-eqb _ 0 c, sym first ∙ not-true _ h)
+  off-first h = rw (ne-eqb _ 0 n, ne-eqb _ 0 c, sym fs ∙ not-true _ h)
 
-  module _ (on : not f ≡ false) {l : Bool} (last : l ≡ isDay (s .last)) where
+  module _ (on : not f ≡ false) {l : Bool} (ls : l ≡ isDay (s .last)) where
     off-last : not l ≡ true → 3 ≡ refusalOf s
-    off-last h = rw (ne-eqb _ 0 n, ne-eqb _ 0 c, sym first ∙ not-false _ on, sym last ∙ not-true _ h)
+    off-last h = rw (ne-eqb _ 0 n, ne-eqb _ 0 c, sym fs ∙ not-false _ on, sym ls ∙ not-true _ h)
 
     module _ (on′ : not l ≡ false) where
       backwards : s .last < s .first → 4 ≡ refusalOf s
-      backwards h = rw (ne-eqb _ 0 n, ne-eqb _ 0 c, sym first ∙ not-false _ on, sym last ∙ not-false _ on′, lt-ltb _ _ h)
+      backwards h = rw (ne-eqb _ 0 n, ne-eqb _ 0 c, sym fs ∙ not-false _ on, sym ls ∙ not-false _ on′, lt-ltb _ _ h)
 
       bad : s .first ≤ s .last → {u : Bool} → u ≡ urgencyOk (s .urgency) → not u ≡ true → 5 ≡ refusalOf s
-      bad h e k = rw (ne-eqb _ 0 n, ne-eqb _ 0 c, sym first ∙ not-false _ on, sym last ∙ not-false _ on′, le-ltb _ _ h, sym e ∙ not-true _ k)
+      bad h e k = rw (ne-eqb _ 0 n, ne-eqb _ 0 c, sym fs ∙ not-false _ on, sym ls ∙ not-false _ on′, le-ltb _ _ h, sym e ∙ not-true _ k)
 
       good : s .first ≤ s .last → {u : Bool} → u ≡ urgencyOk (s .urgency) → not u ≡ false → 0 ≡ refusalOf s
-      good h e k = rw (ne-eqb _ 0 n, ne-eqb _ 0 c, sym first ∙ not-false _ on, sym last ∙ not-false _ on′, le-ltb _ _ h, sym e ∙ not-false _ k)
+      good h e k = rw (ne-eqb _ 0 n, ne-eqb _ 0 c, sym fs ∙ not-false _ on, sym ls ∙ not-false _ on′, le-ltb _ _ h, sym e ∙ not-false _ k)
 
 pub refusal-of-spec : {M : Type 1} → statement M
 refusal-of-spec = close (spec
