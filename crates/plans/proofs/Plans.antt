@@ -1,12 +1,37 @@
--- A plan is what the account says of its call, on the list l of n spells where its number stands at p. Assumes nothing.
-use Rattle.basis.proofs.Prelude.{_∙_, _≡_, ap, refl, sym, _+_, _-_, _<_, _≤_, suc, ℕ, List, _∷_, Bool, cond, false, true, leb, drop, getD, length, length-append, length-drop, length-take, take, arith, eq-eqb, le-leb, leb-false, leb-true, lt-leb, ne-eqb, by-test}
+-- A plan is what the account says of its call, on the list l of n spells where its number stands at p; its checks are those of the account,
+-- in their order. Assumes nothing.
+use Rattle.basis.proofs.Prelude.{_∙_, _≡_, ap, refl, sym, _-_, _<_, _≤_, suc, ℕ, List, _∷_, false, true, leb, ltb, drop, getD, length, length-append, length-drop, length-take, take, arith, eq-eqb, le-leb, leb-false, leb-true, lt-leb, ltb-false, ltb-true, ne-eqb, by-test}
 use Rattle.refusal.specs.Table.{accepted, unknownNumber, noHistory}
 use Rattle.spell.specs.{declared.Spell.Spell, Blank.blank, Listing.stands, Same.sameOf}
 use Rattle.model.{specs.Edits.{insert, remove, replace, idle, enterRefusal, amendRefusal}, proofs.Checks.{enters, amends}}
-use Rattle.spell_places.{specs.{Search.standsAt, List.{putting, without}}, proofs.{Found.idle-index, Changing.{put-in, removed-is, without-none}}}
+use Rattle.spell_places.{specs.{Search.standsAt, List.{putting, without}}, proofs.{Found.{idle-index, stands-index}, Changing.{put-in, removed-is, without-none}}}
 use Rattle.journal.specs.{declared.Undo.Undo, Journal.noted, Past.{undo, entering, replacing}}
 use Rattle.plans.specs.{declared.Plan.Plan, Plans.{noPlan, enterCheck, planEnter, amendCheck, planAmend, planStrike, planBack, deeperBy}}
-use Rattle.plans.proofs.Checks.{place-in, place-out, enter-refusal, amend-refusal}
+
+-- ---- A number is looked for in the list l of n spells: p is where it stands, or n
+
+module _ (l : List Spell) (k : ℕ) {n p : ℕ} (long : length l ≡ n) (at-index : p ≡ standsAt k l) where
+  stands-is : stands l k ≡ ltb p n
+  stands-is = rw (at-index, ← long) (stands-index k l)
+
+  place-in : stands l k ≡ true → p < n
+  place-in h = ltb-true p n (sym stands-is ∙ h)
+
+  place-out : stands l k ≡ false → n ≤ p
+  place-out h = ltb-false p n (sym stands-is ∙ h)
+
+-- ---- Enter and amend of the spell s, as the code checks it
+
+module _ (l : List Spell) (s : Spell) {n p : ℕ} (long : length l ≡ n) (at-index : p ≡ standsAt (s .number) l) where
+  enter-refusal : enterRefusal l s ≡ enterCheck s p n
+  enter-refusal = unfold enterRefusal in rw (stands-is l (s .number) long at-index, long) (by-test (ltb p n) (λ e. rw e) (λ e. rw e))
+
+  amend-refusal : amendRefusal l s ≡ amendCheck s p n
+  amend-refusal = unfold amendRefusal in
+      rw (stands-is l (s .number) long at-index)
+      (by-test (ltb p n) (λ e. rw (e, lt-leb n p (ltb-true p n e))) (λ e. rw (e, le-leb n p (ltb-false p n e))))
+
+-- ---- Plans
 
 -- a plan by which no check refuses, the list l becomes l′, and the entry e is noted in a journal of the depth d
 pub record Makes (x : Plan) (l l′ : List Spell) (e : Undo) (d : ℕ) : Type 0 where

@@ -1,7 +1,7 @@
 -- `mask_days::on_calendar` meets its contract. Assumes nothing.
 use Rattle.basis.proofs.Prelude.{arith, needs}
 use lib.Count.{trailing-le}
-use Rattle.mask_days.proofs.{Calendar.{empty-on, low-off, high-on, zeros-above}, on_calendar.{Statement.statement, Tie.{close, spec}}}
+use Rattle.mask_days.proofs.{Ticking.{empty-on, low-off, high-on, zeros-above}, on_calendar.{Statement.statement, Tie.{close, spec}}}
 
 pub on-calendar-spec : {M : Type 1} → statement M
 on-calendar-spec = close (spec

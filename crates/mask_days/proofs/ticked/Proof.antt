@@ -1,21 +1,7 @@
 -- `mask_days::ticked` meets its contract. Assumes nothing.
-use Rattle.basis.proofs.Prelude.{_≡_, _<_, sym, _∙_, ℕ, List, Bool, true, false, not, arith, needs, not-true, not-false}
-use Prim.Native.Nat.{_^_}
-use lib.Count.{ones, ones-le}
-use Rattle.buffer.specs.Buffer.{over}
-use Rattle.calendar.specs.Calendar.{daysOk}
-use Rattle.masks.{specs.{declared.Ticks.the-variants.{All, Off}, Masks.ticks, Answers.{Answer, Room}}, proofs.Claims.as-many}
-use Rattle.mask_days.proofs.ticked.{Statement.statement, Tie.{close, spec}}
-
-module _ (base mask : ℕ) (held : List ℕ) {r : Bool} (on : r ≡ daysOk (ticks base mask)) where
-  off : not r ≡ true → Answer base mask Off held held
-  off h = let e = sym on ∙ not-true _ h in record { says = rw e; holds = rw e }
-
-  is-on : not r ≡ false → daysOk (ticks base mask) ≡ true
-  is-on h = sym on ∙ not-false _ h
-
-  all : (days : List ℕ) → not r ≡ false → mask < 2 ^ 64 → days ≡ over (ticks base mask) held → Answer base mask (All (ones mask)) held days
-  all days h fits put = record { says = rw (is-on h, as-many base mask fits); holds = rw (is-on h) put }
+use Rattle.basis.proofs.Prelude.{arith, needs}
+use lib.Count.{ones-le}
+use Rattle.mask_days.proofs.{Ticking.{off, is-on, all}, ticked.{Statement.statement, Tie.{close, spec}}}
 
 pub ticked-spec : {M : Type 1} → statement M
 ticked-spec = close (spec
