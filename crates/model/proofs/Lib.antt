@@ -7,10 +7,8 @@ pub mod Masks
 pub mod Checks
 pub mod Edits
 pub mod Publishing
-pub mod Idle
 pub mod Asked
 pub mod Editing
-pub mod Kept
 pub mod Journal
 pub mod Runs
 pub mod Cases
