@@ -30,7 +30,7 @@ module _ (l : List Spell) (s : Spell) where
 
   pub enter-accepted : enterRefusal l s ≡ accepted ↔ Enters
   unfolding enterRefusal
-  enter-accepted = (enters, λ e. sym (passes (refusalOf s) (cond (stands l (s .number)) duplicateNumber (cond (leb 1024 (length l)) full accepted)) (e .passes)) ∙ rw (e .free, lt-leb 1024 (length l) (e .room)))
+  enter-accepted = (enters, λ e. rw (eq-eqb (refusalOf s) accepted (e .passes), e .free, lt-leb 1024 (length l) (e .room)))
 
   -- an accepted amend: the spell passes, and its number stands
   pub record Amends : Type 0 where
@@ -44,7 +44,7 @@ module _ (l : List Spell) (s : Spell) where
 
   pub amend-accepted : amendRefusal l s ≡ accepted ↔ Amends
   unfolding amendRefusal
-  amend-accepted = (amends, λ a. sym (passes (refusalOf s) (cond (stands l (s .number)) accepted unknownNumber) (a .passes)) ∙ rw (a .there))
+  amend-accepted = (amends, λ a. rw (eq-eqb (refusalOf s) accepted (a .passes), a .there))
 
 -- an accepted strike: the number stands
 pub strike-accepted : (l : List Spell) (k : ℕ) → strikeRefusal l k ≡ accepted ↔ (stands l k ≡ true)

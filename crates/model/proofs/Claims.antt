@@ -1,26 +1,21 @@
 -- What is claimed of every call of the account, each claim a citation. Assumes nothing.
-use Rattle.basis.proofs.Prelude.{_≡_, refl, _*_, _≤_, ℕ, List, List·Memᴰ, _∷_, _++_, Bool, true, _↔_, _⊎_, inl, inr, arith}
-use Rattle.model.proofs.{Names.{accepted, Spell, listedBefore, orderedBy, answer-order, distinct, in-sheet, Publish, filter, After, Effect, refused, done, gives, writes, refuse, several, effectOf, step, reads, State, Request}, Effects.{Comes, settles, call-does, reads-every, every}, Filter.{filter-in, in-filter, filter-ordered, filter-distinct}, Bridge.comparisons-le}
+use Rattle.basis.proofs.Prelude.{_≡_, refl, _*_, _≤_, ℕ, List, List·Memᴰ, _∷_, _++_, Bool, true, _↔_, length, leb, arith, by-test}
+use Rattle.model.proofs.{Names.{accepted, Spell, listedBefore, orderedBy, answer-order, distinct, in-sheet, Publish, filter, After, Effect, refused, done, gives, writes, refuse, settle, effectOf, step, reads, State, Request}, Effects.{Comes, settles, call-does, reads-every, every}, Filter.{filter-in, in-filter, filter-ordered, filter-distinct}, Bridge.comparisons-le}
 use Rattle.spell.proofs.Order.{comes-before, twins-rise}
 
 module _ (m : State) (q : Request) where
   -- ---- A refused call
 
-  -- accepted, or refused with state and lent lists as before, and every count 0
-  abbrev Fair : After → Type 0
-  Fair x = (x .answer .refusal ≡ accepted) ⊎ (x ≡ refuse (x .answer .refusal) m q)
-
-  fair-effect : (e : Effect) → Comes Fair m q e
-  fair-effect (refused n) = inr refl
-  fair-effect (done m′) = inl refl
-  fair-effect (gives ns c t) = inl refl
-  fair-effect (writes t) = inl refl
+  settled : (e : Effect) → (settle e m q .answer .refusal ≡ accepted → ⊥) → settle e m q ≡ refuse (settle e m q .answer .refusal) m q
+  unfolding settle
+  settled (refused n) h = refl
+  settled (done m′) h = absurd (h refl)
+  settled (gives ns c t) h = by-test (leb (length ns) (length (q .numbers))) (λ e. absurd (h (rw e))) (λ e. rw e)
+  settled (writes t) h = by-test (leb (length t) (length (q .text))) (λ e. absurd (h (rw e))) (λ e. rw e)
 
   -- A REFUSED CALL changes nothing: its count, looks, length and days ticked are 0, and its lent lists keep every place
   pub refused-keeps : (step m q .answer .refusal ≡ accepted → ⊥) → step m q ≡ refuse (step m q .answer .refusal) m q
-  refused-keeps h =
-      let e : Effect = effectOf (q .call) (q .days) m in
-      elim (settles Fair m q (inr refl) e (fair-effect e)) [ inl e ↦ absurd (h e) | inr e ↦ e ]
+  refused-keeps = settled (effectOf (q .call) (q .days) m)
 
   -- ---- What a call leaves as it is
 
@@ -28,15 +23,12 @@ module _ (m : State) (q : Request) where
   pub reads-keep : reads (q .call) ≡ true → step m q .state ≡ m
   reads-keep = reads-every (λ x. x .state ≡ m) m q (record { refusing = λ n _. refl; asked = λ h l. refl; several = refl; masked = λ b k. refl }) refl
 
-  abbrev SamePublished : After → Type 0
-  SamePublished x = x .state .published ≡ m .published
-
   -- NOTHING BUT PUBLISH changes the published list
   pub published-kept : ((rule : ℕ) → q .call ≡ Publish rule → ⊥) → step m q .state .published ≡ m .published
   published-kept other =
-      settles SamePublished m q refl (effectOf (q .call) (q .days) m)
-      (call-does (Comes SamePublished m q) (q .days) m (record { refusing = λ n _. refl; asked = λ h l. refl; several = refl; masked = λ b k. refl }) refl (q .call)
-      (λ _ l p. refl) (λ rule e. absurd (other rule e)))
+      let P : After → Type 0 = λ x. x .state .published ≡ m .published in
+      settles P m q refl (effectOf (q .call) (q .days) m) (call-does (Comes P m q) (q .days) m
+      (record { refusing = λ n _. refl; asked = λ h l. refl; several = refl; masked = λ b k. refl }) refl (q .call) (λ _ l p. refl) (λ rule e. absurd (other rule e)))
 
   -- ---- The looks
 

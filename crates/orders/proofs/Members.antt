@@ -1,5 +1,6 @@
 -- Which elements are in a list after an insertion, and in a sorted list. Assumes nothing.
-use Rattle.basis.proofs.Prelude.{_≡_, List, List·Memᴰ, List·Memᴰ·cases-cons, List·Memᴰ·head, List·Memᴰ·not-nil, List·Memᴰ·tail, [], _∷_, Bool, _↔_, _⊎_, inl, inr, by-cases}
+use Rattle.basis.proofs.Prelude.{_≡_, List, List·Memᴰ, List·Memᴰ·cases-cons, List·Memᴰ·head, List·Memᴰ·not-nil, List·Memᴰ·tail, [], _∷_, Bool, _↔_, _⊎_, inl, inr, ⊎-elim, by-cases}
+use mathlib.Core.Logic.{⊎-map}
 use Rattle.orders.specs.Orders.{insertBy, sortedBy}
 
 module _ {A : Type 0} (t : A → A → Bool) where
@@ -30,7 +31,5 @@ module _ {A : Type 0} (t : A → A → Bool) where
   sorted-has [] x = (λ i. i, λ i. i)
   sorted-has (y ∷ l) x =
       let h = sorted-has l x in
-      let p = in-insert y (sortedBy t l) x in (
-        λ i. elim (p .0 i) [ inl e ↦ List·Memᴰ·head e | inr j ↦ List·Memᴰ·tail (h .0 j) ],
-        λ i. elim (List·Memᴰ·cases-cons i) [ inl e ↦ p .1 (inl e) | inr j ↦ p .1 (inr (h .1 j)) ],
-      )
+      let p = in-insert y (sortedBy t l) x in
+      (λ i. ⊎-elim List·Memᴰ·head (λ j. List·Memᴰ·tail (h .0 j)) (p .0 i), λ i. p .1 (⊎-map (λ e. e) (h .1) (List·Memᴰ·cases-cons i)))

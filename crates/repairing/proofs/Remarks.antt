@@ -48,14 +48,13 @@ pub each-line : (t : List ℕ) → length (keptOf t) + length (remarksOf t) ≡ 
 each-line t = all-lines 1 [] (linesOf t) ∙ zero-add (length (linesOf t))
 
 -- at most as many lines as bytes
-pub lines-few : (t : List ℕ) → length (linesOf t) ≤ length t
+few : (t : List ℕ) → (length (laterLines t) ≤ length t) × (length (linesOf t) ≤ length t)
 unfolding linesOf laterLines
-lines-few [] = omega arith
-lines-few (b ∷ t) = by-cases (λ (l : List (List ℕ)). suc (length l) ≤ suc (length t)) (eqb b 10) (λ _. omega (arith, lines-few t)) (λ _. omega (arith, lines-few t, fewer t))
-  where
-    fewer : (t : List ℕ) → length (laterLines t) ≤ length (begun t (laterLines t))
-    fewer [] = omega arith
-    fewer (b ∷ t) = omega arith
+few [] = omega arith
+few (b ∷ t) = let h = few t in by-test (eqb b 10) (λ e. rw e (omega arith)) (λ e. rw e (omega arith))
+
+pub lines-few : (t : List ℕ) → length (linesOf t) ≤ length t
+lines-few t = few t .1
 
 -- ---- A list into whose first places a text is put is as long as before
 

@@ -11,9 +11,6 @@ urgency-same (Reading x) (Reading y) a b t =
     let same = eqb→eq (toBits binary32 x) (toBits binary32 y) t in
     ap Reading (sym (ofBits-toBits binary32 x a) ∙ ap (ofBits binary32) same ∙ ofBits-toBits binary32 y b)
 
-abbrev mk : ℕ → ℕ → ℕ → ℕ → Urgency → Spell
-mk n c f l u = record { number = n; candidate = c; first = f; last = l; urgency = u }
-
 pub same-equal : (a b : Spell) → HeldUrgency (a .urgency) → HeldUrgency (b .urgency) → T (sameOf a b) → a ≡ b
 same-equal a b ha hb t = unfold sameOf in
     let number : a .number ≡ b .number = eqb→eq _ _ (search (and-l, and-r)) in
@@ -21,5 +18,4 @@ same-equal a b ha hb t = unfold sameOf in
     let first : a .first ≡ b .first = eqb→eq _ _ (search (and-l, and-r)) in
     let last : a .last ≡ b .last = eqb→eq _ _ (search (and-l, and-r)) in
     let urgency : a .urgency ≡ b .urgency = urgency-same _ _ ha hb (search (and-l, and-r)) in
-    let joined : mk (a .number) (a .candidate) (a .first) (a .last) (a .urgency) ≡ mk (b .number) (b .candidate) (b .first) (b .last) (b .urgency) = cc in
-    joined
+    λ i. record { number = number i; candidate = candidate i; first = first i; last = last i; urgency = urgency i }
