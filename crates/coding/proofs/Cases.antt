@@ -24,27 +24,18 @@ codes = (1 ∷ 65547 ∷ 7 ∷ 1 ∷ 10 ∷ 0 ∷ 2 ∷ 0 ∷ 0 ∷ 0 ∷ [])
     ++ (65535 ∷ 0 ∷ 0 ∷ 0 ∷ 0 ∷ 0 ∷ 0 ∷ 0 ∷ 0 ∷ 0 ∷ [])
     ++ (1 ∷ 2 ∷ 3 ∷ [])
 
-abbrev lentDays : List ℕ
-lentDays = 1 ∷ 4 ∷ 9 ∷ []
-
-abbrev lentNumbers : List ℕ
-lentNumbers = 91 ∷ 92 ∷ 93 ∷ 94 ∷ 95 ∷ 96 ∷ []
-
-abbrev results : ℕ → List ℕ
-results n = replicate n 77
-
 abbrev coded : ℕ → List Request
-coded room = decode codes lentDays (results room) lentNumbers []
+coded room = decode codes (1 ∷ 4 ∷ 9 ∷ []) (replicate room 77) (91 ∷ 92 ∷ 93 ∷ 94 ∷ 95 ∷ 96 ∷ []) []
+
+abbrev request : Call → List ℕ → List ℕ → Request
+request c ds ns = record { call = c; days = ds; numbers = ns; text = [] }
 
 -- six calls, each with its parts
 pub decoded : coded 35
-    ≡ record { call = Enter (record { number = 11; candidate = 7; first = 1; last = 10; urgency = Grade 2 }); days = []; numbers = []; text = [] }
-    ∷ record { call = Enter (record { number = 12; candidate = 8; first = 3; last = 4; urgency = Reading (ofBits binary32 0x3F80_0000) }); days = []; numbers = []; text = [] }
-    ∷ record { call = Publish 1; days = []; numbers = []; text = [] }
-    ∷ record { call = Ask (Day 3); days = []; numbers = 91 ∷ 92 ∷ 93 ∷ []; text = [] }
-    ∷ record { call = Ask Days; days = 1 ∷ 4 ∷ []; numbers = 94 ∷ 95 ∷ []; text = [] }
-    ∷ record { call = Ask (Mask 3 3); days = []; numbers = 96 ∷ []; text = [] }
-    ∷ []
+    ≡ request (Enter (record { number = 11; candidate = 7; first = 1; last = 10; urgency = Grade 2 })) [] []
+    ∷ request (Enter (record { number = 12; candidate = 8; first = 3; last = 4; urgency = Reading (ofBits binary32 0x3F80_0000) })) [] []
+    ∷ request (Publish 1) [] [] ∷ request (Ask (Day 3)) [] (91 ∷ 92 ∷ 93 ∷ [])
+    ∷ request (Ask Days) (1 ∷ 4 ∷ []) (94 ∷ 95 ∷ []) ∷ request (Ask (Mask 3 3)) [] (96 ∷ []) ∷ []
 decoded = unfold decodeFrom codeAt nextOf callOf in refl
 
 -- one call fewer where the sixth has four places for its results
@@ -52,9 +43,9 @@ pub no-room : length (coded 29) ≡ 5
 no-room = unfold decodeFrom codeAt nextOf callOf in refl
 
 -- their answers, from a fresh service, in the lists
-pub answered : (over (resultsOf (run fresh (coded 35))) (results 35)
+pub answered : (over (resultsOf (run fresh (coded 35))) (replicate 35 77)
     ≡ replicate 15 0 ++ (0 ∷ 2 ∷ 0 ∷ 0 ∷ 0 ∷ []) ++ (0 ∷ 2 ∷ 0 ∷ 0 ∷ 0 ∷ []) ++ (11 ∷ 0 ∷ 0 ∷ 0 ∷ 0 ∷ []) ++ replicate 5 77)
-    × (over (numbersOf (run fresh (coded 35))) lentNumbers ≡ 11 ∷ 12 ∷ 93 ∷ 11 ∷ 12 ∷ 96 ∷ [])
+    × (over (numbersOf (run fresh (coded 35))) (91 ∷ 92 ∷ 93 ∷ 94 ∷ 95 ∷ 96 ∷ []) ≡ 11 ∷ 12 ∷ 93 ∷ 11 ∷ 12 ∷ 96 ∷ [])
 unfolding decodeFrom codeAt nextOf callOf written run settle effectOf ask enterRefusal insertBy publishedOf lastOf sortedBy listedBefore remember earlierOf stands isNan toBits ofBits
     onAny daysOk rising ticksFrom isSet filter comparisonsOf below keep count head next parent child leftSibling lastChild fitsAt start onPath formula
 answered = (refl, refl)

@@ -28,7 +28,8 @@ module _ (m : State) (q : Request) where
   published-kept other =
       let P : After → Type 0 = λ x. x .state .published ≡ m .published in
       settles P m q refl (effectOf (q .call) (q .days) m) (call-does (Comes P m q) (q .days) m
-      (record { refusing = λ n _. refl; asked = λ h l. refl; several = refl; masked = λ b k. refl }) refl (q .call) (λ _ l p. refl) (λ rule e. absurd (other rule e)))
+      (record { refusing = λ n _. refl; asked = λ h l. refl; several = refl; masked = λ b k. refl }) refl (q .call)
+      (λ _ l p. refl) (λ rule e. absurd (other rule e)))
 
   -- ---- The looks
 
