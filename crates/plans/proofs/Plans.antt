@@ -74,15 +74,15 @@ module _ (l : List Spell) (s : Spell) {n p : ℕ} (long : length l ≡ n) (few :
     idle-is : idle l s ≡ sameOf old s
     idle-is = rw at (idle-index s l (amends l s h .there))
 
-    pub amend-idles : idle l s ≡ true → planAmend s p old n d ≡ noPlan d accepted
-    amend-idles i = rw (← amend-refusal l s long at, eq-eqb (amendRefusal l s) accepted h, ← idle-is, i)
-
     pub amend-makes : idle l s ≡ false → Makes (planAmend s p old n d) l (replace s l) (replacing (s .number) l) d
     amend-makes i =
         let there = place-in l (s .number) long at (amends l s h .there) in
         let room : length (without p l) < 1024 = omega (arith, length-append (take p l) (drop (suc p) l), length-take p l, length-drop (suc p) l) in
         rw (← amend-refusal l s long at, eq-eqb (amendRefusal l s) accepted h, ← idle-is, i)
         (record { done = refl; list = put-in s (without p l) room ∙ ap (insert s) (removed-is (s .number) l at); notes = refl; entry = rw at; depth = refl })
+
+    pub amend-idles : idle l s ≡ true → planAmend s p old n d ≡ noPlan d accepted
+    amend-idles i = rw (← amend-refusal l s long at, eq-eqb (amendRefusal l s) accepted h, ← idle-is, i)
 
 -- ---- Strike of the number k
 
