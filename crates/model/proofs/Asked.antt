@@ -1,6 +1,6 @@
 -- The questions, each in one place: what an accepted one lists, and what its line in document 01 says of a spell that is listed. Assumes nothing.
-use Rattle.basis.proofs.Prelude.{_≡_, refl, _≤_, ℕ, List, List·Memᴰ, _++_, Bool, true, _↔_, _⊎_, inl, inr, drop, length, arith, _∙_, ap, sym, List·Memᴰ·cases-cons, List·Memᴰ·head, List·Memᴰ·not-nil, List·Memᴰ·tail, [], _∷_, map, _||_, false, false≢true, leb, length-map, le-leb, leb-true, both, either, by-cases, by-test}
-use Rattle.model.proofs.{Names.{accepted, Spell, listedBefore, orderedBy, distinct, ticks, Ask, onDay, onSpan, covers, onAny, filter, listed, comparisonsOf, Effect, gives, settle, several, ask, effectOf, stepOf, Question, reaches, State, After, Request, Answer}, Effects.{day-does, span-does, cover-does, several-does}, Claims.{listed-exactly, listed-ordered, listed-once}, Edits.one-spell}
+use Rattle.basis.proofs.Prelude.{_≡_, refl, _≤_, ℕ, List, List·Memᴰ, _++_, Bool, true, _↔_, _⊎_, inl, inr, drop, length, arith, _∙_, ap, sym, List·Memᴰ·cases-cons, List·Memᴰ·head, List·Memᴰ·not-nil, List·Memᴰ·tail, [], _∷_, map, _&&_, _||_, false, false≢true, leb, length-map, le-leb, leb-true, both, either, by-cases, by-test}
+use Rattle.model.proofs.{Names.{accepted, isDay, Spell, listedBefore, orderedBy, distinct, ticks, Ask, onDay, onSpan, covers, onAny, filter, listed, comparisonsOf, Effect, gives, settle, several, ask, effectOf, stepOf, Question, reaches, State, After, Request, Answer}, Effects.{cover-does, several-does}, Claims.{listed-exactly, listed-ordered, listed-once}, Edits.one-spell}
 use Rattle.model.specs.declared.Question.the-variants.{Day, Span, Cover, Days, Mask}
 
 -- ---- The answer of a question
@@ -26,14 +26,14 @@ module _ (m : State) (q : Request) where
   -- AN ACCEPTED DAY lists the spells with first ≤ d ≤ last, its looks by the formula
   pub day-lists : (d : ℕ) → stepOf (Ask (Day d)) m q .answer .refusal ≡ accepted
       → Lists (onDay d) (comparisonsOf d d (m .published)) 0 (stepOf (Ask (Day d)) m q .answer)
-  day-lists d = unfold effectOf settle in
-      day-does (Accepted (Lists (onDay d) (comparisonsOf d d (m .published)) 0)) (λ n bad r. absurd (bad r)) _ d _ (lists _ _ 0)
+  day-lists d = unfold effectOf ask settle in by-test (isDay d) (λ e. rw e (lists _ _ 0)) (λ e. rw e (λ r. absurd (omega arith)))
 
   -- AN ACCEPTED SPAN lists the spells with first ≤ b and last ≥ a, its looks by the formula
   pub span-lists : (a b : ℕ) → stepOf (Ask (Span a b)) m q .answer .refusal ≡ accepted
       → Lists (onSpan a b) (comparisonsOf b a (m .published)) 0 (stepOf (Ask (Span a b)) m q .answer)
-  span-lists a b = unfold effectOf settle in
-      span-does (Accepted (Lists (onSpan a b) (comparisonsOf b a (m .published)) 0)) (λ n bad r. absurd (bad r)) _ a b _ (lists _ _ 0)
+  span-lists a b = unfold effectOf ask settle in by-test (isDay a && isDay b)
+      (λ e. by-test (leb a b) (λ f. rw (e, f) (lists _ _ 0)) (λ f. rw (e, f) (λ r. absurd (omega arith))))
+      (λ e. rw e (λ r. absurd (omega arith)))
 
   -- the cover of a published spell x with the number k
   pub record Covers (k : ℕ) (a : Answer) : Type 0 where

@@ -48,15 +48,6 @@ module _ (F : Effect → Type 0) where
     pub masked : (base mask : ℕ) → F (gives (listed (onAny (ticks base mask)) p) 0 (length (ticks base mask)))
 
   module _ (no : Refusing) (p : List Spell) where
-    pub day-does : (d : ℕ) (ds : List ℕ) → F (reaching d d p) → F (ask (Day d) ds p)
-    day-does d ds asked = unfold ask in by-cases F (isDay d) (λ _. asked) (λ _. no offCalendar (λ e. omega arith))
-
-    pub span-does : (a b : ℕ) (ds : List ℕ) → F (reaching b a p) → F (ask (Span a b) ds p)
-    span-does a b ds asked = unfold ask in
-        by-cases F (isDay a && isDay b)
-        (λ _. by-cases F (leb a b) (λ _. asked) (λ _. no reversed (λ e. omega arith)))
-        (λ _. no offCalendar (λ e. omega arith))
-
     -- the spell that is asked for is in the list, and has the number
     pub cover-does : (k : ℕ) (l : List Spell) → ((x : Spell) → List·Memᴰ x l → x .number ≡ k → F (reaching (x .first) (x .last) p)) → F (cover k l p)
     unfolding cover
@@ -73,8 +64,11 @@ module _ (F : Effect → Type 0) where
         (λ _. no offCalendar (λ e. omega arith))
 
   pub asks-does : {ds : List ℕ} {p : List Spell} → Asking ds p → (w : Question) → F (ask w ds p)
-  asks-does {ds} {p} a (Day d) = day-does (a .refusing) p d ds (a .asked d d)
-  asks-does {ds} {p} a (Span b c) = span-does (a .refusing) p b c ds (a .asked c b)
+  asks-does {ds} {p} a (Day d) = unfold ask in by-cases F (isDay d) (λ _. a .asked d d) (λ _. a .refusing offCalendar (λ e. omega arith))
+  asks-does {ds} {p} a (Span b c) = unfold ask in
+      by-cases F (isDay b && isDay c)
+      (λ _. by-cases F (leb b c) (λ _. a .asked c b) (λ _. a .refusing reversed (λ e. omega arith)))
+      (λ _. a .refusing offCalendar (λ e. omega arith))
   asks-does {ds} {p} a (Cover k) = unfold ask in cover-does (a .refusing) p k p (λ x i e. a .asked (x .first) (x .last))
   asks-does {ds} {p} a Days = unfold ask in several-does (a .refusing) p ds 0 (a .several)
   asks-does {ds} {p} a (Mask b k) = unfold ask in several-does (a .refusing) p (ticks b k) (length (ticks b k)) (a .masked b k)
