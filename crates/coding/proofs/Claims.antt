@@ -37,7 +37,7 @@ spell-back : (s : Spell) → Fits (spellFields s)
     → record { number = low16 (s .number); candidate = low16 (s .candidate); first = low16 (s .first); last = low16 (s .last); urgency = urgencyOf (kindOf (s .urgency)) (valueOf (s .urgency)) } ≡ s
 spell-back s f = rw (mod-eq-of-lt (f .number), mod-eq-of-lt (f .candidate), mod-eq-of-lt (f .first), mod-eq-of-lt (f .last), urgency-back (s .urgency) (f .value))
 
-call-back : (c : Call) (d n t : ℕ) (rest : List ℕ) → Fits (fieldsOf c) 
+call-back : (c : Call) (d n t : ℕ) (rest : List ℕ) → Fits (fieldsOf c)
     → (callOf (codeAt (wordsOf (opOf c) (fieldsOf c) d n t ++ rest) 0) ≡ Go c) × (opOf c ≤ 11)
 unfolding codeAt callOf
 call-back (Enter s) d n t rest f = (ap (λ (x : Spell). Go (Enter x)) (spell-back s f), omega arith)

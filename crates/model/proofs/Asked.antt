@@ -1,5 +1,5 @@
 -- The questions, each in one place: what an accepted one lists, and what its line in document 01 says of a spell that is listed. Assumes nothing.
-use Rattle.basis.proofs.Prelude.{_≡_, refl, _≤_, ℕ, List, List·Memᴰ, _++_, Bool, true, _↔_, _⊎_, inl, inr, drop, length, arith, _∙_, ap, sym, List·Memᴰ·cases-cons, List·Memᴰ·head, List·Memᴰ·not-nil, List·Memᴰ·tail, [], _∷_, map, _&&_, _||_, false, false≢true, leb, length-map, le-leb, leb-true, both, either, by-cases, by-test}
+use Rattle.basis.proofs.Prelude.{_≡_, refl, _≤_, ℕ, List, List·Memᴰ, _++_, Bool, true, _↔_, ⊎-elim, drop, length, arith, _∙_, ap, sym, List·Memᴰ·cases-cons, List·Memᴰ·head, List·Memᴰ·not-nil, List·Memᴰ·tail, [], _∷_, map, _&&_, _||_, false, false≢true, leb, length-map, le-leb, leb-true, both, either, by-cases, by-test}
 use Rattle.model.proofs.{Names.{accepted, isDay, Spell, listedBefore, orderedBy, distinct, ticks, Ask, onDay, onSpan, covers, onAny, filter, listed, comparisonsOf, Effect, gives, settle, several, ask, effectOf, stepOf, Question, reaches, State, After, Request, Answer}, Effects.{cover-does, several-does}, Claims.{listed-exactly, listed-ordered, listed-once}, Edits.one-spell}
 use Rattle.model.specs.declared.Question.the-variants.{Day, Span, Cover, Days, Mask}
 
@@ -85,17 +85,17 @@ pub record Answered (m : State) (q : Request) (w : Question) (a : Answer) : Type
   pub numbers : a .numbers ≡ map (λ (s : Spell). s .number) spells ++ drop (a .count) (q .numbers)
 
 reaching : (h l : ℕ) (x : Spell) → (reaches h l x ≡ true) ↔ ((x .first ≤ h) × (l ≤ x .last))
-reaching h l x =
-    (λ e. let p = both _ (leb l (x .last)) e in (leb-true (x .first) h (p .0), leb-true l (x .last) (p .1)),
-    λ f. rw (le-leb (x .first) h (f .0), le-leb l (x .last) (f .1)))
+reaching h l x = (
+  λ e. let p = both _ (leb l (x .last)) e in (leb-true (x .first) h (p .0), leb-true l (x .last) (p .1)),
+  λ f. rw (le-leb (x .first) h (f .0), le-leb l (x .last) (f .1)),
+)
 
 on-any : (ds : List ℕ) (x : Spell) → onAny ds x ≡ true → Contains ds x
 unfolding onAny
 on-any [] x e = absurd (false≢true e)
-on-any (d ∷ ds) x e = elim (either (onDay d x) (onAny ds x) e) [
-  | inl f ↦ let r = reaching d d x .0 f in (d, List·Memᴰ·head refl, r .0, r .1)
-  | inr f ↦ let r = on-any ds x f in (r .0, List·Memᴰ·tail (r .1), r .2, r .3)
-]
+on-any (d ∷ ds) x e = ⊎-elim
+    (λ f. let r = reaching d d x .0 f in (d, List·Memᴰ·head refl, r .0, r .1))
+    (λ f. let r = on-any ds x f in (r .0, List·Memᴰ·tail (r .1), r .2, r .3)) (either (onDay d x) (onAny ds x) e)
 
 any-on : (ds : List ℕ) (x : Spell) (d : ℕ) → List·Memᴰ d ds → (x .first ≤ d) × (d ≤ x .last) → onAny ds x ≡ true
 unfolding onAny

@@ -1,5 +1,5 @@
 -- The spells of a list that pass a test: exactly those, in the order, each number once. Assumes nothing.
-use Rattle.basis.proofs.Prelude.{_∙_, _≡_, ap, refl, _≤_, suc, ℕ, List, List·Memᴰ, List·Memᴰ·cases-cons, List·Memᴰ·head, List·Memᴰ·not-nil, List·Memᴰ·tail, [], _∷_, Bool, false, true, inl, inr, eqb, length, length-map, arith, by-cases, by-test}
+use Rattle.basis.proofs.Prelude.{_∙_, _≡_, ap, refl, _≤_, suc, ℕ, List, List·Memᴰ, List·Memᴰ·cases-cons, List·Memᴰ·head, List·Memᴰ·not-nil, List·Memᴰ·tail, [], _∷_, Bool, false, true, ⊎-elim, eqb, length, length-map, arith, by-cases, by-test}
 use Rattle.model.proofs.Names.{Spell, orderedBy, stands, distinct, Each, OrderlyBy, StrictOrder, neither, alone, ordered-tail, ordered-first, ordered-cons, filter, listed}
 
 module _ (t : Spell → Bool) where
@@ -9,13 +9,10 @@ module _ (t : Spell → Bool) where
   unfolding filter
   filter-in [] x i = absurd (List·Memᴰ·not-nil i)
   filter-in (y ∷ l) x i =
-      let later = filter-in l x in
+      let later : List·Memᴰ x (filter t l) → List·Memᴰ x (y ∷ l) × (t x ≡ true) =
+      λ j. (List·Memᴰ·tail (filter-in l x j .0), filter-in l x j .1) in
       by-cases (λ (r : List Spell). List·Memᴰ x r → List·Memᴰ x (y ∷ l) × (t x ≡ true)) (t y)
-      (λ e i. elim (List·Memᴰ·cases-cons {b = y} {l = filter t l} i) [
-        | inl s ↦ (List·Memᴰ·head s, ap t s ∙ e)
-        | inr j ↦ (List·Memᴰ·tail (later j .0), later j .1)
-      ])
-      (λ _ j. (List·Memᴰ·tail (later j .0), later j .1)) i
+      (λ e i. ⊎-elim (λ s. (List·Memᴰ·head s, ap t s ∙ e)) later (List·Memᴰ·cases-cons i)) (λ _. later) i
 
   pub in-filter : (l : List Spell) (x : Spell) → List·Memᴰ x l → t x ≡ true → List·Memᴰ x (filter t l)
   unfolding filter

@@ -16,10 +16,7 @@ module _ {A : Type 0} (t : A → A → Bool) where
   unfolding insertBy
   of-insert s [] x i = List·Memᴰ·cases-cons i
   of-insert s (y ∷ l) x i = by-cases (λ (r : List A). List·Memᴰ x r → (x ≡ s) ⊎ List·Memᴰ x (y ∷ l)) (t y s)
-      (λ _ i. elim (List·Memᴰ·cases-cons {b = y} {l = insertBy t s l} i) [
-        | inl e ↦ inr (List·Memᴰ·head e)
-        | inr j ↦ elim (of-insert s l x j) [ inl e ↦ inl e | inr k ↦ inr (List·Memᴰ·tail k) ]
-      ])
+      (λ _ i. ⊎-elim (λ e. inr (List·Memᴰ·head e)) (λ j. ⊎-map (λ e. e) List·Memᴰ·tail (of-insert s l x j)) (List·Memᴰ·cases-cons i))
       (λ _ i. List·Memᴰ·cases-cons i) i
 
   pub in-insert : (s : A) (l : List A) (x : A) → List·Memᴰ x (insertBy t s l) ↔ ((x ≡ s) ⊎ List·Memᴰ x l)

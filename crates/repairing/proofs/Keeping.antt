@@ -93,9 +93,10 @@ whole (x ∷ m) before e d h =
     let some = there t x rest read in
     let later = whole m (before ++ (x ∷ [])) (e .1) (rw append-snoc d) (rw append-snoc h) in
     let kept = keeps-it before x rest p in
-    let ends = line-ends t x rest read in
-    (kept-first before t (found x rest) some read ∙ rw (kept, ends) (later .0 ∙ append-snoc before x m),
-    λ n. rw (verdicts-first before t (found x rest) some read, verdict-none before x rest p, kept, ends) (later .1 (suc n)))
+    let ends = line-ends t x rest read in (
+      kept-first before t (found x rest) some read ∙ rw (kept, ends) (later .0 ∙ append-snoc before x m),
+      λ n. rw (verdicts-first before t (found x rest) some read, verdict-none before x rest p, kept, ends) (later .1 (suc n)),
+    )
 
 pub good-kept : (l : List Spell) → Good l → (keptOf (textOnto l []) ≡ l) × (remarksOf (textOnto l []) ≡ [])
 good-kept l g = let w = whole l [] (g .each) (g .unique) (g .few) in (w .0, w .1 1)
