@@ -150,5 +150,6 @@ module _ (base mask : ℕ) (held : List ℕ) {r : Bool} (on : r ≡ daysOk (tick
   pub is-on : not r ≡ false → daysOk (ticks base mask) ≡ true
   is-on h = sym on ∙ not-false _ h
 
-  pub all : not r ≡ false → mask < 2 ^ 64 → {days : List ℕ} → days ≡ over (ticks base mask) held → Answer base mask (All (ones mask)) held days
+  pub all : not r ≡ false → mask < 2 ^ 64 → {days : List ℕ} → days ≡ over (ticks base mask) held
+      → Answer base mask (All (ones mask)) held days
   all h fits put = record { says = rw (is-on h, as-many base mask fits); holds = rw (is-on h) put }
