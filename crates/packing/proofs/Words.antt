@@ -1,20 +1,25 @@
 -- A spell's words read back as the spell. Assumes nothing.
-use Rattle.basis.proofs.Prelude.{_≡_, ap, refl, _+_, _<_, _≤_, ℕ, List, _++_, true, leb, drop, getD, length, length-append, length-drop, set, getD-drop, add-zero, div-add-mod', add-five, add-four, add-one, add-six, add-three, add-two, arith, le-leb, leb-true, lt-leb, both}
+use Rattle.basis.proofs.Prelude.{_≡_, ap, refl, _+_, _-_, _<_, _≤_, ℕ, List, _++_, true, leb, drop, getD, length, length-append, length-drop, List·getD-append, set, getD-drop, add-zero, div-add-mod', add-five, add-four, add-one, add-six, add-three, add-two, arith, le-leb, leb-true, lt-leb, both}
 use lib.Ieee.{binary32, Bits.ofBits-toBits}
 use mir.Val.{Val}
 use denote.Laws.{Is}
 use Rattle.spell.{specs.{declared.{Urgency.{Urgency, the-variants.{Grade, Reading}}, Spell.Spell}, Entry.urgencyOk, Listing.{HeldUrgency, Sound}, Blank.blank}, proofs.{Entered.entered, Urgency.the-row as urgency-row, Spell.the-row as spell-row}}
-use Rattle.packing.specs.{Words.{kindOf, valueOf, urgencyOf, Narrow, low, high, joined, spellWords, spellOf}, Blocks.put}
+use Rattle.packing.specs.{Layout.spellWidth, Words.{kindOf, valueOf, urgencyOf, Narrow, low, high, joined, spellWords, spellOf}, Blocks.{Put}}
 use Rattle.packing.proofs.Blocks.{put-sets}
 
-pub spell-long : (s : Spell) → length (spellWords s) ≡ 7
+pub spell-long : (s : Spell) → length (spellWords s) ≡ spellWidth
 unfolding spellWords
 spell-long s = refl
 
 -- the words after a spell's own are not read
+pub spell-near : (x r : List ℕ) → spellWidth ≤ length x → spellOf (x ++ r) ≡ spellOf x
+unfolding spellOf
+spell-near x r h =
+    rw (le-leb spellWidth (length (x ++ r)) (omega (arith, length-append x r)), le-leb spellWidth (length x) h)
+    (rw (List·getD-append x r 0 0 (omega arith), List·getD-append x r 0 1 (omega arith), List·getD-append x r 0 2 (omega arith), List·getD-append x r 0 3 (omega arith), List·getD-append x r 0 4 (omega arith), List·getD-append x r 0 5 (omega arith), List·getD-append x r 0 6 (omega arith)))
+
 pub spell-reads : (s : Spell) (r : List ℕ) → spellOf (spellWords s ++ r) ≡ spellOf (spellWords s)
-unfolding spellOf spellWords
-spell-reads s r = simp (le-leb 7 (length (spellWords s ++ r)) (omega (arith, length-append (spellWords s) r, spell-long s)))
+spell-reads s r = spell-near (spellWords s) r (omega (arith, spell-long s))
 
 -- the halves of a value, joined
 halves : (v : ℕ) → joined (low v) (high v) ≡ v
@@ -46,27 +51,37 @@ held (Reading x) vs p = rw (p .1 .1 .1 .1 .0 .1) tt
 pub spell-held : (s : Spell) (vs : List Val) → Is spell-row s vs → Narrow (s .urgency)
 spell-held s vs p = held (s .urgency) _ (p .1 .1 .1 .1 .1 .1 .0)
 
--- ---- As the code reads and writes it
+-- ---- As the code reads and writes it: where there is room for a spell's words, and where there is none
 
--- the spell at a place, where there are seven words, and where there are fewer
-pub spell-at : (l : List ℕ) (at : ℕ) → at + 7 ≤ length l → spellOf (drop at l) ≡ record {
-  number = getD l at 0;
-  candidate = getD l (at + 1) 0;
-  first = getD l (at + 2) 0;
-  last = getD l (at + 3) 0;
-  urgency = urgencyOf (getD l (at + 4) 0) (joined (getD l (at + 5) 0) (getD l (at + 6) 0));
+-- the code's tests for k words at a place of n
+module _ (n at k : ℕ) where
+  pub fits : k ≤ n → at ≤ n - k → at + k ≤ n
+  fits h j = omega arith
+
+  pub too-few : n < k → n < at + k
+  too-few h = omega arith
+
+  pub too-far : n - k < at → n < at + k
+  too-far h = omega arith
+
+pub ruleset room = (fits, too-few, too-far)
+
+pub spell-read : (l : List ℕ) (at : ℕ) {u : Urgency} {v : ℕ} → v ≡ joined (getD l (at + 5) 0) (getD l (at + 6) 0) → u ≡ urgencyOf (getD l (at + 4) 0) v
+    → at + spellWidth ≤ length l
+    → record { number = getD l at 0; candidate = getD l (at + 1) 0; first = getD l (at + 2) 0; last = getD l (at + 3) 0; urgency = u } ≡ spellOf (drop at l)
+unfolding spellOf
+spell-read l at joins is h = simp (is, joins, le-leb spellWidth (length (drop at l)) (omega (arith, length-drop at l)), getD-drop, add-zero)
+
+pub spell-none : (l : List ℕ) (at : ℕ) {s : Spell} → length l < at + spellWidth → s ≡ blank → s ≡ spellOf (drop at l)
+unfolding spellOf
+spell-none l at h is = simp (is, lt-leb spellWidth (length (drop at l)) (omega (arith, length-drop at l)))
+
+-- seven stores put its words
+pub spell-put : (s : Spell) (l : List ℕ) (at : ℕ) (vs : List Val) {kind value half other : ℕ}
+    → Is spell-row s vs → at + spellWidth ≤ length l → kind ≡ kindOf (s .urgency) → value ≡ valueOf (s .urgency) → half ≡ low value → other ≡ high value
+    → Put spellWords spellOf s at l
+    (set (set (set (set (set (set (set l at (s .number)) (at + 1) (s .candidate)) (at + 2) (s .first)) (at + 3) (s .last)) (at + 4) kind) (at + 5) half) (at + 6) other)
+spell-put s l at vs known h ek ev el eh = record {
+  words = rw (ek, el, eh, ev, add-one, add-two, add-three, add-four, add-five, add-six) (unfold spellWords in put-sets at (spellWords s) l h);
+  back = spell-back s (spell-held s vs known);
 }
-unfolding spellOf
-spell-at l at h = simp (le-leb 7 (length (drop at l)) (omega (arith, length-drop at l)), getD-drop, add-zero)
-
-pub spell-none : (l : List ℕ) (at : ℕ) → length l < at + 7 → spellOf (drop at l) ≡ blank
-unfolding spellOf
-spell-none l at h = simp (lt-leb 7 (length (drop at l)) (omega (arith, length-drop at l)))
-
--- seven stores put a spell's words
-pub seven-stores : (s : Spell) (l : List ℕ) (at : ℕ) → at + 7 ≤ length l
-    → set (set (set (set (set (set (set l at (s .number)) (at + 1) (s .candidate)) (at + 2) (s .first)) (at + 3) (s .last)) (at + 4) (kindOf (s .urgency)))
-    (at + 5) (low (valueOf (s .urgency)))) (at + 6) (high (valueOf (s .urgency)))
-    ≡ put at (spellWords s) l
-unfolding spellWords
-seven-stores s l at h = rw (add-one, add-two, add-three, add-four, add-five, add-six) (put-sets at (spellWords s) l h)

@@ -9,6 +9,7 @@ use Rattle.spell.specs.declared.Urgency.{Urgency}
 use Rattle.spell.specs.declared.Urgency.the-variants.{Grade, Reading}
 use Rattle.spell.specs.declared.Spell.{Spell}
 use Rattle.spell.specs.Blank.{blank}
+use Rattle.packing.specs.Layout.{spellWidth}
 
 -- ---- An urgency in two numbers
 
@@ -49,7 +50,7 @@ spellWords s =
 -- the spell of the first seven words; one of zeros where there are fewer
 unfoldable pub spellOf : List ℕ → Spell
 spellOf l =
-    cond (leb 7 (length l))
+    cond (leb spellWidth (length l))
     (record {
       number = getD l 0 0;
       candidate = getD l 1 0;

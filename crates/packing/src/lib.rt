@@ -3,9 +3,32 @@
 ghost use mathlib.Core.Path.{_≡_};
 ghost use lib.ListN.{drop};
 ghost use Rattle.packing.specs.Blocks.{parts, Put, PutAll};
+ghost use Rattle.packing.specs.Layout.{spellWidth};
 ghost use Rattle.packing.specs.Words.{kindOf, valueOf, urgencyOf, low, high, joined, spellWords, spellOf};
 use spell::Spell;
 use spell::Urgency;
+
+// ---- The layout of a standing list's words: specs/Layout.antt has the same by name
+
+// The words of a spell, and of an entry of the journal.
+pub const SPELL: usize = 7;
+
+pub const ENTRY: usize = SPELL + 2;
+
+// The words of all spells, and of the journal behind them.
+pub const SPELLS: usize = 1024 * SPELL;
+
+pub const JOURNAL: usize = 64 * ENTRY;
+
+// Where the last entry of a full journal begins in it.
+pub const LAST_ENTRY: usize = 63 * ENTRY;
+
+// Where the count and the depth stand, and the words in all.
+pub const COUNT: usize = SPELLS + JOURNAL;
+
+pub const DEPTH: usize = COUNT + 1;
+
+pub const STANDING: usize = DEPTH + 1;
 
 // ---- An urgency in two numbers
 
@@ -69,10 +92,10 @@ fn join(a: u16, b: u16) -> u32
 pub fn put_spell(s: Spell, out: &mut [u16], at: usize)
     ensures { λ _. ⌜ Put spellWords spellOf s at (now (out .entry)) (now (out .exit)) ⌝ }
 {
-    if out.len() < 7 {
+    if out.len() < SPELL {
         return;
     }
-    if out.len() - 7 < at {
+    if out.len() - SPELL < at {
         return;
     }
     let u = s.urgency;
@@ -93,10 +116,10 @@ pub fn put_spell(s: Spell, out: &mut [u16], at: usize)
 pub fn spell_at(words: &[u16], at: usize) -> Spell
     ensures { λ r. ⌜ r ≡ spellOf (drop at (now (words .entry))) ⌝ }
 {
-    if words.len() < 7 {
+    if words.len() < SPELL {
         return spell_checks::blank();
     }
-    if words.len() - 7 < at {
+    if words.len() - SPELL < at {
         return spell_checks::blank();
     }
     let value = join(words[at + 5], words[at + 6]);
@@ -116,25 +139,25 @@ pub fn spell_at(words: &[u16], at: usize) -> Spell
 pub fn put_spells(spells: [Spell; 1024], out: &mut [u16])
     ensures { λ _. ⌜ PutAll spellWords spellOf spells (now (out .entry)) (now (out .exit)) ⌝ }
 {
-    if out.len() < 7168 {
+    if out.len() < SPELLS {
         return;
     }
     let mut i = 0;
     while i < 1024 {
         let x = spells[i];
-        put_spell(x, out, 7 * i);
+        put_spell(x, out, SPELL * i);
         i += 1;
     }
 }
 
 // The spells of the first words.
 pub fn spells_at(words: &[u16]) -> [Spell; 1024]
-    ensures { λ r. ⌜ r ≡ parts 7 spellOf 1024 (now (words .entry)) ⌝ }
+    ensures { λ r. ⌜ r ≡ parts spellWidth spellOf 1024 (now (words .entry)) ⌝ }
 {
     let mut spells = [spell_checks::blank(); 1024];
     let mut i = 0;
     while i < 1024 {
-        spells[i] = spell_at(words, 7 * i);
+        spells[i] = spell_at(words, SPELL * i);
         i += 1;
     }
     spells

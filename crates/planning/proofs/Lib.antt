@@ -1,4 +1,3 @@
 pub mod Held
 pub mod Checks
-pub mod Calls
 mod Names

@@ -1,54 +1,9 @@
 -- What each call's result is, in terms of the account: pure facts, no code. Assumes nothing.
 use Rattle.basis.proofs.Prelude.{_∙_, _≡_, ap, refl, sym, _-_, _<_, _≤_, ℕ, List, [], _∷_, reverse-reverse, false, true, drop, length, length-replicate, length-reverse, length-take, take, length-take-le, arith}
-use Rattle.standing.proofs.{Names.{over, own-over, accepted, unknownNumber, noHistory, Spell, earlierOf, stands, Sound, Good, text-order, blank, insert, remove, replace, idle, enterRefusal, amendRefusal, strikeRefusal, takeBackRefusal, frontOr, restOf, Undo, Standing, listOf, entries, undo, pastOf, pasts, Goods, Wf, Fresh, Edits, afterTakeBack, TakesBack, relisted, holding, freshStanding, entering, replacing, noted, newestOf, blankEntry, insert-remove, length-insert, removed-gone, orderly-none, orderly-insert, orderly-remove, orderly-replace, remove-none, remove-insert, enters, amends, pop}, Places.{same, over-same, list-over, past-over, wf-over}, Past.{refused, edited}}
+use Rattle.standing.proofs.{Names.{over, own-over, accepted, unknownNumber, noHistory, Spell, earlierOf, stands, Sound, Good, text-order, blank, insert, remove, replace, idle, enterRefusal, amendRefusal, strikeRefusal, takeBackRefusal, frontOr, restOf, Undo, Standing, listOf, entries, undo, pastOf, pasts, Goods, Wf, Fresh, Edits, afterTakeBack, TakesBack, relisted, holding, freshStanding, entering, replacing, noted, newestOf, blankEntry, insert-remove, length-insert, removed-gone, orderly-none, orderly-insert, orderly-remove, orderly-replace, remove-none, remove-insert, enters, amends, pop}, Places.{same, over-same, list-over, past-over, wf-over}}
 
 pub list-length : {st : Standing} → Wf st → length (listOf st) ≡ st .count
 list-length {st} w = length-take-le (st .count) (st .spells) (omega (arith, w .places, w .count-in))
-
--- ---- Enter
-
-pub enter-made : {st : Standing} {s : Spell} → Wf st → Sound s → enterRefusal (listOf st) s ≡ accepted
-    → Edits st (record { standing = holding st (insert s (listOf st)) (noted (entering s) (entries st)); refusal = accepted }) false (enterRefusal (listOf st) s) (insert s (listOf st)) (entering s)
-enter-made {st} {s} w sound done =
-    let e = enters (listOf st) s done in
-    edited st (enterRefusal (listOf st) s) (insert s (listOf st)) (entering s) w
-    (orderly-insert text-order Sound s (listOf st) (w .good) sound (e .free) (e .room))
-    (unfold undo in remove-insert earlierOf s (listOf st) (e .free))
-    done
-
--- ---- Strike and amend: the spell of the number k goes
-
-put-back : {st : Standing} (w : Wf st) (k : ℕ) → stands (listOf st) k ≡ true → insert (replacing k (listOf st) .spell) (remove k (listOf st)) ≡ listOf st
-put-back {st} w k there = insert-remove k (listOf st) (w .good .in-order) there
-
-pub strike-made : {st : Standing} (w : Wf st) (k : ℕ) → stands (listOf st) k ≡ true
-    → Edits st (record { standing = holding st (remove k (listOf st)) (noted (replacing k (listOf st)) (entries st)); refusal = accepted }) false (strikeRefusal (listOf st) k) (remove k (listOf st)) (replacing k (listOf st))
-strike-made {st} w k there =
-    edited st (strikeRefusal (listOf st) k) (remove k (listOf st)) (replacing k (listOf st)) w
-    (orderly-remove text-order Sound k (listOf st) (w .good) there)
-    (unfold undo in rw (remove-none k (remove k (listOf st)) (removed-gone k (listOf st) (w .good .unique))) (put-back w k there))
-    (unfold strikeRefusal in rw there)
-
-pub strike-unknown : {st : Standing} (w : Wf st) (k : ℕ) → stands (listOf st) k ≡ false
-    → Edits st (record { standing = st; refusal = unknownNumber }) false (strikeRefusal (listOf st) k) (remove k (listOf st)) (replacing k (listOf st))
-strike-unknown {st} w k gone = refused false w (λ z. omega arith) (unfold strikeRefusal in rw gone)
-
-pub amend-made : {st : Standing} {s : Spell} (w : Wf st) → Sound s → amendRefusal (listOf st) s ≡ accepted → idle (listOf st) s ≡ false
-    → Edits st (record { standing = holding st (replace s (listOf st)) (noted (replacing (s .number) (listOf st)) (entries st)); refusal = accepted })
-    (idle (listOf st) s)
-    (amendRefusal (listOf st) s)
-    (replace s (listOf st))
-    (replacing (s .number) (listOf st))
-amend-made {st} {s} w sound done real =
-    let k = s .number in
-    let less = remove k (listOf st) in
-    let there = amends (listOf st) s done .there in
-    let free = removed-gone k (listOf st) (w .good .unique) in
-    rw real
-    (edited st (amendRefusal (listOf st) s) (insert s less) (replacing k (listOf st)) w
-    (orderly-replace text-order Sound s (listOf st) (w .good) sound there)
-    (unfold undo in rw (remove-insert earlierOf s less free) (put-back w k there))
-    done)
 
 -- ---- Take back
 

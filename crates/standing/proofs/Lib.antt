@@ -1,5 +1,4 @@
 pub mod Places
-pub mod Past
 pub mod Calls
 pub mod Plans
 pub mod Claims

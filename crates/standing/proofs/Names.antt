@@ -2,14 +2,14 @@
 pub use Rattle.buffer.{proofs.Over.{over-blank, over-length, over-twice, own-over}, specs.Buffer.over}
 pub use Rattle.model.{proofs.{Checks.{amends, enters}, Edits.{length-insert, orderly-insert, orderly-none, orderly-remove, orderly-replace, remove-insert, remove-none, removed-gone}}, specs.{Edits.{insert, replace}, declared.Call.{Call, the-variants.{Enter, Amend, Strike, TakeBack, Publish, Write, Ask}}}}
 unfoldable pub use Rattle.model.specs.{Edits.{amendRefusal, enterRefusal, frontOr, idle, insertBy, remember, remove, restOf, strikeRefusal, takeBackRefusal}, Model.begun}
-pub use Rattle.packing.{proofs.{Blocks.{every-map, put-first, read-back, written-length}, Words.{spell-back, spell-long, spell-reads}}, specs.{Blocks.PutAll, Words.Narrow}}
+pub use Rattle.packing.{proofs.{Blocks.{every-map, parts-near, put-first, put-long, read-back, written-length}, Words.{spell-back, spell-long, spell-near}}, specs.{Layout.{spellWidth, entryWidth, spellsLength, journalLength, countPlace, depthPlace, standingLength}, Blocks.PutAll, Words.Narrow}}
 unfoldable pub use Rattle.packing.specs.{Blocks.{Every, parts, written}, Words.{spellOf, spellWords}}
 pub use Rattle.refusal.specs.Table.{accepted, noHistory, unknownNumber}
 pub use Rattle.register.{proofs.Texts.written-read, specs.Text.{Register, bad, good}}
 unfoldable pub use Rattle.register.specs.{Answers.readingOf, Text.readText}
 pub use Rattle.spell.{proofs.Order.text-order, specs.{Blank.blank, Listing.{Good, Sound}, declared.{Spell.Spell, Urgency.the-variants.Grade}}}
 unfoldable pub use Rattle.spell.specs.{Listing.{Each, stands}, Order.earlierOf, Same.sameOf}
-pub use Rattle.journal.{proofs.{Journal.pop, Past.{goods-take, length-past, past-pushed}, Words.{entry-back, entry-long, entry-reads}}, specs.{Journal.{blankEntry, noting, newestOf}, declared.Undo.Undo}}
+pub use Rattle.journal.{proofs.{Journal.pop, Past.{goods-take, length-past, past-pushed}, Words.{entry-back, entry-long}}, specs.{Journal.{blankEntry, noting, newestOf}, declared.Undo.Undo}}
 unfoldable pub use Rattle.journal.specs.Words.{entryOf, entryWords}
 pub use Rattle.spell_places.{proofs.{Found.insert-remove, Changing.counted-is}, specs.{List.{changing, countedOf, putting, without}, Search.{foundIn, standsAt}, declared.Located.Located}}
 unfoldable pub use Rattle.spell_places.specs.Search.{lead}

@@ -1,79 +1,123 @@
--- The words of a standing list read back as it. Assumes nothing.
-use Rattle.basis.proofs.Prelude.{_∙_, _≡_, ap, refl, sym, _+_, _-_, ℕ, List, [], _++_, _∷_, append-assoc, append-nil, drop, drop-of-length-le, getD, length, length-append, length-drop, set, take, drop-at, getD-append-add, getD-at, sets-eq, take-all, take-at, arith}
-use Rattle.standing.proofs.Names.{written, parts, Every, PutAll, spellWords, spellOf, put-first, written-length, read-back, spell-long, spell-reads, Standing, entryWords, entryOf, entry-long, entry-reads, packed, unpacked, Packs}
+-- A standing list's words in their parts: the array, the journal, the count and the depth; and that they read back as it. Assumes nothing.
+use Rattle.basis.proofs.Prelude.{_∙_, _≡_, ap, sym, _+_, _≤_, ℕ, List, [], _++_, _∷_, append-assoc, append-nil, drop, drop-append-le, drop-of-length-le, getD, length, length-append, length-drop, length-take-le, List·getD-append, set, take, take-append-drop, drop-at, getD-at, getD-drop, sets, sets-eq, take-at, arith, le-leb}
+use lib.Seq.{set-getD}
+use Rattle.standing.proofs.Names.{spellWidth, entryWidth, spellsLength, journalLength, countPlace, depthPlace, standingLength, written, parts, Every, PutAll, spellWords, spellOf, spell-near, put-first, put-long, written-length, parts-near, read-back, spell-long, Standing, entryWords, entryOf, entry-long, packed, unpacked, Packs, Spell, Undo}
 
--- as the code reads it: the journal from the part after the array
-pub read-standing : (l : List ℕ)
-    → record { spells = parts 7 spellOf 1024 l; count = getD l 7744 0; journal = parts 9 entryOf 64 (take (length l - 7168) (drop 7168 l)); depth = getD l 7745 0 }
-    ≡ unpacked l
-unfolding unpacked
-read-standing l = rw (take-all (length l - 7168) (drop 7168 l) (omega (arith, length-drop 7168 l)))
+-- the words of an array and of a journal, with the count and the depth
+abbrev pub assembled : List ℕ → List ℕ → ℕ → ℕ → List ℕ
+assembled a b n d = a ++ (b ++ (n ∷ d ∷ []))
+
+abbrev pub arrayIn : List ℕ → List ℕ
+arrayIn x = take spellsLength x
+
+abbrev pub journalIn : List ℕ → List ℕ
+journalIn x = take journalLength (drop spellsLength x)
+
+-- as the code puts a journal back
+abbrev pub rejoined : List ℕ → List ℕ → List ℕ
+rejoined x b = take spellsLength x ++ (b ++ drop journalLength (drop spellsLength x))
+
+-- the words after an entry's own are not read
+pub entry-near : (x r : List ℕ) → entryWidth ≤ length x → entryOf (x ++ r) ≡ entryOf x
+unfolding entryOf
+entry-near x r h =
+    rw (le-leb entryWidth (length (x ++ r)) (omega (arith, length-append x r)), le-leb entryWidth (length x) h)
+    (rw (List·getD-append x r 0 0 (omega arith), List·getD-append x r 0 1 (omega arith), drop-append-le 2 x r (omega arith), spell-near (drop 2 x) r (omega (arith, length-drop 2 x))))
+
+-- stores in the last places
+ends : (t l : List ℕ) (i : ℕ) → i + length t ≡ length l → sets l i t ≡ take i l ++ t
+ends t l i h = sets-eq t l i (omega arith) ∙ rw (drop-of-length-le l {i = i + length t} (omega arith), append-nil)
+
+-- ---- The words of any standing list
+
+module _ (x : List ℕ) (whole : length x ≡ standingLength) where
+  pub array-long : length (arrayIn x) ≡ spellsLength
+  array-long = length-take-le spellsLength x (omega arith)
+
+  pub journal-long : length (journalIn x) ≡ journalLength
+  journal-long = length-take-le journalLength (drop spellsLength x) (omega (arith, length-drop spellsLength x))
+
+  pub array-is : parts spellWidth spellOf 1024 (arrayIn x) ≡ parts spellWidth spellOf 1024 x
+  array-is =
+      sym (parts-near spellWidth spellOf spell-near 1024 (arrayIn x) (drop spellsLength x) (omega (arith, array-long))) ∙ rw (take-append-drop spellsLength x)
+
+  pub journal-is : parts entryWidth entryOf 64 (journalIn x) ≡ parts entryWidth entryOf 64 (drop spellsLength x)
+  journal-is =
+      sym (parts-near entryWidth entryOf entry-near 64 (journalIn x) (drop journalLength (drop spellsLength x)) (omega (arith, journal-long)))
+      ∙ rw (take-append-drop journalLength (drop spellsLength x))
+
+  -- as the code reads it
+  pub read-standing : {spells : List Spell} {journal : List Undo} → spells ≡ parts spellWidth spellOf 1024 x → journal ≡ parts entryWidth entryOf 64 (journalIn x)
+      → record { spells = spells; count = getD x countPlace 0; journal = journal; depth = getD x depthPlace 0 } ≡ unpacked x
+  read-standing s j = unfold unpacked in rw (s, j, journal-is)
+
+  module _ (b : List ℕ) (long : length b ≡ journalLength) where
+    pub rejoined-long : length (rejoined x b) ≡ standingLength
+    rejoined-long =
+        let rest = drop journalLength (drop spellsLength x) in
+        omega (arith, length-append (arrayIn x) (b ++ rest), length-append b rest, array-long, length-drop journalLength (drop spellsLength x), length-drop spellsLength x)
+
+    pub put-back : (n d : ℕ) → set (set (rejoined x b) countPlace n) depthPlace d ≡ assembled (arrayIn x) b n d
+    put-back n d =
+        let rest = drop journalLength (drop spellsLength x) in
+        let t : List ℕ = n ∷ d ∷ [] in
+        ends t (rejoined x b) countPlace (omega (arith, rejoined-long))
+        ∙ rw (← append-assoc (arrayIn x) b rest, take-at (arrayIn x ++ b) rest countPlace (omega (arith, length-append (arrayIn x) b, array-long)))
+        (append-assoc (arrayIn x) b t)
+
+  pub is-assembled : x ≡ assembled (arrayIn x) (journalIn x) (getD x countPlace 0) (getD x depthPlace 0)
+  is-assembled =
+      rw (take-append-drop journalLength (drop spellsLength x), take-append-drop spellsLength x, set-getD x countPlace 0, set-getD x depthPlace 0) at (put-back (journalIn x) journal-long (getD x countPlace 0) (getD x depthPlace 0))
+
+module _ (a b : List ℕ) (n d : ℕ) (array : length a ≡ spellsLength) (journal : length b ≡ journalLength) where
+  pub unpacked-assembled : unpacked (assembled a b n d) ≡ record { spells = parts spellWidth spellOf 1024 a; count = n; journal = parts entryWidth entryOf 64 b; depth = d }
+  unfolding unpacked
+  unpacked-assembled =
+      let t : List ℕ = n ∷ d ∷ [] in
+      let behind = drop-at a (b ++ t) spellsLength array in
+      let count : getD (assembled a b n d) countPlace 0 ≡ n = sym (getD-drop spellsLength (assembled a b n d) journalLength 0) ∙ rw behind (getD-at b n (d ∷ []) 0 journalLength journal) in
+      let depth : getD (assembled a b n d) depthPlace 0 ≡ d =
+      sym (getD-drop spellsLength (assembled a b n d) (journalLength + 1) 0) ∙ rw behind (sym (getD-drop journalLength (b ++ t) 1 0) ∙ rw (drop-at b t journalLength journal)) in
+      rw (parts-near spellWidth spellOf spell-near 1024 a (b ++ t) (omega arith), behind, parts-near entryWidth entryOf entry-near 64 b t (omega arith), count, depth)
+
+-- ---- The words of a standing list
 
 module _ (st : Standing) (places : length (st .spells) ≡ 1024) (rooms : length (st .journal) ≡ 64) where
-  spells-long : length (written spellWords (st .spells)) ≡ 7168
-  spells-long = written-length 7 spellWords spell-long (st .spells) ∙ omega arith
+  abbrev w : List ℕ
+  w = written spellWords (st .spells)
 
-  journal-long : length (written entryWords (st .journal)) ≡ 576
-  journal-long = written-length 9 entryWords entry-long (st .journal) ∙ omega arith
+  abbrev v : List ℕ
+  v = written entryWords (st .journal)
 
-  arrays-long : length (written spellWords (st .spells) ++ written entryWords (st .journal)) ≡ 7744
-  arrays-long = omega (arith, length-append (written spellWords (st .spells)) (written entryWords (st .journal)), spells-long, journal-long)
+  pub spells-long : length w ≡ spellsLength
+  spells-long = written-length spellWords spellOf spell-long (st .spells) ∙ omega arith
+
+  pub entries-long : length v ≡ journalLength
+  entries-long = written-length entryWords entryOf entry-long (st .journal) ∙ omega arith
+
+  pub packed-is : packed st ≡ assembled w v (st .count) (st .depth)
+  packed-is = unfold packed in append-assoc w v (st .count ∷ st .depth ∷ [])
 
   -- THE IDENTITY: what is packed is unpacked as it was
   pub unpacked-packed : Every (λ s. spellOf (spellWords s) ≡ s) (st .spells) → Every (λ e. entryOf (entryWords e) ≡ e) (st .journal) → unpacked (packed st) ≡ st
-  unfolding unpacked packed
   unpacked-packed es ej =
-      let w = written spellWords (st .spells) in
-      let v = written entryWords (st .journal) in
-      let t = st .count ∷ st .depth ∷ [] in
-      let spells : parts 7 spellOf 1024 (w ++ v ++ t) ≡ st .spells =
-      ap (parts 7 spellOf 1024) (append-assoc w v t)
-      ∙ ap (λ (n : ℕ). parts 7 spellOf n (w ++ (v ++ t))) (sym places)
-      ∙ read-back 7 spellWords spellOf spell-long spell-reads (st .spells) (v ++ t) es in
-      let journal : parts 9 entryOf 64 (drop 7168 (w ++ v ++ t)) ≡ st .journal =
-      ap (λ (l : List ℕ). parts 9 entryOf 64 (drop 7168 l)) (append-assoc w v t)
-      ∙ ap (parts 9 entryOf 64) (drop-at w (v ++ t) 7168 spells-long)
-      ∙ ap (λ (n : ℕ). parts 9 entryOf n (v ++ t)) (sym rooms)
-      ∙ read-back 9 entryWords entryOf entry-long entry-reads (st .journal) t ej in
-      let count : getD (w ++ v ++ t) 7744 0 ≡ st .count = getD-at (w ++ v) (st .count) (st .depth ∷ []) 0 7744 arrays-long in
-      let depth : getD (w ++ v ++ t) 7745 0 ≡ st .depth =
-      ap (λ (n : ℕ). getD (w ++ v ++ t) (n + 1) 0) (sym arrays-long) ∙ getD-append-add (w ++ v) t 1 0 in
-      rw (spells, journal, count, depth)
+      ap unpacked packed-is ∙ unpacked-assembled w v (st .count) (st .depth) spells-long entries-long
+      ∙ rw (read-back spellWidth spellOf spell-near spellWords spell-long (st .spells) places es, read-back entryWidth entryOf entry-near entryWords entry-long (st .journal) rooms ej)
+
+  pub put-kept : (l m b : List ℕ) → length l ≡ standingLength → PutAll spellWords spellOf (st .spells) l m → PutAll entryWords entryOf (st .journal) (journalIn m) b → length (rejoined m b) ≡ length l
+  put-kept l m b h p q = let whole = put-long p ∙ h in rejoined-long m whole b (put-long q ∙ journal-long m whole) ∙ sym h
 
   -- as the code writes it: the array, the journal in the part after it, the count and the depth
-  put-standing : (l m n : List ℕ) → length l ≡ 7746 → PutAll spellWords spellOf (st .spells) l m → PutAll entryWords entryOf (st .journal) (drop 7168 m) n
-      → Packs st (set (set (take 7168 m ++ n) 7744 (st .count)) 7745 (st .depth))
-  put-standing l m n h p q =
-      let w = written spellWords (st .spells) in
-      let v = written entryWords (st .journal) in
-      let t = st .count ∷ st .depth ∷ [] in
-      let first : m ≡ w ++ drop (length w) l = p .words ∙ put-first w l (omega (arith, spells-long)) in
-      let kept : take 7168 m ≡ w = rw first (take-at w (drop (length w) l) 7168 spells-long) in
-      let rest : drop 7168 m ≡ drop (length w) l = rw first (drop-at w (drop (length w) l) 7168 spells-long) in
-      let left : length (drop 7168 m) ≡ 578 = rw rest (omega (arith, length-drop (length w) l, spells-long)) in
-      let second : n ≡ v ++ drop (length v) (drop 7168 m) = q .words ∙ put-first v (drop 7168 m) (omega (arith, journal-long)) in
-      let both : take 7168 m ++ n ≡ (w ++ v) ++ drop (length v) (drop 7168 m) =
-      rw (kept, second) (sym (append-assoc w v (drop (length v) (drop 7168 m)))) in
-      let long : length (take 7168 m ++ n) ≡ 7746 =
-      rw both (omega (arith, length-append (w ++ v) (drop (length v) (drop 7168 m)), arrays-long, length-drop (length v) (drop 7168 m), journal-long)) in
-      let words : set (set (take 7168 m ++ n) 7744 (st .count)) 7745 (st .depth) ≡ packed st =
-      sets-eq t (take 7168 m ++ n) 7744 (omega arith)
-      ∙ rw (drop-of-length-le (take 7168 m ++ n) {i = 7746} (omega arith), append-nil, both, take-at (w ++ v) (drop (length v) (drop 7168 m)) 7744 arrays-long)
-      (unfold packed in refl) in
+  pub put-standing : (l m b : List ℕ) → length l ≡ standingLength → PutAll spellWords spellOf (st .spells) l m → PutAll entryWords entryOf (st .journal) (journalIn m) b
+      → Packs st (set (set (rejoined m b) countPlace (st .count)) depthPlace (st .depth))
+  put-standing l m b h p q =
+      let whole = put-long p ∙ h in
+      let first : arrayIn m ≡ w = rw (p .words, put-first w l (omega (arith, spells-long))) (take-at w (drop (length w) l) spellsLength spells-long) in
+      let room = journal-long m whole in
+      let second : b ≡ v = q .words ∙ put-first v (journalIn m) (omega (arith, entries-long)) ∙ rw (drop-of-length-le (journalIn m) {i = length v} (omega (arith, entries-long))) (append-nil v) in
+      let words : set (set (rejoined m b) countPlace (st .count)) depthPlace (st .depth) ≡ packed st =
+      put-back m whole b (put-long q ∙ room) (st .count) (st .depth) ∙ rw (first, second) (sym packed-is) in
       record {
         words = words;
-        back = ap unpacked words ∙ unpacked-packed (p .back (omega (arith, spells-long))) (q .back (omega (arith, journal-long)));
+        back = ap unpacked words ∙ unpacked-packed (p .back (omega (arith, spells-long))) (q .back (omega (arith, entries-long)));
       }
-
-  -- the same with the part after the array lent and given back, k places long
-  pub put-part : (l m n : List ℕ) (k : ℕ) → length l ≡ 7746 → k ≡ length m - 7168
-      → PutAll spellWords spellOf (st .spells) l m → PutAll entryWords entryOf (st .journal) (take k (drop 7168 m)) n
-      → Packs st (set (set (take 7168 m ++ (n ++ drop k (drop 7168 m))) 7744 (st .count)) 7745 (st .depth))
-  put-part l m n k h e p q =
-      let whole : take k (drop 7168 m) ≡ drop 7168 m = take-all k (drop 7168 m) (omega (arith, length-drop 7168 m)) in
-      rw (drop-of-length-le (drop 7168 m) {i = k} (omega (arith, length-drop 7168 m)), append-nil) (put-standing l m n h p (rw whole at q))
-
-  -- the words of a standing list
-  pub packed-length : (l : List ℕ) → Packs st l → length l ≡ 7746
-  unfolding packed
-  packed-length l p = ap length (p .words) ∙ omega (arith, length-append (written spellWords (st .spells) ++ written entryWords (st .journal)) (st .count ∷ st .depth ∷ []), arrays-long)

@@ -1,6 +1,6 @@
 -- A plan carried out is what the account says of its call: pure facts, no code. Assumes nothing.
-use Rattle.basis.proofs.Prelude.{_∙_, _≡_, ap, refl, sym, ℕ, List, Bool, cond, false, true, eqb, getD, length, length-reverse, take, length-take-le, arith, eqb-false, eqb-true, by-test}
-use Rattle.standing.proofs.{Names.{own-over, accepted, Spell, Sound, stands, blank, idle, enterRefusal, amendRefusal, Call, Enter, Amend, Strike, TakeBack, Publish, Write, Ask, Undo, noting, Standing, Edited, Plan, listOf, entries, Wf, Keeps, Does, standsAt, changing, countedOf, counted-is, putting, without, Located, foundIn, relisted, holding, noted, deeperBy, newestOf, noPlan, planAmend, planBack, planEnter, planStrike, planOf, numberOf, Takes, Makes, Undoes, none-keeps, enter-leaves, enter-makes, amend-leaves, amend-idles, amend-makes, strike-leaves, strike-makes, back-leaves, back-undoes, deeper-noted}, Places.same, Past.{unmade, refused}, Calls.{list-length, enter-made, strike-made, strike-unknown, amend-made, takes-none, takes-back, lowered, undo-room}}
+use Rattle.basis.proofs.Prelude.{_∙_, _≡_, ap, refl, sym, ℕ, List, _∷_, Bool, _&&_, cond, false, not, true, eqb, getD, length, length-reverse, length-take, take, length-take-le, arith, both, clash, eqb-false, eqb-true, not-true, by-test}
+use Rattle.standing.proofs.{Names.{own-over, accepted, unknownNumber, Spell, Sound, Good, Goods, makes, Edits, undo, pastOf, pasts, remember, past-pushed, goods-take, text-order, earlierOf, insert, remove, replace, entering, replacing, insert-remove, remove-none, remove-insert, removed-gone, orderly-insert, orderly-remove, orderly-replace, enters, amends, strikeRefusal, stands, blank, idle, enterRefusal, amendRefusal, Call, Enter, Amend, Strike, TakeBack, Publish, Write, Ask, Undo, noting, Standing, Edited, Plan, listOf, entries, Wf, Keeps, Does, standsAt, changing, countedOf, counted-is, putting, without, Located, foundIn, relisted, holding, noted, deeperBy, newestOf, noPlan, planAmend, planBack, planEnter, planStrike, planOf, numberOf, Takes, Makes, Undoes, none-keeps, enter-leaves, enter-makes, amend-leaves, amend-idles, amend-makes, strike-leaves, strike-makes, back-leaves, back-undoes, deeper-noted}, Places.{same, list-over, past-over, wf-over}, Calls.{list-length, takes-none, takes-back, lowered, undo-room}}
 
 -- all places after a plan is carried out
 abbrev pub applied : Standing → Plan → Standing
@@ -14,6 +14,16 @@ applied st x = record {
 -- what comes of it, with what is told
 abbrev pub outcome : Standing → Plan → Edited
 outcome st x = record { standing = applied st x; refusal = x .refusal }
+
+-- an accepted edit that is not made is idle
+idly : (b : Bool) {t : Bool} → (not b && t) ≡ false → t ≡ true → b ≡ true
+idly true e ok = refl
+idly false e ok = absurd (clash ok e)
+
+-- a strike is accepted where its spell stands
+struck : (b : Bool) → eqb (cond b accepted unknownNumber) accepted ≡ b
+struck true = refl
+struck false = refl
 
 module _ {st : Standing} (w : Wf st) where
   -- what holds of an equal outcome
@@ -50,6 +60,32 @@ module _ {st : Standing} (w : Wf st) where
 
   -- ---- Each edit
 
+  -- an edit of the plan x is made, and then its list can stand and its entry takes it back; or it leaves all as it was
+  edit-does : (x : Plan) (idle : Bool) (n : ℕ) (l′ : List Spell) (e : Undo) → (makes idle n ≡ true → Makes x (listOf st) l′ e (st .depth) × Good l′ × (undo e l′ ≡ listOf st))
+      → (makes idle n ≡ false → x ≡ noPlan (st .depth) n) → Edits st (outcome st x) idle n l′ e
+  edit-does x idle n l′ e makes-it leaves-it =
+      by-test (makes idle n)
+      (λ yes.
+      let m = makes-it yes in
+      let es = noted e (entries st) in
+      let past : pastOf l′ es ≡ remember (listOf st) (pasts st) = past-pushed e (listOf st) l′ (entries st) (m .2) in
+      as-edited (made (m .0)) (record {
+        refusal = sym (eqb-true n accepted (both (not idle) (eqb n accepted) yes .1));
+        wf = wf-over st l′ es w (m .1) (omega (arith, length-take 64 (e ∷ entries st))) (rw past (unfold remember Goods in goods-take 64 (listOf st ∷ pasts st) (w .good, w .goods)));
+        list = rw yes (list-over st l′ es);
+        past = rw yes (past-over st l′ es ∙ past);
+        kept = λ no. absurd (clash yes no);
+        whole = rw yes;
+      }))
+      (λ no. as-edited (left (leaves-it no)) (record { refusal = refl; wf = w; list = rw no; past = rw no; kept = λ _. refl; whole = rw no }))
+    where
+      as-edited : {r r′ : Edited} → r ≡ r′ → Edits st r′ idle n l′ e → Edits st r idle n l′ e
+      as-edited is h = rw is h
+
+  -- the spell of the number k goes, and is put in again
+  put-again : (k : ℕ) → stands (listOf st) k ≡ true → insert (replacing k (listOf st) .spell) (remove k (listOf st)) ≡ listOf st
+  put-again k there = insert-remove k (listOf st) (w .good .in-order) there
+
   module _ (s : Spell) where
     abbrev p : ℕ
     p = standsAt (s .number) (listOf st)
@@ -57,14 +93,13 @@ module _ {st : Standing} (w : Wf st) where
     enter-does : (planEnter s p (st .count) (st .depth) .refusal ≡ accepted → Sound s) → Does st (Enter s) (outcome st (planEnter s p (st .count) (st .depth)))
     unfolding Does
     enter-does sound =
-        by-test (eqb (enterRefusal (listOf st) s) accepted)
+        edit-does _ false (enterRefusal (listOf st) s) (insert s (listOf st)) (entering s)
         (λ e.
         let done = eqb-true (enterRefusal (listOf st) s) accepted e in
         let m = enter-makes (listOf st) s (list-length w) (w .count-in) refl (st .depth) done in
-        as-known (Enter s) (made m) (enter-made w (sound (m .done)) done))
-        (λ e.
-        let no = eqb-false (enterRefusal (listOf st) s) accepted e in
-        as-known (Enter s) (left (enter-leaves (listOf st) s (list-length w) (w .count-in) refl (st .depth) no)) (refused false w no refl))
+        let h = enters (listOf st) s done in
+        (m, orderly-insert text-order Sound s (listOf st) (w .good) (sound (m .done)) (h .free) (h .room), unfold undo in remove-insert earlierOf s (listOf st) (h .free)))
+        (λ e. enter-leaves (listOf st) s (list-length w) (w .count-in) refl (st .depth) (eqb-false (enterRefusal (listOf st) s) accepted e))
 
     abbrev planned : Plan
     planned = planAmend s p (getD (listOf st) p blank) (st .count) (st .depth)
@@ -72,25 +107,33 @@ module _ {st : Standing} (w : Wf st) where
     amend-does : (planned .refusal ≡ accepted → Sound s) → Does st (Amend s) (outcome st planned)
     unfolding Does
     amend-does sound =
-        by-test (eqb (amendRefusal (listOf st) s) accepted)
+        let n = amendRefusal (listOf st) s in
+        let less = remove (s .number) (listOf st) in
+        edit-does planned (idle (listOf st) s) n (replace s (listOf st)) (replacing (s .number) (listOf st))
         (λ e.
-        let done = eqb-true (amendRefusal (listOf st) s) accepted e in
-        by-test (idle (listOf st) s)
-        (λ idly.
-        as-known (Amend s) (left (amend-idles (listOf st) s (list-length w) (w .count-in) refl (st .depth) done idly)) (unmade w (rw idly) done))
-        (λ real.
-        let m = amend-makes (listOf st) s (list-length w) (w .count-in) refl (st .depth) done real in
-        as-known (Amend s) (made m) (amend-made w (sound (m .done)) done real)))
-        (λ e.
-        let no = eqb-false (amendRefusal (listOf st) s) accepted e in
-        as-known (Amend s) (left (amend-leaves (listOf st) s (list-length w) (w .count-in) refl (st .depth) no)) (refused (idle (listOf st) s) w no refl))
+        let two = both (not (idle (listOf st) s)) (eqb n accepted) e in
+        let done = eqb-true n accepted (two .1) in
+        let m = amend-makes (listOf st) s (list-length w) (w .count-in) refl (st .depth) done (not-true (idle (listOf st) s) (two .0)) in
+        let there = amends (listOf st) s done .there in
+        let free = removed-gone (s .number) (listOf st) (w .good .unique) in
+        (m, orderly-replace text-order Sound s (listOf st) (w .good) (sound (m .done)) there, unfold undo in rw (remove-insert earlierOf s less free) (put-again (s .number) there)))
+        (λ e. by-test (eqb n accepted)
+        (λ ok.
+        let done = eqb-true n accepted ok in
+        amend-idles (listOf st) s (list-length w) (w .count-in) refl (st .depth) done (idly (idle (listOf st) s) e ok) ∙ ap (noPlan (st .depth)) (sym done))
+        (λ no. amend-leaves (listOf st) s (list-length w) (w .count-in) refl (st .depth) (eqb-false n accepted no)))
 
   strike-does : (k : ℕ) → let p = standsAt k (listOf st) in Does st (Strike k) (outcome st (planStrike k p (getD (listOf st) p blank) (st .count) (st .depth)))
-  unfolding Does
+  unfolding Does strikeRefusal undo
   strike-does k =
-      by-test (stands (listOf st) k)
-      (λ there. as-known (Strike k) (made (strike-makes (listOf st) k (list-length w) refl (st .depth) there)) (strike-made w k there))
-      (λ gone. as-known (Strike k) (left (strike-leaves (listOf st) k (list-length w) refl (st .depth) gone)) (strike-unknown w k gone))
+      edit-does _ false (strikeRefusal (listOf st) k) (remove k (listOf st)) (replacing k (listOf st))
+      (λ e.
+      let there = sym (struck (stands (listOf st) k)) ∙ e in
+      let gone = remove-none k (remove k (listOf st)) (removed-gone k (listOf st) (w .good .unique)) in
+      (strike-makes (listOf st) k (list-length w) refl (st .depth) there, orderly-remove text-order Sound k (listOf st) (w .good) there, rw gone (put-again k there)))
+      (λ e.
+      let gone = sym (struck (stands (listOf st) k)) ∙ e in
+      strike-leaves (listOf st) k (list-length w) refl (st .depth) gone ∙ rw gone)
 
   back-does : let newest = newestOf (st .depth) (st .journal) in
       Does st TakeBack (outcome st (planBack newest (standsAt (newest .number) (listOf st)) (st .depth)))
@@ -111,11 +154,15 @@ module _ {st : Standing} (w : Wf st) where
 
 -- ---- Any call
 
--- what is found under the number that a call is about leads to a plan that, carried out, is what the account says
-pub does : {st : Standing} (w : Wf st) (c : Call) → let newest = newestOf (st .depth) (st .journal) in
-    let p = standsAt (numberOf c (newest .number)) (listOf st) in
-    let plan = planOf c newest p (getD (listOf st) p blank) (st .count) (st .depth) in
-    Takes c (plan .refusal) → Does st c (outcome st plan)
+-- the plan of a call, by what is found under the number that it is about
+abbrev pub planFor : Standing → Call → Plan
+planFor st c =
+    let newest = newestOf (st .depth) (st .journal) in
+    let f = foundIn (numberOf c (newest .number)) (listOf st) in
+    planOf c newest (f .place) (f .spell) (st .count) (st .depth)
+
+-- carried out, it is what the account says
+does : {st : Standing} (w : Wf st) (c : Call) → Takes c (planFor st c .refusal) → Does st c (outcome st (planFor st c))
 unfolding planOf numberOf Takes Does
 does w (Enter s) takes = enter-does w s takes
 does w (Amend s) takes = amend-does w s takes
@@ -125,15 +172,12 @@ does w (Publish rule) takes = keeps w
 does w Write takes = keeps w
 does w (Ask q) takes = keeps w
 
--- what the code makes, step by step, is a plan carried out
-pub carried : {st : Standing} (w : Wf st) (c : Call) {e : Undo} {k : ℕ} {f : Located} {x : Plan} {a : List Spell} {m : ℕ} {j : List Undo} {d : ℕ}
-    → e ≡ newestOf (st .depth) (st .journal)
-    → k ≡ numberOf c (e .number)
-    → f ≡ foundIn k (listOf st)
-    → (x ≡ planOf c e (f .place) (f .spell) (st .count) (st .depth)) × Takes c (x .refusal)
+-- as the code finds it, and as it carries it out
+pub planned-is : (st : Standing) (c : Call) {e : Undo} {k : ℕ} {f : Located} {x : Plan} → e ≡ newestOf (st .depth) (st .journal) → k ≡ numberOf c (e .number) → f ≡ foundIn k (listOf st)
+    → x ≡ planOf c e (f .place) (f .spell) (st .count) (st .depth) → x ≡ planFor st c
+planned-is st c ee ek ef ex = ex ∙ rw (ef, ek, ee)
+
+pub carried : {st : Standing} (w : Wf st) (c : Call) {x : Plan} {a : List Spell} {m : ℕ} {j : List Undo} {d : ℕ} → x ≡ planFor st c → Takes c (x .refusal)
     → a ≡ applied st x .spells → m ≡ applied st x .count → j ≡ applied st x .journal → d ≡ applied st x .depth
     → Does st c (record { standing = record { spells = a; count = m; journal = j; depth = d }; refusal = x .refusal })
-carried {st} w c {x = x} ee ek ef ex ea em ej ed =
-    let is : x ≡ planOf c (newestOf (st .depth) (st .journal)) (standsAt (numberOf c (newestOf (st .depth) (st .journal) .number)) (listOf st)) (getD (listOf st) (standsAt (numberOf c (newestOf (st .depth) (st .journal) .number)) (listOf st)) blank) (st .count) (st .depth) =
-    ex .0 ∙ rw (ef, ek, ee) in
-    rw (ea, em, ej, ed, is) (does w c (rw is at (ex .1)))
+carried w c is takes ea em ej ed = rw (ea, em, ej, ed, is) (does w c (rw is at takes))

@@ -3,6 +3,7 @@ use Prim.Native.Nat.{ℕ}
 use mathlib.Core.Path.{_≡_}
 use mathlib.Core.List.{List, [], _∷_, _++_}
 use lib.ListN.{getD, drop}
+use Rattle.packing.specs.Layout.{spellWidth, entryWidth, spellsLength, countPlace, depthPlace}
 use Rattle.packing.specs.Blocks.{written, parts}
 use Rattle.packing.specs.Words.{spellWords, spellOf}
 use Rattle.journal.specs.Words.{entryWords, entryOf}
@@ -14,10 +15,10 @@ packed st = written spellWords (st .spells) ++ written entryWords (st .journal) 
 
 unfoldable pub unpacked : List ℕ → Standing
 unpacked l = record {
-  spells = parts 7 spellOf 1024 l;
-  count = getD l 7744 0;
-  journal = parts 9 entryOf 64 (drop 7168 l);
-  depth = getD l 7745 0;
+  spells = parts spellWidth spellOf 1024 l;
+  count = getD l countPlace 0;
+  journal = parts entryWidth entryOf 64 (drop spellsLength l);
+  depth = getD l depthPlace 0;
 }
 
 -- l is st in words, and reads back as st

@@ -2,37 +2,41 @@
 // words each, the count and the depth.
 ghost use mathlib.Core.Path.{_≡_};
 ghost use lib.ListN.{length};
+ghost use Rattle.packing.specs.Layout.{standingLength};
 ghost use Rattle.standing.specs.Standing.{Wf};
 ghost use Rattle.standing.specs.Packed.{unpacked, Packs};
 use crate::Standing;
+use packing::COUNT;
+use packing::DEPTH;
+use packing::SPELLS;
 
 // How many words a standing list takes.
-pub const STANDING: usize = 7746;
+pub const STANDING: usize = packing::STANDING;
 
 fn put_standing(st: Standing, out: &mut [u16])
     requires { ⌜ Wf st ⌝ }
-    requires { ⌜ length (now out) ≡ 7746 ⌝ }
+    requires { ⌜ length (now out) ≡ standingLength ⌝ }
     ensures { λ _. ⌜ Packs st (now (out .exit)) ⌝ }
 {
     let spells = st.spells;
     let journal = st.journal;
     packing::put_spells(spells, out);
-    standing_journal::put_journal(journal, &mut out[7168..]);
-    out[7744] = st.count as u16;
-    out[7745] = st.depth as u16;
+    standing_journal::put_journal(journal, &mut out[SPELLS..COUNT]);
+    out[COUNT] = st.count as u16;
+    out[DEPTH] = st.depth as u16;
 }
 
 fn standing_at(words: &[u16]) -> Standing
-    requires { ⌜ length (now words) ≡ 7746 ⌝ }
+    requires { ⌜ length (now words) ≡ standingLength ⌝ }
     ensures { λ r. ⌜ r ≡ unpacked (now (words .entry)) ⌝ }
 {
     let spells = packing::spells_at(words);
-    let journal = standing_journal::journal_at(&words[7168..]);
+    let journal = standing_journal::journal_at(&words[SPELLS..COUNT]);
     Standing {
         spells,
-        count: words[7744] as usize,
+        count: words[COUNT] as usize,
         journal,
-        depth: words[7745] as usize,
+        depth: words[DEPTH] as usize,
     }
 }
 

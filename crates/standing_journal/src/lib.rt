@@ -1,10 +1,13 @@
 // The journal of edits as an array, of which the first `depth` places hold entries, the oldest first; and its words of 16 bits.
 ghost use mathlib.Core.Path.{_≡_};
 ghost use lib.ListN.{drop};
+ghost use Rattle.packing.specs.Layout.{entryWidth};
 ghost use Rattle.packing.specs.Blocks.{parts, Put, PutAll};
 ghost use Rattle.journal.specs.Journal.{blankEntry, noting};
 ghost use Rattle.journal.specs.Words.{entryWords, entryOf};
 use journal::Undo;
+use packing::ENTRY;
+use packing::JOURNAL;
 
 // What stands in a place that holds no entry.
 pub fn none() -> Undo
@@ -42,10 +45,10 @@ pub fn pushed(journal: [Undo; 64], depth: usize, e: Undo) -> [Undo; 64]
 pub fn put_entry(e: Undo, out: &mut [u16], at: usize)
     ensures { λ _. ⌜ Put entryWords entryOf e at (now (out .entry)) (now (out .exit)) ⌝ }
 {
-    if out.len() < 9 {
+    if out.len() < ENTRY {
         return;
     }
-    if out.len() - 9 < at {
+    if out.len() - ENTRY < at {
         return;
     }
     let s = e.spell;
@@ -58,10 +61,10 @@ pub fn put_entry(e: Undo, out: &mut [u16], at: usize)
 pub fn entry_at(words: &[u16], at: usize) -> Undo
     ensures { λ r. ⌜ r ≡ entryOf (drop at (now (words .entry))) ⌝ }
 {
-    if words.len() < 9 {
+    if words.len() < ENTRY {
         return none();
     }
-    if words.len() - 9 < at {
+    if words.len() - ENTRY < at {
         return none();
     }
     let spell = packing::spell_at(words, at + 2);
@@ -76,25 +79,25 @@ pub fn entry_at(words: &[u16], at: usize) -> Undo
 pub fn put_journal(journal: [Undo; 64], out: &mut [u16])
     ensures { λ _. ⌜ PutAll entryWords entryOf journal (now (out .entry)) (now (out .exit)) ⌝ }
 {
-    if out.len() < 576 {
+    if out.len() < JOURNAL {
         return;
     }
     let mut i = 0;
     while i < 64 {
         let e = journal[i];
-        put_entry(e, out, 9 * i);
+        put_entry(e, out, ENTRY * i);
         i += 1;
     }
 }
 
 // The entries of the first words.
 pub fn journal_at(words: &[u16]) -> [Undo; 64]
-    ensures { λ r. ⌜ r ≡ parts 9 entryOf 64 (now (words .entry)) ⌝ }
+    ensures { λ r. ⌜ r ≡ parts entryWidth entryOf 64 (now (words .entry)) ⌝ }
 {
     let mut journal = [none(); 64];
     let mut i = 0;
     while i < 64 {
-        journal[i] = entry_at(words, 9 * i);
+        journal[i] = entry_at(words, ENTRY * i);
         i += 1;
     }
     journal

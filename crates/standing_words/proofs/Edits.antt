@@ -1,13 +1,12 @@
 -- What the code makes of the words, part by part, is a plan carried out on the standing list that they hold. Assumes nothing.
-use Rattle.basis.proofs.Prelude.{_∙_, _≡_, ap, refl, sym, _*_, _+_, _-_, _≤_, ℕ, List, _++_, cond, drop, getD, length, set, take, take-append-drop, drop-at, drop-drop, arith}
+use Rattle.basis.proofs.Prelude.{_∙_, _≡_, ap, refl, sym, _*_, _+_, _-_, _<_, _≤_, ℕ, List, _++_, drop, getD, length, length-append, length-drop, set, take, drop-at, drop-drop, take-at, arith}
 use Rattle.model.specs.declared.Call.{Call, the-variants.{Enter, Amend, Strike, TakeBack, Publish, Write, Ask}}
-use Rattle.packing.specs.{Blocks.parts, Words.spellOf}
-use Rattle.spell_places.specs.{List.{changing, countedOf}, Search.foundIn, declared.Located.Located}
-use Rattle.journal.specs.{declared.Undo.Undo, Words.entryOf, Journal.{blankEntry, noting}}
+use Rattle.packing.{specs.{Layout.{spellWidth, entryWidth, spellsLength, journalLength, countPlace, depthPlace, standingLength}, Blocks.{parts, written}, Words.{spellWords, spellOf}}, proofs.Blocks.{parts-at, parts-length}}
+use Rattle.spell_places.specs.{List.countedOf, Search.foundIn, declared.Located.Located}
+use Rattle.journal.specs.{declared.Undo.Undo, Words.{entryWords, entryOf}, Journal.blankEntry}
 use Rattle.plans.specs.{declared.Plan.Plan, Plans.{planOf, Takes, numberOf, deeperBy}}
-use Rattle.standing.{specs.{declared.{Standing.Standing, Edited.Edited}, Standing.{Wf, Does}, Packed.unpacked}, proofs.Plans.carried}
+use Rattle.standing.{specs.{declared.{Standing.Standing, Edited.Edited}, Standing.{Wf, Does}, Packed.{packed, unpacked}}, proofs.{Plans.{planFor, planned-is, carried}, Packed.{assembled, arrayIn, journalIn, rejoined, array-is, journal-is, rejoined-long, put-back, unpacked-assembled, spells-long, entries-long, packed-is}}}
 use Rattle.standing_words.specs.{Edits.{EditedIn, Laid}, Contracts.{spellsOf, entriesOf, Exchanges, Notes}}
-use Rattle.standing_words.proofs.{Values.{parts-at, parts-near}, Reading.{spell-near, entry-near}, Assembling.{assembled, unpacked-assembled, laid-assembled, laid-array, laid-journal, arrayIn, journalIn, array-long, journal-in-long, is-assembled, partsBack, put-back}}
 
 -- what any call leaves is a standing list that the calls gave
 does-wf : {st : Standing} (w : Wf st) (c : Call) (r : Edited) → Does st c r → Wf (r .standing)
@@ -20,61 +19,92 @@ does-wf w (Publish rule) r d = rw d w
 does-wf w Write r d = rw d w
 does-wf w (Ask q) r d = rw d w
 
-module _ (x : List ℕ) (whole : length x ≡ 7746) (w : Wf (unpacked x)) where
-  abbrev count : ℕ
-  count = getD x 7744 0
+-- words whose parts are as they are written
+laid-assembled : (a b : List ℕ) (n d : ℕ) → length a ≡ spellsLength → length b ≡ journalLength → written spellWords (spellsOf a) ≡ a → written entryWords (entriesOf b) ≡ b
+    → Laid (assembled a b n d)
+laid-assembled a b n d array journal p q =
+    let st : Standing = record { spells = spellsOf a; count = n; journal = entriesOf b; depth = d } in
+    rw (unpacked-assembled a b n d array journal, packed-is st (parts-length spellWidth spellOf 1024 a) (parts-length entryWidth entryOf 64 b), p, q)
 
-  abbrev depth : ℕ
-  depth = getD x 7745 0
+-- the words with a part put back, and with both
+module _ (x a : List ℕ) (whole : length x ≡ standingLength) (array : length a ≡ spellsLength) where
+  mid-long : length (a ++ drop spellsLength x) ≡ standingLength
+  mid-long = omega (arith, length-append a (drop spellsLength x), length-drop spellsLength x)
 
-  pub count-in : count ≤ 1024
+  pub mid-room : countPlace ≤ length (a ++ drop spellsLength x)
+  mid-room = omega (arith, mid-long)
+
+  pub both-kept : (b : List ℕ) → length b ≡ journalLength → length (rejoined (a ++ drop spellsLength x) b) ≡ length x
+  both-kept b journal = rejoined-long (a ++ drop spellsLength x) mid-long b journal ∙ sym whole
+
+abbrev countIn : List ℕ → ℕ
+countIn x = getD x countPlace 0
+
+abbrev depthIn : List ℕ → ℕ
+depthIn x = getD x depthPlace 0
+
+module _ (x : List ℕ) (whole : length x ≡ standingLength) (w : Wf (unpacked x)) where
+  pub count-in : countIn x ≤ 1024
+  count-in = unfold unpacked in w .count-in
+
+  -- its parts are as they are written
+  laid-parts : Laid x → (written spellWords (spellsOf (arrayIn x)) ≡ arrayIn x) × (written entryWords (entriesOf (journalIn x)) ≡ journalIn x)
   unfolding unpacked
-  count-in = w .count-in
-
-  pub depth-in : depth ≤ 64
-  unfolding unpacked
-  depth-in = w .depth-in
+  laid-parts h =
+      let st = unpacked x in
+      let spells = spells-long st (w .places) (w .rooms) in
+      let entries = entries-long st (w .places) (w .rooms) in
+      let is : x ≡ assembled (written spellWords (st .spells)) (written entryWords (st .journal)) (countIn x) (depthIn x) = h ∙ packed-is st (w .places) (w .rooms) in (
+        rw (array-is x whole) (sym (ap arrayIn is ∙ take-at _ _ spellsLength spells)),
+        rw (journal-is x whole) (sym (ap journalIn is ∙ rw (drop-at (written spellWords (st .spells)) _ spellsLength spells) (take-at _ _ journalLength entries))),
+      )
 
   -- the newest entry, where the code reads it
-  newest-at : {e : Undo} {i : ℕ} → i ≡ depth - 1 → e ≡ entryOf (drop (7168 + 9 * i) x) → e ≡ getD (parts 9 entryOf 64 (drop 7168 x)) (depth - 1) blankEntry
-  newest-at is read =
-      let far : 9 * (depth - 1) ≡ (depth - 1) * 9 = omega arith in
-      read ∙ rw (is, parts-at 9 entryOf 64 (depth - 1) (drop 7168 x) blankEntry (omega (arith, depth-in)), drop-drop ((depth - 1) * 9) 7168 x, far)
+  newest-at : {e : Undo} {i : ℕ} → i ≡ depthIn x - 1 → e ≡ entryOf (drop (spellsLength + entryWidth * i) x) → e ≡ getD (entriesOf (drop spellsLength x)) (depthIn x - 1) blankEntry
+  unfolding unpacked
+  newest-at {i = i} is read =
+      let far : entryWidth * i ≡ i * entryWidth = omega arith in
+      read ∙ rw (← is, parts-at entryWidth entryOf 64 i (drop spellsLength x) blankEntry (omega (arith, w .depth-in)), drop-drop (i * entryWidth) spellsLength x, far)
 
-  array-is : spellsOf (arrayIn x whole) ≡ spellsOf x
-  array-is = sym (parts-near 7 spellOf spell-near 1024 (arrayIn x whole) (drop 7168 x) (omega (arith, array-long x whole))) ∙ ap spellsOf (take-append-drop 7168 x)
+-- the plan p of the call c, as the code finds it
+pub record Planned (x : List ℕ) (c : Call) (p : Plan) : Type 0 where
+  pub whole : length x ≡ standingLength
+  pub wf : Wf (unpacked x)
+  pub is : p ≡ planFor (unpacked x) c
+  pub takes : Takes c (p .refusal)
 
-  journal-is : entriesOf (journalIn x whole) ≡ entriesOf (drop 7168 x)
-  journal-is =
-      sym (parts-near 9 entryOf entry-near 64 (journalIn x whole) (drop 576 (drop 7168 x)) (omega (arith, journal-in-long x whole))) ∙ ap entriesOf (take-append-drop 576 (drop 7168 x))
+pub planned-in : (x : List ℕ) (c : Call) {e : Undo} {i k : ℕ} {f : Located} {p : Plan} → length x ≡ standingLength → Wf (unpacked x) → i ≡ depthIn x - 1
+    → e ≡ entryOf (drop (spellsLength + entryWidth * i) x) → k ≡ numberOf c (e .number) → f ≡ foundIn k (take (countIn x) (spellsOf x))
+    → (p ≡ planOf c e (f .place) (f .spell) (countIn x) (depthIn x)) × Takes c (p .refusal) → Planned x c p
+planned-in x c whole w ei ee ek ef ep =
+    record { whole = whole; wf = w; is = unfold unpacked in planned-is (unpacked x) c (newest-at x whole w ei ee) ek ef (ep .0); takes = ep .1 }
 
-  -- the plan of the call c, as the code finds it
-  module _ (c : Call) {e : Undo} {i k : ℕ} {f : Located} {p : Plan} (ei : i ≡ depth - 1) (ee : e ≡ entryOf (drop (7168 + 9 * i) x)) (ek : k ≡ numberOf c (e .number))
-      (ef : f ≡ foundIn k (take count (spellsOf x))) (ep : (p ≡ planOf c e (f .place) (f .spell) count depth) × Takes c (p .refusal)) where
-    -- the count and the depth after it
-    pub plan-fits : (countedOf count (p .out) (p .puts) ≤ 1024) × (deeperBy (p .depth) (p .notes) ≤ 64)
-    unfolding unpacked
-    plan-fits = let after = does-wf w c _ (carried w c (newest-at ei ee) ek ef ep refl refl refl refl) in (after .count-in, after .depth-in)
+module _ (x : List ℕ) (c : Call) (p : Plan) (known : Planned x c p) where
+  -- the count and the depth after it
+  fits : (countedOf (countIn x) (p .out) (p .puts) ≤ 1024) × (deeperBy (p .depth) (p .notes) ≤ 64)
+  unfolding unpacked
+  fits = let after = does-wf (known .wf) c _ (carried (known .wf) c (known .is) (known .takes) refl refl refl refl) in (after .count-in, after .depth-in)
 
-    pub edited : {a b : List ℕ} {m d : ℕ}
-        → Exchanges count (p .out) (p .puts) (p .spell) (arrayIn x whole) a
-        → Notes (p .depth) (p .notes) (p .entry) (take 576 (drop 7168 (a ++ drop 7168 x))) b
-        → m ≡ countedOf count (p .out) (p .puts)
-        → d ≡ deeperBy (p .depth) (p .notes)
-        → EditedIn c x (p .refusal) (set (set (partsBack x whole a b) 7744 m) 7745 d)
-    unfolding unpacked
-    edited {a} {b} {m} {d} change note em ed =
-        let same : take 576 (drop 7168 (a ++ drop 7168 x)) ≡ journalIn x whole = ap (take 576) (drop-at a (drop 7168 x) 7168 (change .long)) in
-        let noted : Notes (p .depth) (p .notes) (p .entry) (journalIn x whole) b = rw same at note in
-        let spells : spellsOf a ≡ changing (p .out) (p .puts) (p .spell) count (spellsOf x) = rw (← array-is) (change .read) in
-        let entries : entriesOf b ≡ cond (p .notes) (noting (p .entry) (p .depth) (entriesOf (drop 7168 x))) (entriesOf (drop 7168 x)) = rw (← journal-is) (noted .read) in
-        let is = put-back x whole a b (change .long) (noted .long) m d in
-        record {
-          does = rw (is, unpacked-assembled a b m d (change .long) (noted .long)) (carried w c (newest-at ei ee) ek ef ep spells em entries ed);
-          laid = λ h.
-              let own : Laid (assembled (arrayIn x whole) (journalIn x whole) count depth) = rw (← is-assembled x whole) h in
-              rw is
-              (laid-assembled a b m d (change .long) (noted .long)
-              (rw (change .read) (change .laid (laid-array (arrayIn x whole) (journalIn x whole) count depth (array-long x whole) (journal-in-long x whole) own)))
-              (rw (noted .read) (noted .laid (laid-journal (arrayIn x whole) (journalIn x whole) count depth (array-long x whole) (journal-in-long x whole) own))));
-        }
+  pub count-fits : {m : ℕ} → m ≡ countedOf (countIn x) (p .out) (p .puts) → m < 65536
+  count-fits is = omega (arith, fits .0)
+
+  pub depth-fits : {d : ℕ} → d ≡ deeperBy (p .depth) (p .notes) → d < 65536
+  depth-fits is = omega (arith, fits .1)
+
+  pub edited : {a b : List ℕ} {m d : ℕ} → Exchanges (countIn x) (p .out) (p .puts) (p .spell) (arrayIn x) a → Notes (p .depth) (p .notes) (p .entry) (journalIn (a ++ drop spellsLength x)) b
+      → m ≡ countedOf (countIn x) (p .out) (p .puts) → d ≡ deeperBy (p .depth) (p .notes)
+      → EditedIn c x (p .refusal) (set (set (rejoined (a ++ drop spellsLength x) b) countPlace m) depthPlace d)
+  unfolding unpacked
+  edited {a} {b} {m} {d} change note em ed =
+      let whole = known .whole in
+      let same : journalIn (a ++ drop spellsLength x) ≡ journalIn x = ap (take journalLength) (drop-at a (drop spellsLength x) spellsLength (change .long)) in
+      let noted = rw same at note in
+      let is : set (set (rejoined (a ++ drop spellsLength x) b) countPlace m) depthPlace d ≡ assembled a b m d =
+      put-back (a ++ drop spellsLength x) (mid-long x a whole (change .long)) b (note .long) m d ∙ rw (take-at a (drop spellsLength x) spellsLength (change .long)) in
+      record {
+        does = rw (is, unpacked-assembled a b m d (change .long) (noted .long))
+            (carried (known .wf) c (known .is) (known .takes) (rw (array-is x whole) at (change .read)) em (rw (journal-is x whole) at (noted .read)) ed);
+        laid = λ h.
+            let own = laid-parts x whole (known .wf) h in
+            rw is (laid-assembled a b m d (change .long) (noted .long) (rw (change .read) (change .laid (own .0))) (rw (noted .read) (noted .laid (own .1))));
+      }

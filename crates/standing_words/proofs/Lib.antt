@@ -2,5 +2,4 @@ pub mod Moves
 pub mod Values
 pub mod Reading
 pub mod Changing
-pub mod Assembling
 pub mod Edits

@@ -1,37 +1,43 @@
--- The spells and entries that words hold, as the code reads them. Assumes nothing.
-use Rattle.basis.proofs.Prelude.{_≡_, _*_, _+_, _<_, _≤_, ℕ, List, _++_, drop, getD, length, length-append, length-drop, take, length-take-le, List·getD-append, drop-append-le, arith, le-leb}
-use Rattle.spell.specs.{declared.Spell.Spell, Blank.blank, Order.earlierOf}
-use Rattle.packing.{specs.Words.spellOf, proofs.{Blocks.parts-length, Words.spell-at}}
-use Rattle.spell_places.{specs.Search.placeOf, proofs.Search.lead-le}
-use Rattle.journal.specs.Words.{entryOf}
+-- The spells that words hold, as the code reads and finds them. Assumes nothing.
+use Rattle.basis.proofs.Prelude.{_∙_, _≡_, ap, refl, sym, _*_, _+_, _<_, _≤_, ℕ, List, cond, leb, drop, getD, length, take, arith, le-leb}
+use Rattle.spell.specs.{declared.Spell.Spell, Blank.blank}
+use Rattle.packing.{specs.{Layout.{spellWidth, spellsLength}, Words.spellOf}, proofs.{Blocks.{parts-length, parts-at}, Words.spell-read}}
+use Rattle.spell_places.specs.{declared.Located.Located, Search.{lead, placeOf, standsAt, foundIn}}
+use Rattle.standing_list.proofs.Finding as found
 use Rattle.standing_words.specs.Contracts.{spellsOf}
-use Rattle.standing_words.proofs.Values.{parts-at}
-
--- words past the first seven, or nine, are not read
-pub spell-near : (x r : List ℕ) → 7 ≤ length x → spellOf (x ++ r) ≡ spellOf x
-unfolding spellOf
-spell-near x r h =
-    rw (le-leb 7 (length (x ++ r)) (omega (arith, length-append x r)), le-leb 7 (length x) h)
-    (rw (List·getD-append x r 0 0 (omega arith), List·getD-append x r 0 1 (omega arith), List·getD-append x r 0 2 (omega arith), List·getD-append x r 0 3 (omega arith), List·getD-append x r 0 4 (omega arith), List·getD-append x r 0 5 (omega arith), List·getD-append x r 0 6 (omega arith)))
-
-pub entry-near : (x r : List ℕ) → 9 ≤ length x → entryOf (x ++ r) ≡ entryOf x
-unfolding entryOf
-entry-near x r h =
-    rw (le-leb 9 (length (x ++ r)) (omega (arith, length-append x r)), le-leb 9 (length x) h)
-    (rw (List·getD-append x r 0 0 (omega arith), List·getD-append x r 0 1 (omega arith), drop-append-le 2 x r (omega arith), spell-near (drop 2 x) r (omega (arith, length-drop 2 x))))
 
 -- so many spells as there are places
 pub places : (x : List ℕ) {n : ℕ} → n ≤ 1024 → n ≤ length (spellsOf x)
-places x h = omega (arith, parts-length 7 spellOf 1024 x)
+places x h = omega (arith, parts-length spellWidth spellOf 1024 x)
 
 -- a spell goes into one of the first places, or behind them
 pub place-in : (x : List ℕ) (s : Spell) {m q : ℕ} → m ≤ 1024 → q ≡ placeOf s (take m (spellsOf x)) → q ≤ m
-place-in x s {m} few is = omega (arith, lead-le (λ y. earlierOf y s) (take m (spellsOf x)), length-take-le m (spellsOf x) (places x few))
+place-in x s {m} few is = rw is (found.place-le s m (spellsOf x) (places x few))
 
-module _ (x : List ℕ) (i : ℕ) (h : i < 1024) where
-  pub spell-is : getD (spellsOf x) i blank ≡ spellOf (drop (7 * i) x)
-  spell-is = let at : 7 * i ≡ i * 7 = omega arith in rw at (parts-at 7 spellOf 1024 i x blank h)
+-- a spell by its place, and its number, the first of its words
+module _ (x : List ℕ) (i : ℕ) {n : ℕ} (few : n ≤ 1024) (h : i < n) where
+  pub spell-is : {s : Spell} → s ≡ spellOf (drop (spellWidth * i) x) → s ≡ getD (spellsOf x) i blank
+  spell-is read = let at : spellWidth * i ≡ i * spellWidth = omega arith in read ∙ rw at (sym (parts-at spellWidth spellOf 1024 i x blank (omega arith)))
 
-  -- its number is the first of its words
-  pub number-is : 7168 ≤ length x → getD (spellsOf x) i blank .number ≡ getD x (7 * i) 0
-  number-is few = rw (spell-is, spell-at x (7 * i) (omega arith))
+  pub number-is : spellsLength ≤ length x → getD (spellsOf x) i blank .number ≡ getD x (spellWidth * i) 0
+  number-is room = ap (λ (s : Spell). s .number) (sym (spell-is refl) ∙ sym (spell-read x (spellWidth * i) refl refl (omega arith)))
+
+-- ---- A number is looked for among the first n
+
+module _ (x : List ℕ) (n k i : ℕ) (few : n ≤ 1024) (so-far : standsAt k (take n (spellsOf x)) ≡ i + lead (found.passes k) (drop i (take n (spellsOf x)))) where
+  all : length (spellsOf x) ≡ 1024
+  all = parts-length spellWidth spellOf 1024 x
+
+  held : n ≡ cond (leb n 1024) n 1024
+  held = rw (le-leb n 1024 few)
+
+  pub found-here : {s : Spell} → spellsLength ≤ length x → i < n → getD x (spellWidth * i) 0 ≡ k → s ≡ spellOf (drop (spellWidth * i) x)
+      → _≡_ {A = Located} (record { place = i; spell = s }) (foundIn k (take n (spellsOf x)))
+  found-here room h is read = rw (spell-is x i few h read) (found.found-here n (spellsOf x) all held k i so-far h (number-is x i few h room ∙ is))
+
+  pub found-next : spellsLength ≤ length x → i < n → (getD x (spellWidth * i) 0 ≡ k → ⊥)
+      → standsAt k (take n (spellsOf x)) ≡ (i + 1) + lead (found.passes k) (drop (i + 1) (take n (spellsOf x)))
+  found-next room h differs = found.found-next n (spellsOf x) all held k i so-far h (λ e. differs (sym (number-is x i few h room) ∙ e))
+
+  pub found-none : {s : Spell} → i ≤ n → n ≤ i → s ≡ blank → _≡_ {A = Located} (record { place = i; spell = s }) (foundIn k (take n (spellsOf x)))
+  found-none low high is = found.found-none n (spellsOf x) all held k i so-far low high is

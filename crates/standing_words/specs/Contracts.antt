@@ -6,6 +6,7 @@ use mathlib.Core.List.{List}
 use lib.ListN.{length, take}
 use Rattle.buffer.specs.Buffer.{over}
 use Rattle.spell.specs.declared.Spell.{Spell}
+use Rattle.packing.specs.Layout.{spellWidth, entryWidth}
 use Rattle.packing.specs.Blocks.{written, parts}
 use Rattle.packing.specs.Words.{spellWords, spellOf}
 use Rattle.spell_places.specs.List.{without, putting, changing}
@@ -22,11 +23,11 @@ pub record Holds {A : Type 0} (k : ℕ) (f : A → List ℕ) (g : List ℕ → A
 -- ---- The array
 
 abbrev pub spellsOf : List ℕ → List Spell
-spellsOf x = parts 7 spellOf 1024 x
+spellsOf x = parts spellWidth spellOf 1024 x
 
 -- the words x became x′, which hold the spells a
 abbrev pub Spells : List ℕ → List ℕ → List Spell → Type 0
-Spells x x′ a = Holds 7 spellWords spellOf (written spellWords (spellsOf x) ≡ x) 1024 x′ a
+Spells x x′ a = Holds spellWidth spellWords spellOf (written spellWords (spellsOf x) ≡ x) 1024 x′ a
 
 abbrev pub TakesOut : ℕ → ℕ → List ℕ → List ℕ → Type 0
 TakesOut n p x x′ = Spells x x′ (over (without p (take n (spellsOf x))) (spellsOf x))
@@ -40,7 +41,7 @@ Exchanges n p puts s x x′ = Spells x x′ (changing p puts s n (spellsOf x))
 -- ---- The journal
 
 abbrev pub entriesOf : List ℕ → List Undo
-entriesOf y = parts 9 entryOf 64 y
+entriesOf y = parts entryWidth entryOf 64 y
 
 abbrev pub Notes : ℕ → Bool → Undo → List ℕ → List ℕ → Type 0
-Notes d notes e y y′ = Holds 9 entryWords entryOf (written entryWords (entriesOf y) ≡ y) 64 y′ (cond notes (noting e d (entriesOf y)) (entriesOf y))
+Notes d notes e y y′ = Holds entryWidth entryWords entryOf (written entryWords (entriesOf y) ≡ y) 64 y′ (cond notes (noting e d (entriesOf y)) (entriesOf y))

@@ -3,6 +3,7 @@
 ghost use mathlib.Core.Path.{_≡_};
 ghost use Prim.Native.Nat.{_+_, _≤_};
 ghost use lib.ListN.{length, take};
+ghost use Rattle.packing.specs.Layout.{spellsLength, journalLength, standingLength};
 ghost use Rattle.spell_places.specs.Search.{placeOf, foundIn};
 ghost use Rattle.standing.specs.Standing.{Wf};
 ghost use Rattle.standing.specs.Packed.{unpacked};
@@ -11,6 +12,12 @@ ghost use Rattle.standing_words.specs.Moves.{lowered, raised};
 ghost use Rattle.standing_words.specs.Contracts.{spellsOf, TakesOut, PutsIn, Exchanges, Notes};
 use journal::Undo;
 use model::Call;
+use packing::COUNT;
+use packing::DEPTH;
+use packing::ENTRY;
+use packing::LAST_ENTRY;
+use packing::SPELL;
+use packing::SPELLS;
 use spell::Spell;
 use spell_places::Located;
 use standing::words::STANDING;
@@ -48,13 +55,13 @@ fn raise(words: &mut [u16], from: usize, to: usize, by: usize)
 // The spell of the number k among the first n.
 fn find(words: &[u16], n: usize, k: u16) -> Located
     requires { ⌜ n ≤ 1024 ⌝ }
-    requires { ⌜ 7168 ≤ length (now words) ⌝ }
+    requires { ⌜ spellsLength ≤ length (now words) ⌝ }
     ensures { λ r. ⌜ r ≡ foundIn k (take n (spellsOf (now (words .entry)))) ⌝ }
 {
     let mut i = 0;
     while i < n {
-        if words[7 * i] == k {
-            let spell = packing::spell_at(words, 7 * i);
+        if words[SPELL * i] == k {
+            let spell = packing::spell_at(words, SPELL * i);
             return Located { place: i, spell };
         }
         i += 1;
@@ -68,12 +75,12 @@ fn find(words: &[u16], n: usize, k: u16) -> Located
 // Where s goes among the first m.
 fn place(words: &[u16], m: usize, s: Spell) -> usize
     requires { ⌜ m ≤ 1024 ⌝ }
-    requires { ⌜ 7168 ≤ length (now words) ⌝ }
+    requires { ⌜ spellsLength ≤ length (now words) ⌝ }
     ensures { λ r. ⌜ r ≡ placeOf s (take m (spellsOf (now (words .entry)))) ⌝ }
 {
     let mut i = 0;
     while i < m {
-        let x = packing::spell_at(words, 7 * i);
+        let x = packing::spell_at(words, SPELL * i);
         if !spell_checks::earlier(x, s) {
             return i;
         }
@@ -85,19 +92,19 @@ fn place(words: &[u16], m: usize, s: Spell) -> usize
 // The spell at p of the first n taken out, where one stands there.
 fn take_out(words: &mut [u16], n: usize, p: usize)
     requires { ⌜ n ≤ 1024 ⌝ }
-    requires { ⌜ length (now words) ≡ 7168 ⌝ }
+    requires { ⌜ length (now words) ≡ spellsLength ⌝ }
     ensures { λ _. ⌜ TakesOut n p (now (words .entry)) (now (words .exit)) ⌝ }
 {
     if p >= n {
         return;
     }
-    lower(words, 7 * p, 7 * (n - 1), 7);
+    lower(words, SPELL * p, SPELL * (n - 1), SPELL);
 }
 
 // s put in at its place among the first m, where that is asked for and there is room.
 fn put_in(words: &mut [u16], m: usize, puts: bool, s: Spell)
     requires { ⌜ m ≤ 1024 ⌝ }
-    requires { ⌜ length (now words) ≡ 7168 ⌝ }
+    requires { ⌜ length (now words) ≡ spellsLength ⌝ }
     ensures { λ _. ⌜ PutsIn m puts s (now (words .entry)) (now (words .exit)) ⌝ }
 {
     if !puts {
@@ -107,14 +114,14 @@ fn put_in(words: &mut [u16], m: usize, puts: bool, s: Spell)
         return;
     }
     let q = place(words, m, s);
-    raise(words, 7 * q, 7 * m, 7);
-    packing::put_spell(s, words, 7 * q);
+    raise(words, SPELL * q, SPELL * m, SPELL);
+    packing::put_spell(s, words, SPELL * q);
 }
 
 // Both: the spell at p goes, and s is put in.
 fn change(words: &mut [u16], n: usize, p: usize, puts: bool, s: Spell)
     requires { ⌜ n ≤ 1024 ⌝ }
-    requires { ⌜ length (now words) ≡ 7168 ⌝ }
+    requires { ⌜ length (now words) ≡ spellsLength ⌝ }
     ensures { λ _. ⌜ Exchanges n p puts s (now (words .entry)) (now (words .exit)) ⌝ }
 {
     take_out(words, n, p);
@@ -126,41 +133,43 @@ fn change(words: &mut [u16], n: usize, p: usize, puts: bool, s: Spell)
 
 // The entry e put at the end of a journal of that depth, where it is noted. Where the journal is full, its oldest entry goes.
 fn note(journal: &mut [u16], d: usize, notes: bool, e: Undo)
-    requires { ⌜ length (now journal) ≡ 576 ⌝ }
+    requires { ⌜ length (now journal) ≡ journalLength ⌝ }
     ensures { λ _. ⌜ Notes d notes e (now (journal .entry)) (now (journal .exit)) ⌝ }
 {
     if !notes {
         return;
     }
     if d < 64 {
-        standing_journal::put_entry(e, journal, 9 * d);
+        standing_journal::put_entry(e, journal, ENTRY * d);
         return;
     }
-    lower(journal, 0, 567, 9);
-    standing_journal::put_entry(e, journal, 567);
+    lower(journal, 0, LAST_ENTRY, ENTRY);
+    standing_journal::put_entry(e, journal, LAST_ENTRY);
 }
 
 // ---- The edit
 
 // What any call makes of the standing list: its plan is made on small values, and carried out on the words.
 fn edit_in(words: &mut [u16], call: Call) -> u16
-    requires { ⌜ length (now words) ≡ 7746 ⌝ }
+    requires { ⌜ length (now words) ≡ standingLength ⌝ }
     requires { ⌜ Wf (unpacked (now words)) ⌝ }
     ensures { λ r. ⌜ EditedIn call (now (words .entry)) r (now (words .exit)) ⌝ }
 {
-    let n = words[7744] as usize;
-    let d = words[7745] as usize;
-    let e = standing_journal::entry_at(words, 7168 + 9 * planning::last_place(d));
+    let n = words[COUNT] as usize;
+    let d = words[DEPTH] as usize;
+    let e = standing_journal::entry_at(words, SPELLS + ENTRY * planning::last_place(d));
     let k = planning::number_of(call, e.number);
     let found = find(words, n, k);
     let old = found.spell;
     let plan = planning::planned(call, e, found.place, old, n, d);
+    let count = standing_list::counted(n, plan.out, plan.puts) as u16;
+    let depth = planning::deeper(plan.depth, plan.notes) as u16;
     let s = plan.spell;
     let entry = plan.entry;
-    change(&mut words[..7168], n, plan.out, plan.puts, s);
-    note(&mut words[7168..7744], plan.depth, plan.notes, entry);
-    words[7744] = standing_list::counted(n, plan.out, plan.puts) as u16;
-    words[7745] = planning::deeper(plan.depth, plan.notes) as u16;
+    change(&mut words[..SPELLS], n, plan.out, plan.puts, s);
+    note(&mut words[SPELLS..COUNT], plan.depth, plan.notes, entry);
+    words[COUNT] = count;
+    words[DEPTH] = depth;
     plan.refusal
 }
 

@@ -1,9 +1,7 @@
 -- `packing::value_of` meets its contract. Assumes nothing.
-use Rattle.basis.proofs.Prelude.{_∙_, ap, sym, needs}
-use Rattle.packing.specs.Words.{valueOf}
+use Rattle.basis.proofs.Prelude.{needs}
 use Rattle.packing.proofs.value_of.{Statement.statement, Tie.{close, spec}}
 
 pub value-of-spec : {M : Type 1} → statement M
 value-of-spec = close (spec
-    (λ c. search needs) (λ c. search needs) (λ c. search needs) (λ c κs. search needs) (λ c. search needs)
-    (λ c. c .bits-of .ensures ∙ sym (ap valueOf (c .before .before .u2 .given .1))))
+    (λ c. search needs) (λ c. search needs) (λ c. search needs) (λ c κs. search needs) (λ c. search needs) (λ c. cc))

@@ -5,5 +5,5 @@ use Rattle.planning.proofs.deeper.{Statement.statement, Tie.{close, spe
 pub deeper-spec : {M : Type 1} → statement M
 deeper-spec = close (spec
     (λ c. rw (not-true (c .before .args .notes) (c .if1 .taken)))
-    (λ c. rw (not-false (c .before .before .args .notes) (c .before .if1 .left), le-leb _ _ (c .if2 .taken)))
-    (λ c. omega arith) (λ c. rw (not-false (c .before .before .args .notes) (c .before .if1 .left), lt-leb _ _ (c .if2 .left))))
+    (λ c. rw (not-false (c .before .before .args .notes) (c .before .if1 .left)) (search le-leb)) (λ c. omega arith)
+    (λ c. rw (not-false (c .before .before .args .notes) (c .before .if1 .left)) (search lt-leb)))

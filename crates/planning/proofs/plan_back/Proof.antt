@@ -3,7 +3,4 @@ use Rattle.basis.proofs.Prelude.{arith, needs, eq-eqb, ne-eqb}
 use Rattle.planning.proofs.plan_back.{Statement.statement, Tie.{close, spec}}
 
 pub plan-back-spec : {M : Type 1} → statement M
-plan-back-spec = close (spec
-    -- no past
-    (λ c κs. search needs) (λ c. rw (eq-eqb _ _ (c .before .if1 .taken)) (c .unplanned .ensures))
-    (λ c. omega (arith, c .before .if1 .left)) (λ c. rw (ne-eqb _ _ (c .before .if1 .left))))
+plan-back-spec = close (spec (λ c κs. search needs) (λ c. search eq-eqb) (λ c. omega (arith, c .before .if1 .left)) (λ c. search ne-eqb))

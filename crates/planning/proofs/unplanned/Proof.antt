@@ -3,4 +3,4 @@ use Rattle.basis.proofs.Prelude.{needs}
 use Rattle.planning.proofs.unplanned.{Statement.statement, Tie.{close, spec}}
 
 pub unplanned-spec : {M : Type 1} → statement M
-unplanned-spec = close (spec (λ c κs. search needs) (λ c κs. search needs) (λ c. rw (c .before .blank .ensures, c .none .ensures)))
+unplanned-spec = close (spec (λ c κs. search needs) (λ c κs. search needs) (λ c. cc))

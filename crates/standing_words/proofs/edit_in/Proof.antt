@@ -1,74 +1,52 @@
 -- `standing_words::edit_in` meets its contract: the plan of the call is carried out. Assumes nothing.
-use Rattle.basis.proofs.Prelude.{_∙_, _≡_, sym, _≤_, getD, length, length-set, length-take-le, arith, needs}
-use Rattle.plans.specs.Plans.{deeperBy}
-use Rattle.spell_places.specs.List.{countedOf}
-use Rattle.standing_words.proofs.{Assembling.{partsBack, array-back, parts-back}, Edits.{count-in, depth-in, plan-fits, edited}, edit_in.Statement.statement, edit_in.Tie.{Start, After-last-place, After-planned, After-find, After-number-of, After-note, After-change, close, spec}}
+use Rattle.basis.proofs.Prelude.{_≡_, sym, ℕ, List, _++_, drop, length, length-set, arith, needs}
+use Rattle.packing.specs.Layout.{spellsLength, countPlace, depthPlace}
+use Rattle.standing.proofs.Packed.{rejoined, array-long}
+use Rattle.standing_words.proofs.{Edits.{count-in, mid-room, both-kept, Planned, planned-in, count-fits, depth-fits, edited}, edit_in.{Statement.statement, Tie.{Start, After-number-of, After-planned, After-change-arg, After-change, After-slice-known5, close, spec}}}
 
--- ---- The places of the code
-
-module _ (c : Start) where
-  few : getD (c .args .words .now) 7744 0 ≤ 1024
-  few = count-in (c .args .words .now) (c .pre .0) (c .pre .1)
-
-  deep : getD (c .args .words .now) 7745 0 ≤ 64
-  deep = depth-in (c .args .words .now) (c .pre .0) (c .pre .1)
-
-module _ (c : After-last-place) where
-  entry-in : c .last-place .result ≤ 64
-  entry-in = omega (arith, c .last-place .ensures, deep (c .before .before .before .before .before))
-
+-- the plan, where it is made
 module _ (c : After-planned) where
-  abbrev found : After-find
-  found = c .before .before
-
   abbrev number : After-number-of
-  number = found .before .before
-
-  abbrev last : After-last-place
-  last = number .before .before
+  number = c .before .before .before .before
 
   abbrev start : Start
-  start = last .before .before .before .before .before
+  start = number .before .before .before .before .before .before .before
 
-  fits : (countedOf (getD (start .args .words .now) 7744 0) (c .planned .result .out) (c .planned .result .puts) ≤ 1024) × (deeperBy (c .planned .result .depth) (c .planned .result .notes) ≤ 64)
-  fits = plan-fits (start .args .words .now) (start .pre .0) (start .pre .1) (start .args .call) (last .last-place .ensures) (number .before .entry-at .ensures) (number .number-of .ensures) (found .find .ensures) (c .planned .ensures)
+  planned : Planned (start .args .words .now) (start .args .call) (c .planned .result)
+  planned =
+      planned-in (start .args .words .now) (start .args .call) (start .pre .0) (start .pre .1) (number .before .before .last-place .ensures) (number .before .entry-at .ensures)
+      (number .number-of .ensures) (c .before .before .find .ensures) (c .planned .ensures)
 
-module _ (c : After-note) where
+abbrev changing : After-change-arg → After-planned
+changing c = c .before .before .before .before .before
+
+-- the words with both parts put back
+module _ (c : After-slice-known5) where
   abbrev changed : After-change
-  changed = c .before .before .before .before
+  changed = c .before .before .before .before .before .before
 
-  abbrev planned : After-planned
-  planned = changed .before .before .before .before
+  abbrev plan : After-planned
+  plan = changing (changed .before)
 
-  long : length (partsBack (start planned .args .words .now) (start planned .pre .0) (changed .change .last .0) (c .note .last .0)) ≡ 7746
-  long = parts-back (start planned .args .words .now) (start planned .pre .0) (changed .change .last .0) (c .note .last .0) (changed .change .ensures .long) (c .note .ensures .long)
+  abbrev x : List ℕ
+  x = start plan .args .words .now
+
+  kept : length (rejoined (changed .change .last .0 ++ drop spellsLength x) (c .before .before .note .last .0)) ≡ length x
+  kept = both-kept x (changed .change .last .0) (start plan .pre .0) (changed .change .ensures .long) (c .before .before .note .last .0) (c .before .before .note .ensures .long)
 
 pub edit-in-spec : {M : Type 1} → statement M
 edit-in-spec = close (spec
-    (λ c. search needs) (λ c. omega (arith, few (c .before .before)))
-    (λ c. search needs) (λ c. omega (arith, deep (c .before .before .before)))
-    (λ c κs. search needs) (λ c. omega (arith, entry-in c)) (λ c. omega (arith, entry-in c))
-    (λ c κs. search needs) (λ c κs. search needs)
-    (λ c κs. (few (c .before .before .before .before .before .before .before .before), omega arith))
-    (λ c κs. search needs)
-    -- change(&mut words[..7168], ..)
-    (λ c. search needs)
-    (λ c. let s = start (c .before .before .before) in sym (length-take-le 7168 (s .args .words .now) (omega arith)))
-    (λ c κs. let s = start (c .before .before .before) in (few s, length-take-le 7168 (s .args .words .now) (omega arith)))
-    -- note(&mut words[7168..7744], ..)
-    (λ c. search needs) (λ c. search needs)
-    (λ c.
-    let changed = c .before .before in
-    let s = start (changed .before .before .before .before) in
-    omega (arith, array-back (s .args .words .now) (s .pre .0) (changed .change .last .0) (changed .change .last .0) (changed .change .ensures .long)))
-    (λ c κs. search needs)
+    (λ c. search needs) (λ c. omega (arith, c .slice-known2 .given countPlace)) (λ c. search needs) (λ c. omega (arith, c .slice-known3 .given depthPlace))
+    (λ c κs. search needs) (λ c. omega (arith, c .before .before .slice-known3 .given depthPlace)) (λ c. omega (arith, c .before .before .slice-known3 .given depthPlace))
+    (λ c κs. search needs) (λ c κs. search needs) (λ c κs. (search count-in, omega arith)) (λ c κs. search needs)
     -- the count and the depth
-    (λ c κs. search needs) (λ c. omega (arith, c .counted .ensures, fits (planned (c .before .before .before)) .0)) (λ c. omega (arith, long (c .before .before .before)))
-    (λ c κs. search needs) (λ c. omega (arith, c .deeper .ensures, fits (planned (c .before .before .before .before)) .1)) (λ c. simp length-set (omega (arith, long (c .before .before .before .before))))
-    (λ c. simp length-set (long (c .before .before .before .before) ∙ sym (start (planned (c .before .before .before .before)) .pre .0)))
-    (λ c.
-    let noted = c .before .before .before .before in
-    let p = planned noted in
-    let s = start p in
-    edited (s .args .words .now) (s .pre .0) (s .pre .1) (s .args .call) (last p .last-place .ensures) (number p .before .entry-at .ensures) (number p .number-of .ensures) (found p .find .ensures) (p .planned .ensures)
-    (changed noted .change .ensures) (noted .note .ensures) (c .before .counted .ensures) (c .deeper .ensures)))
+    (λ c κs. search needs) (λ c. let p = planned (c .before) in search (count-fits, needs))
+    (λ c κs. search needs) (λ c. let p = planned (c .before .before) in search (depth-fits, needs))
+    -- change(&mut words[..SPELLS], ..)
+    (λ c. let p = planned (c .before .before .before .before) in omega arith)
+    (λ c. let p = planned (changing c) in sym (search array-long)) (λ c κs. let p = planned (changing c) in (search count-in, search array-long))
+    -- note(&mut words[SPELLS..COUNT], ..)
+    (λ c. search needs) (λ c. search needs) (λ c. let p = planned (changing (c .before .before .before)) in search mid-room) (λ c κs. search needs)
+    -- the stores
+    (λ c. omega (arith, kept c, start (plan c) .pre .0)) (λ c. simp length-set (omega (arith, kept c, start (plan c) .pre .0))) (λ c. simp length-set (kept c))
+    (λ c. edited _ _ _ (planned (plan c)) (changed c .change .ensures) (c .before .before .note .ensures) (changed c .before .before .before .before .before .counted .ensures) (changed c .before .before .before .before .deeper .ensures)))
