@@ -1,9 +1,9 @@
 -- `standing_words::find` meets its contract: i spells are passed, and what is found is i and what the rest finds. Assumes nothing.
 use Rattle.basis.proofs.Prelude.{_≡_, sym, _+_, _-_, _≤_, drop, take, zero-add, arith, needs}
 use Rattle.spell_places.specs.Search.{lead, standsAt}
-use Rattle.standing_list.proofs.Finding.{passes}
+use Rattle.standing_list.proofs.Finding.{passes, found-here, found-next, found-none}
 use Rattle.standing_words.specs.Contracts.{spellsOf}
-use Rattle.standing_words.proofs.{Reading.{found-here, found-next, found-none}, find.{Statement.statement, Tie.{InvT-loop, MeasureT-loop, close, spec}}}
+use Rattle.standing_words.proofs.{Reading.{places, spell-is, number-is, number-not}, find.{Statement.statement, Tie.{InvT-loop, MeasureT-loop, close, spec}}}
 
 abbrev Inv-loop : InvT-loop
 Inv-loop words n k i₀ i = (i ≤ n) × (standsAt k (take n (spellsOf words)) ≡ i + lead (passes k) (drop i (take n (spellsOf words))))
@@ -17,6 +17,6 @@ find-spec = close (spec
     -- words[SPELL * i] == k
     (λ c. omega arith) (λ c. omega arith) (λ c. omega arith) (λ c. omega arith) (λ c κs. search needs)
     -- it stands at i, or not
-    (λ c. search found-here) (λ c. omega arith) (λ c. omega arith) (λ c. (omega arith, search (found-next, c .if1 .left)))
+    (λ c. search (found-here, places, spell-is, number-is)) (λ c. omega arith) (λ c. omega arith) (λ c. (omega arith, search (found-next, places, number-not, c .if1 .left)))
     -- it does not stand
-    (λ c κs. search needs) (λ c. search found-none))
+    (λ c κs. search needs) (λ c. search (found-none, places)))
