@@ -9,7 +9,7 @@ pub use Rattle.register.{proofs.Texts.written-read, specs.Text.{Register, bad, 
 unfoldable pub use Rattle.register.specs.{Answers.readingOf, Text.readText}
 pub use Rattle.spell.{proofs.Order.text-order, specs.{Blank.blank, Listing.{Good, Sound}, declared.{Spell.Spell, Urgency.the-variants.Grade}}}
 unfoldable pub use Rattle.spell.specs.{Listing.{Each, stands}, Order.earlierOf, Same.sameOf}
-pub use Rattle.journal.{proofs.{Journal.pop, Past.{goods-take, length-past, past-pushed}, Words.{entry-back, entry-long}}, specs.{Journal.{blankEntry, noting, newestOf}, declared.Undo.Undo}}
+pub use Rattle.journal.{proofs.{Journal.pop, Past.{goods-take, length-past, past-pushed}, Words.{entry-back, entry-long}}, specs.{Journal.{blankEntry, newestFirst, noting, newestOf}, declared.Undo.Undo}}
 unfoldable pub use Rattle.journal.specs.Words.{entryOf, entryWords}
 pub use Rattle.spell_places.{proofs.{Found.insert-remove, Changing.counted-is}, specs.{List.{changing, countedOf, putting, without}, Search.{foundIn, standsAt}, declared.Located.Located}}
 unfoldable pub use Rattle.spell_places.specs.Search.{lead}

@@ -1,6 +1,6 @@
 -- What stands in the places of an array whose first ones were written, and of a standing list so made. Assumes nothing.
 use Rattle.basis.proofs.Prelude.{_∙_, _≡_, ap, _≤_, ℕ, List, reverse, reverse-reverse, drop, length, length-reverse, take, length-take-le, take-append-seam, take-at, arith}
-use Rattle.standing.proofs.Names.{over, own-over, over-length, Spell, Good, Undo, Standing, holding, listOf, entries, pastOf, pasts, Goods, Wf}
+use Rattle.standing.proofs.Names.{over, own-over, over-length, Spell, Good, Undo, Standing, holding, newestFirst, listOf, entries, pastOf, pasts, Goods, Wf}
 
 -- ---- A standing list
 
@@ -9,15 +9,24 @@ pub same : {a b : List Spell} {n m : ℕ} {i j : List Undo} {d e : ℕ} → a �
     → _≡_ {A = Standing} (record { spells = a; count = n; journal = i; depth = d }) (record { spells = b; count = m; journal = j; depth = e })
 same p q r s = rw (p, q, r, s)
 
+pub list-length : {st : Standing} → Wf st → length (listOf st) ≡ st .count
+list-length {st} w = length-take-le (st .count) (st .spells) (omega (arith, w .places, w .count-in))
+
+-- the entries of the first d places, and these put over the journal
+module _ {st : Standing} (w : Wf st) (d : ℕ) (h : d ≤ st .depth) where
+  fits : d ≤ length (st .journal)
+  fits = omega (arith, w .rooms, w .depth-in)
+
+  pub entries-long : length (newestFirst d (st .journal)) ≡ d
+  entries-long = length-reverse (take d (st .journal)) ∙ length-take-le d (st .journal) fits
+
+  pub journal-own : over (reverse (newestFirst d (st .journal))) (st .journal) ≡ st .journal
+  journal-own = rw (reverse-reverse (take d (st .journal))) (own-over d (st .journal) fits)
+
 -- its own list and entries change nothing
 pub over-same : (st : Standing) → Wf st → holding st (listOf st) (entries st) ≡ st
 over-same st w =
-    let long : length (take (st .count) (st .spells)) ≡ st .count = length-take-le (st .count) (st .spells) (omega (arith, w .places, w .count-in)) in
-    let deep : length (take (st .depth) (st .journal)) ≡ st .depth = length-take-le (st .depth) (st .journal) (omega (arith, w .rooms, w .depth-in)) in
-    same (own-over (st .count) (st .spells) (omega (arith, w .places, w .count-in)))
-    long
-    (ap (λ (l : List Undo). over l (st .journal)) (reverse-reverse (take (st .depth) (st .journal))) ∙ own-over (st .depth) (st .journal) (omega (arith, w .rooms, w .depth-in)))
-    (length-reverse (take (st .depth) (st .journal)) ∙ deep)
+    same (own-over (st .count) (st .spells) (omega (arith, w .places, w .count-in))) (list-length w) (journal-own w (st .depth) (omega arith)) (entries-long w (st .depth) (omega arith))
 
 module _ (st : Standing) (l : List Spell) (es : List Undo) where
   pub list-over : listOf (holding st l es) ≡ l

@@ -1,6 +1,6 @@
 -- A plan carried out is what the account says of its call: pure facts, no code. Assumes nothing.
-use Rattle.basis.proofs.Prelude.{_∙_, _≡_, ap, refl, sym, ℕ, List, _∷_, Bool, _&&_, cond, false, not, true, eqb, getD, length, length-reverse, length-take, take, length-take-le, arith, both, clash, eqb-false, eqb-true, not-true, by-test}
-use Rattle.standing.proofs.{Names.{own-over, accepted, unknownNumber, Spell, Sound, Good, Goods, makes, Edits, undo, pastOf, pasts, remember, past-pushed, goods-take, text-order, earlierOf, insert, remove, replace, entering, replacing, insert-remove, remove-none, remove-insert, removed-gone, orderly-insert, orderly-remove, orderly-replace, enters, amends, strikeRefusal, stands, blank, idle, enterRefusal, amendRefusal, Call, Enter, Amend, Strike, TakeBack, Publish, Write, Ask, Undo, noting, Standing, Edited, Plan, listOf, entries, Wf, Keeps, Does, standsAt, changing, countedOf, counted-is, putting, without, Located, foundIn, relisted, holding, noted, deeperBy, newestOf, noPlan, planAmend, planBack, planEnter, planStrike, planOf, numberOf, Takes, Makes, Undoes, none-keeps, enter-leaves, enter-makes, amend-leaves, amend-idles, amend-makes, strike-leaves, strike-makes, back-leaves, back-undoes, deeper-noted}, Places.{same, list-over, past-over, wf-over}, Calls.{list-length, takes-none, takes-back, lowered, undo-room}}
+use Rattle.basis.proofs.Prelude.{_∙_, _≡_, ap, refl, sym, ℕ, List, _∷_, Bool, _&&_, cond, false, not, true, eqb, getD, length, length-take, _-_, arith, both, clash, eqb-false, eqb-true, not-true, by-test}
+use Rattle.standing.proofs.{Names.{over, own-over, accepted, unknownNumber, Spell, Sound, Good, Goods, makes, Edits, undo, pastOf, pasts, remember, past-pushed, goods-take, text-order, earlierOf, insert, remove, replace, entering, replacing, insert-remove, remove-none, remove-insert, removed-gone, orderly-insert, orderly-remove, orderly-replace, enters, amends, strikeRefusal, stands, blank, idle, enterRefusal, amendRefusal, Call, Enter, Amend, Strike, TakeBack, Publish, Write, Ask, Undo, noting, Standing, Edited, Plan, listOf, entries, Wf, Keeps, Does, standsAt, changing, countedOf, counted-is, putting, without, Located, foundIn, holding, noted, deeperBy, newestOf, noPlan, planAmend, planBack, planEnter, planStrike, planOf, numberOf, Takes, Makes, Undoes, none-keeps, enter-leaves, enter-makes, amend-leaves, amend-idles, amend-makes, strike-leaves, strike-makes, back-leaves, back-undoes, deeper-noted}, Places.{same, list-length, entries-long, list-over, past-over, wf-over}, Calls.{takes-none, takes-one, undo-room}}
 
 -- all places after a plan is carried out
 abbrev pub applied : Standing → Plan → Standing
@@ -43,7 +43,7 @@ module _ {st : Standing} (w : Wf st) where
 
   deep : (e : Undo) → deeperBy (st .depth) true ≡ length (noted e (entries st))
   deep e =
-      let long : length (entries st) ≡ st .depth = length-reverse (take (st .depth) (st .journal)) ∙ length-take-le (st .depth) (st .journal) (omega (arith, w .rooms, w .depth-in)) in
+      let long = entries-long w (st .depth) (omega arith) in
       ap (λ (d : ℕ). deeperBy d true) (sym long) ∙ deeper-noted e (entries st) (omega (arith, w .depth-in))
 
   -- an entry is noted
@@ -53,7 +53,8 @@ module _ {st : Standing} (w : Wf st) where
       (ap (λ (t : Standing). record { standing = t; refusal = accepted }) (same refl (count-is (x .out) (x .puts) (x .spell)) refl (deep e)))
 
   -- the newest entry goes
-  undone : {x : Plan} {l : List Spell} → Undoes x (listOf st) l (st .depth) → outcome st x ≡ record { standing = relisted (lowered st) l; refusal = accepted }
+  undone : {x : Plan} {l : List Spell} → Undoes x (listOf st) l (st .depth)
+      → outcome st x ≡ record { standing = record { spells = over l (st .spells); count = length l; journal = st .journal; depth = st .depth - 1 }; refusal = accepted }
   undone {x} m =
       rw (m .done, m .notes, m .depth, ← m .list)
       (ap (λ (t : Standing). record { standing = t; refusal = accepted }) (same refl (count-is (x .out) (x .puts) (x .spell)) refl refl))
@@ -147,7 +148,7 @@ module _ {st : Standing} (w : Wf st) where
       as-known TakeBack (left (back-leaves newest p none)) (takes-none w none))
       (λ e.
       let some = eqb-false (st .depth) 0 e in
-      as-known TakeBack (undone (back-undoes (listOf st) newest (st .depth) refl some (undo-room w some))) (takes-back w some))
+      as-known TakeBack (undone (back-undoes (listOf st) newest (st .depth) refl some (undo-room w some))) (takes-one w some))
 
   keeps : Keeps st (outcome st (noPlan (st .depth) accepted))
   keeps = left refl
