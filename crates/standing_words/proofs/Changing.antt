@@ -1,14 +1,6 @@
 -- What moving and putting words makes of the spells and the entries that they hold. Assumes nothing.
 use Rattle.basis.proofs.Prelude.{_∙_, _≡_, ap, refl, sym, _*_, _-_, _<_, _≤_, ℕ, List, Bool, _&&_, false, not, true, ltb, drop, length, take, length-take-le, take-append-seam, arith, le-leb, le-ltb, lt-ltb, not-false, not-true, by-test}
-use Rattle.buffer.{specs.Buffer.over, proofs.Over.{over-twice, own-over}}
-use Rattle.spell.specs.{declared.Spell.Spell, Order.earlierOf}
-use Rattle.model.{specs.Edits.insert, proofs.Edits.length-insert}
-use Rattle.packing.{specs.{Layout.{spellWidth, entryWidth, spellsLength, journalLength, lastEntry}, Blocks.{Put, parts, written}, Words.{spellWords, spellOf}}, proofs.{Words.{spell-long, spell-near}, Blocks.parts-length}}
-use Rattle.spell_places.{specs.{List.{without, putting, countedOf, leftOf}, Search.placeOf}, proofs.{Lists.{closed, close-all, remove-none, opened}, Search.insert-at, Changing.{left-le, left-length}}}
-use Rattle.journal.{specs.{declared.Undo.Undo, Words.{entryWords, entryOf}}, proofs.{Journal.{push-room, push-full}, Words.entry-long}}
-use Rattle.standing.proofs.Packed.{entry-near}
-use Rattle.standing_words.specs.{Moves.{lowered, raised}, Contracts.{Holds, spellsOf, TakesOut, PutsIn, Exchanges, entriesOf, Notes}}
-use Rattle.standing_words.proofs.{Moves.raised-put, Values.{lowers, inserts, puts-over}, Reading.{places, place-in}}
+use Rattle.standing_words.proofs.{Moves.raised-put, Names.{Exchanges, Holds, Notes, Put, PutsIn, Spell, TakesOut, Undo, close-all, closed, countedOf, earlierOf, entriesOf, entry-long, entry-near, entryOf, entryWidth, entryWords, insert, insert-at, journalLength, lastEntry, left-le, left-length, leftOf, length-insert, lowered, opened, over, over-twice, own-over, parts, parts-length, placeOf, push-full, push-room, putting, raised, remove-none, spell-long, spell-near, spellOf, spellWidth, spellWords, spellsLength, spellsOf, without, written}, Reading.{place-in, places}, Values.{inserts, lowers, puts-over}}
 
 module _ {A : Type 0} {k : ℕ} {f : A → List ℕ} {g : List ℕ → A} {n : ℕ} where
   -- words hold what is read of them

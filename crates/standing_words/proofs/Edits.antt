@@ -1,12 +1,6 @@
 -- What the code makes of the words, part by part, is a plan carried out on the standing list that they hold. Assumes nothing.
 use Rattle.basis.proofs.Prelude.{_∙_, _≡_, ap, refl, sym, _*_, _+_, _-_, _<_, _≤_, ℕ, List, _++_, drop, getD, length, length-append, length-drop, set, take, drop-at, drop-drop, take-at, arith}
-use Rattle.model.specs.declared.Call.{Call, the-variants.{Enter, Amend, Strike, TakeBack, Publish, Write, Ask}}
-use Rattle.packing.{specs.{Layout.{spellWidth, entryWidth, spellsLength, journalLength, countPlace, depthPlace, standingLength}, Blocks.{parts, written}, Words.{spellWords, spellOf}}, proofs.Blocks.{parts-at, parts-length}}
-use Rattle.spell_places.specs.{List.countedOf, Search.foundIn, declared.Located.Located}
-use Rattle.journal.specs.{declared.Undo.Undo, Words.{entryWords, entryOf}, Journal.blankEntry}
-use Rattle.plans.specs.{declared.Plan.Plan, Plans.{planOf, Takes, numberOf, deeperBy}}
-use Rattle.standing.{specs.{declared.{Standing.Standing, Edited.Edited}, Standing.{Wf, Does}, Packed.{packed, unpacked}}, proofs.{Plans.{planFor, planned-is, carried}, Packed.{assembled, arrayIn, journalIn, rejoined, array-is, journal-is, rejoined-long, put-back, unpacked-assembled, spells-long, entries-long, packed-is}}}
-use Rattle.standing_words.specs.{Edits.{EditedIn, Laid}, Contracts.{spellsOf, entriesOf, Exchanges, Notes}}
+use Rattle.standing_words.proofs.Names.{Amend, Ask, Call, Does, Edited, EditedIn, Enter, Exchanges, Laid, Located, Notes, Plan, Publish, Standing, Strike, TakeBack, Takes, Undo, Wf, Write, array-is, arrayIn, assembled, blankEntry, carried, countPlace, countedOf, deeperBy, depthPlace, entries-long, entriesOf, entryOf, entryWidth, entryWords, foundIn, journal-is, journalIn, journalLength, numberOf, packed, packed-is, parts, parts-at, parts-length, planFor, planOf, planned-is, put-back, rejoined, rejoined-long, spellOf, spellWidth, spellWords, spells-long, spellsLength, spellsOf, standingLength, unpacked, unpacked-assembled, written}
 
 -- what any call leaves is a standing list that the calls gave
 does-wf : {st : Standing} (w : Wf st) (c : Call) (r : Edited) → Does st c r → Wf (r .standing)

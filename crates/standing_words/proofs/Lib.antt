@@ -3,3 +3,4 @@ pub mod Values
 pub mod Reading
 pub mod Changing
 pub mod Edits
+mod Names

@@ -1,8 +1,6 @@
 -- How a loop moves words down or up, one after the other. Assumes nothing.
 use Rattle.basis.proofs.Prelude.{_∙_, _≡_, ap, sym, _*_, _+_, _-_, _<_, _≤_, suc, ℕ, List, [], _++_, _∷_, append-assoc, drop, getD, length, length-append, length-drop, set, take, take-append-drop, append-snoc, drop-append-le, drop-at, drop-cons, getD-append-add, getD-drop, getD-take, length-slice, length-take-le, set-at, slice, slice-cons, slice-empty, take-suc, take-take, add-one, arith, List·getD-append}
-use lib.Seq.{take-append-le}
-use Rattle.packing.{specs.Blocks.put, proofs.Blocks.put-room}
-use Rattle.standing_words.specs.Moves.{lowered, raised, inserted}
+use Rattle.standing_words.proofs.Names.{inserted, lowered, put, put-room, raised, take-append-le}
 
 module _ (w p : ℕ) (l : List ℕ) where
   pub lower-none : l ≡ lowered w p p l

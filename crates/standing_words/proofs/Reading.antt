@@ -1,10 +1,6 @@
 -- The spells that words hold, as the code reads them. Assumes nothing.
 use Rattle.basis.proofs.Prelude.{_∙_, _≡_, ap, refl, sym, _*_, _<_, _≤_, ℕ, List, drop, getD, length, take, arith}
-use Rattle.spell.specs.{declared.Spell.Spell, Blank.blank}
-use Rattle.packing.{specs.{Layout.{spellWidth, spellsLength}, Words.spellOf}, proofs.{Blocks.{parts-length, parts-at}, Words.spell-read}}
-use Rattle.spell_places.specs.Search.{placeOf}
-use Rattle.standing_list.proofs.Finding.{place-le}
-use Rattle.standing_words.specs.Contracts.{spellsOf}
+use Rattle.standing_words.proofs.Names.{Spell, blank, parts-at, parts-length, place-le, placeOf, spell-read, spellOf, spellWidth, spellsLength, spellsOf}
 
 -- so many spells as there are places
 pub places : (x : List ℕ) {n : ℕ} → n ≤ 1024 → n ≤ length (spellsOf x)

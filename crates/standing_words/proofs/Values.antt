@@ -1,10 +1,6 @@
 -- Words that hold values, k words each: cut and joined at whole values they hold the values cut and joined. Assumes nothing.
 use Rattle.basis.proofs.Prelude.{_∙_, _≡_, ap, refl, sym, _*_, _+_, _-_, _<_, _≤_, suc, ℕ, List, [], _++_, _∷_, append-assoc, append-nil, drop, length, length-append, length-drop, take, take-append-drop, drop-at, length-take-le, slice, set, set-split, take-at, take-take, mul-le-mul-right, suc-mul, arith}
-use native.Mathlib.Nat.{add-mul}
-use Rattle.buffer.specs.Buffer.{over}
-use Rattle.packing.{specs.Blocks.{parts, put, written}, proofs.Blocks.{parts-length, parts-part, parts-near, put-room, written-append, written-length}}
-use Rattle.spell_places.proofs.Lists.{opened, closed, front}
-use Rattle.standing_words.specs.{Moves.{lowered, inserted}, Contracts.Holds}
+use Rattle.standing_words.proofs.Names.{Holds, add-mul, closed, front, inserted, lowered, opened, over, parts, parts-length, parts-near, parts-part, put, put-room, written, written-append, written-length}
 
 module _ {A : Type 0} (k : ℕ) (f : A → List ℕ) (g : List ℕ → A) (wide : (x : A) → length (f x) ≡ k) (near : (x r : List ℕ) → k ≤ length x → g (x ++ r) ≡ g x) (L : Type 0) where
   abbrev Are : ℕ → List ℕ → List A → Type 0

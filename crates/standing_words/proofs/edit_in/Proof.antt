@@ -1,8 +1,6 @@
 -- `standing_words::edit_in` meets its contract: the plan of the call is carried out. Assumes nothing.
 use Rattle.basis.proofs.Prelude.{_≡_, sym, ℕ, List, _++_, drop, length, length-set, arith, needs}
-use Rattle.packing.specs.Layout.{spellsLength, countPlace, depthPlace}
-use Rattle.standing.proofs.Packed.{rejoined, array-long}
-use Rattle.standing_words.proofs.{Edits.{count-in, mid-room, both-kept, Planned, planned-in, count-fits, depth-fits, edited}, edit_in.{Statement.statement, Tie.{Start, After-number-of, After-planned, After-change-arg, After-change, After-slice-known5, close, spec}}}
+use Rattle.standing_words.proofs.{Edits.{Planned, both-kept, count-fits, count-in, depth-fits, edited, mid-room, planned-in}, Names.{array-long, countPlace, depthPlace, rejoined, spellsLength}, edit_in.{Statement.statement, Tie.{After-change, After-change-arg, After-number-of, After-planned, After-slice-known5, Start, close, spec}}}
 
 -- the plan, where it is made
 module _ (c : After-planned) where

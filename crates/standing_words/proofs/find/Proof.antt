@@ -1,9 +1,6 @@
 -- `standing_words::find` meets its contract: i spells are passed, and what is found is i and what the rest finds. Assumes nothing.
 use Rattle.basis.proofs.Prelude.{_≡_, sym, _+_, _-_, _≤_, drop, take, zero-add, arith, needs}
-use Rattle.spell_places.specs.Search.{lead, standsAt}
-use Rattle.standing_list.proofs.Finding.{passes, found-here, found-next, found-none}
-use Rattle.standing_words.specs.Contracts.{spellsOf}
-use Rattle.standing_words.proofs.{Reading.{places, spell-is, number-is, number-not}, find.{Statement.statement, Tie.{InvT-loop, MeasureT-loop, close, spec}}}
+use Rattle.standing_words.proofs.{Names.{found-here, found-next, found-none, lead, passes, spellsOf, standsAt}, Reading.{number-is, number-not, places, spell-is}, find.{Statement.statement, Tie.{InvT-loop, MeasureT-loop, close, spec}}}
 
 abbrev Inv-loop : InvT-loop
 Inv-loop words n k i₀ i = (i ≤ n) × (standsAt k (take n (spellsOf words)) ≡ i + lead (passes k) (drop i (take n (spellsOf words))))

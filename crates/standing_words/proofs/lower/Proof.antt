@@ -1,7 +1,6 @@
 -- `standing_words::lower` meets its contract: the words up to i have moved. Assumes nothing.
 use Rattle.basis.proofs.Prelude.{_≡_, refl, _-_, _≤_, length, length-set, arith}
-use Rattle.standing_words.specs.Moves.{lowered}
-use Rattle.standing_words.proofs.{Moves.{lower-none, lower-step}, lower.Statement.statement, lower.Tie.{InvT-loop, MeasureT-loop, close, spec}}
+use Rattle.standing_words.proofs.{Moves.{lower-none, lower-step}, Names.lowered, lower.{Statement.statement, Tie.{InvT-loop, MeasureT-loop, close, spec}}}
 
 abbrev Inv-loop : InvT-loop
 Inv-loop words₀ from to by i₀ words i = (from ≤ i) × (i ≤ to) × (length words ≡ length words₀) × (words ≡ lowered by from i words₀)

@@ -1,6 +1,6 @@
 -- `standing_words::note` meets its contract. Assumes nothing.
 use Rattle.basis.proofs.Prelude.{needs}
-use Rattle.standing_words.proofs.{Changing.{notes-none, notes-room, notes-full}, note.{Statement.statement, Tie.{close, spec}}}
+use Rattle.standing_words.proofs.{Changing.{notes-full, notes-none, notes-room}, note.{Statement.statement, Tie.{close, spec}}}
 
 pub note-spec : {M : Type 1} → statement M
 note-spec = close (spec

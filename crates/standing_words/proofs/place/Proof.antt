@@ -1,10 +1,6 @@
 -- `standing_words::place` meets its contract: i spells are passed, and s goes i and what the rest says further. Assumes nothing.
 use Rattle.basis.proofs.Prelude.{_≡_, sym, _+_, _-_, _≤_, drop, take, zero-add, arith, needs, not-false, not-true}
-use Rattle.spell.specs.Order.{earlierOf}
-use Rattle.spell_places.specs.Search.{lead, placeOf}
-use Rattle.standing_list.proofs.Finding.{place-next, place-here, place-end}
-use Rattle.standing_words.specs.Contracts.{spellsOf}
-use Rattle.standing_words.proofs.{Reading.{places, spell-is}, place.{Statement.statement, Tie.{InvT-loop, MeasureT-loop, close, spec}}}
+use Rattle.standing_words.proofs.{Names.{earlierOf, lead, place-end, place-here, place-next, placeOf, spellsOf}, Reading.{places, spell-is}, place.{Statement.statement, Tie.{InvT-loop, MeasureT-loop, close, spec}}}
 
 abbrev Inv-loop : InvT-loop
 Inv-loop words m s i₀ i = (i ≤ m) × (placeOf s (take m (spellsOf words)) ≡ i + lead (λ x. earlierOf x s) (drop i (take m (spellsOf words))))

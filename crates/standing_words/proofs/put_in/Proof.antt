@@ -1,6 +1,6 @@
 -- `standing_words::put_in` meets its contract. Assumes nothing.
 use Rattle.basis.proofs.Prelude.{_≤_, arith, needs}
-use Rattle.standing_words.proofs.{Reading.place-in, Changing.{puts-not, puts-full, puts-one}, put_in.{Statement.statement, Tie.{After-place, close, spec}}}
+use Rattle.standing_words.proofs.{Changing.{puts-full, puts-not, puts-one}, Reading.place-in, put_in.{Statement.statement, Tie.{After-place, close, spec}}}
 
 low : (c : After-place) → c .place .result ≤ c .before .before .before .before .before .args .m
 low c = search place-in

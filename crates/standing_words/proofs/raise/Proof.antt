@@ -1,7 +1,6 @@
 -- `standing_words::raise` meets its contract: the words from i on have moved. Assumes nothing.
 use Rattle.basis.proofs.Prelude.{_≡_, refl, _-_, _≤_, suc, length, length-set, arith}
-use Rattle.standing_words.specs.Moves.{raised}
-use Rattle.standing_words.proofs.{Moves.{raise-none, raise-step}, raise.Statement.statement, raise.Tie.{InvT-loop, MeasureT-loop, close, spec}}
+use Rattle.standing_words.proofs.{Moves.{raise-none, raise-step}, Names.raised, raise.{Statement.statement, Tie.{InvT-loop, MeasureT-loop, close, spec}}}
 
 abbrev Inv-loop : InvT-loop
 Inv-loop words₀ from to by i₀ words i = (from ≤ i) × (i ≤ to) × (length words ≡ length words₀) × (words ≡ raised by i to words₀)
