@@ -1,7 +1,6 @@
 -- Values written one after the other, and read back: how a loop writes and reads them, and that reading gives back what was written. Assumes nothing.
 use Rattle.basis.proofs.Prelude.{_∙_, _≡_, ap, refl, sym, _*_, _+_, _<_, _≤_, suc, zero, ℕ, List, [], _++_, _∷_, append-assoc, append-nil, drop, drop-of-length-le, getD, length, length-append, length-drop, set, take, append-snoc, drop-append-add, drop-append-le, drop-at, drop-cons, drop-drop, length-sets, length-take-le, set-at, sets, sets-eq, take-all, take-at, take-suc, le-trans, mul-le-mul-right, suc-mul, zero-mul, zero-add, add-one, getD-at, take-suc-set, _-_, decLe, arith, le-leb, lt-leb}
-use Rattle.buffer.{specs.Buffer.over, proofs.Over.over-length}
-use Rattle.packing.specs.Blocks.{put, written, parts, Every, Put, PutAll}
+use Rattle.packing.proofs.Names.{Every, Put, PutAll, over, over-length, parts, put, written}
 
 -- ---- Words put into a list
 

@@ -1,8 +1,6 @@
 -- Worked examples: a spell's words at the edges of its numbers, and the urgency of a kind and a value. Assumes nothing.
 use Rattle.basis.proofs.Prelude.{_≡_, refl, ℕ, List, [], _∷_}
-use lib.Ieee.{binary32, ofBits, toBits}
-use Rattle.spell.specs.{declared.{Urgency.{Urgency, the-variants.{Grade, Reading}}, Spell.Spell}, Blank.blank}
-use Rattle.packing.specs.Words.{urgencyOf, spellWords, spellOf}
+use Rattle.packing.proofs.Names.{Grade, Reading, Spell, Urgency, binary32, blank, ofBits, spellOf, spellWords, toBits, urgencyOf}
 
 -- five fields that differ, each of more than 8 bits
 abbrev of : Urgency → Spell

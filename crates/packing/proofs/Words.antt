@@ -1,11 +1,6 @@
 -- A spell's words read back as the spell. Assumes nothing.
 use Rattle.basis.proofs.Prelude.{_≡_, ap, refl, _+_, _-_, _<_, _≤_, ℕ, List, _++_, true, leb, drop, getD, length, length-append, length-drop, List·getD-append, set, getD-drop, add-zero, div-add-mod', add-five, add-four, add-one, add-six, add-three, add-two, arith, le-leb, leb-true, lt-leb, both}
-use lib.Ieee.{binary32, Bits.ofBits-toBits}
-use mir.Val.{Val}
-use denote.Laws.{Is}
-use Rattle.spell.{specs.{declared.{Urgency.{Urgency, the-variants.{Grade, Reading}}, Spell.Spell}, Entry.urgencyOk, Listing.{HeldUrgency, Sound}, Blank.blank}, proofs.{Entered.entered, Urgency.the-row as urgency-row, Spell.the-row as spell-row}}
-use Rattle.packing.specs.{Layout.spellWidth, Words.{kindOf, valueOf, urgencyOf, Narrow, low, high, joined, spellWords, spellOf}, Blocks.{Put}}
-use Rattle.packing.proofs.Blocks.{put-sets}
+use Rattle.packing.proofs.{Blocks.put-sets, Names.{Grade, HeldUrgency, Is, Narrow, Put, Reading, Sound, Spell, Urgency, Val, binary32, blank, entered, high, joined, kindOf, low, ofBits-toBits, spell-row, spellOf, spellWidth, spellWords, urgency-row, urgencyOf, urgencyOk, valueOf}}
 
 pub spell-long : (s : Spell) → length (spellWords s) ≡ spellWidth
 unfolding spellWords

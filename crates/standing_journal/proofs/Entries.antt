@@ -1,10 +1,6 @@
 -- An entry's words as the code writes and reads them, and the journal with one entry more. Assumes nothing.
 use Rattle.basis.proofs.Prelude.{_∙_, _≡_, sym, _+_, _<_, _≤_, ℕ, List, not, eqb, drop, getD, length, set, arith}
-use mir.Val.{boolByte}
-use Rattle.spell.specs.declared.Spell.{Spell}
-use Rattle.packing.specs.{Layout.entryWidth, Blocks.Put, Words.{spellWords, spellOf}}
-use Rattle.spell_places.proofs.Lists.{closed, close-step}
-use Rattle.journal.{specs.{declared.Undo.Undo, Journal.{blankEntry, noting}, Words.{entryWords, entryOf}}, proofs.{Journal.push-full, Words.{put-entry, entry-back, entry-at, entry-none}}}
+use Rattle.standing_journal.proofs.Names.{Put, Spell, Undo, blankEntry, boolByte, close-step, closed, entry-at, entry-back, entry-none, entryOf, entryWidth, entryWords, noting, push-full, put-entry, spellOf, spellWords}
 
 module _ (e : Undo) (l : List ℕ) (at : ℕ) where
   pub entry-put : {l′ : List ℕ} → at + entryWidth ≤ length l → Put spellWords spellOf (e .spell) (at + 2) (set (set l at (e .number)) (at + 1) (boolByte (e .stood))) l′

@@ -1,7 +1,6 @@
 -- `packing::put_spell` meets its contract: seven stores, where there is room. Assumes nothing.
 use Rattle.basis.proofs.Prelude.{length-set, arith, needs}
-use Rattle.packing.specs.{Layout.spellWidth, Words.{spellWords, spellOf}}
-use Rattle.packing.proofs.{Blocks.unput, Words.{spell-long, spell-back, spell-held, spell-put, room}, put_spell.{Statement.statement, Tie.{close, spec}}}
+use Rattle.packing.proofs.{Blocks.unput, Names.{spellOf, spellWidth, spellWords}, Words.{room, spell-back, spell-held, spell-long, spell-put}, put_spell.{Statement.statement, Tie.{close, spec}}}
 
 pub put-spell-spec : {M : Type 1} → statement M
 put-spell-spec = close (spec

@@ -1,8 +1,6 @@
 -- `packing::put_spells` meets its contract. The loop's invariant: the words of the first i spells are put. Assumes nothing.
 use Rattle.basis.proofs.Prelude.{_-_, _≤_, take, arith, needs}
-use native.Mathlib.Nat.{mul-comm}
-use Rattle.packing.specs.{Blocks.PutAll, Words.{spellWords, spellOf}}
-use Rattle.packing.proofs.{Blocks.{put-short, put-nothing, put-more, put-done, put-long}, Words.spell-long, put_spells.{Statement.statement, Tie.{InvT-loop, MeasureT-loop, close, spec}}}
+use Rattle.packing.proofs.{Blocks.{put-done, put-long, put-more, put-nothing, put-short}, Names.{PutAll, mul-comm, spellOf, spellWords}, Words.spell-long, put_spells.{Statement.statement, Tie.{InvT-loop, MeasureT-loop, close, spec}}}
 
 abbrev Inv-loop : InvT-loop
 Inv-loop out₀ spells i₀ out i = (i ≤ 1024) × PutAll spellWords spellOf (take i spells) out₀ out

@@ -1,6 +1,6 @@
 -- `packing::spell_at` meets its contract. Assumes nothing.
 use Rattle.basis.proofs.Prelude.{arith, needs}
-use Rattle.packing.proofs.{Words.{spell-read, spell-none, room}, spell_at.{Statement.statement, Tie.{close, spec}}}
+use Rattle.packing.proofs.{Words.{room, spell-none, spell-read}, spell_at.{Statement.statement, Tie.{close, spec}}}
 
 pub spell-at-spec : {M : Type 1} → statement M
 spell-at-spec = close (spec

@@ -1,8 +1,6 @@
 -- `packing::spells_at` meets its contract. The loop's invariant: the first i spells are read. Assumes nothing.
 use Rattle.basis.proofs.Prelude.{_≡_, _-_, _≤_, length, take, arith, needs}
-use native.Mathlib.Nat.{mul-comm}
-use Rattle.packing.specs.{Layout.spellWidth, Blocks.parts, Words.spellOf}
-use Rattle.packing.proofs.{Blocks.{parts-more, parts-done}, spells_at.{Statement.statement, Tie.{InvT-loop, MeasureT-loop, close, spec}}}
+use Rattle.packing.proofs.{Blocks.{parts-done, parts-more}, Names.{mul-comm, parts, spellOf, spellWidth}, spells_at.{Statement.statement, Tie.{InvT-loop, MeasureT-loop, close, spec}}}
 
 abbrev Inv-loop : InvT-loop
 Inv-loop words spells₀ i₀ spells i = (i ≤ 1024) × (length spells ≡ 1024) × (take i spells ≡ parts spellWidth spellOf i words)

@@ -1,7 +1,6 @@
 -- `packing::urgency_of` meets its contract. Assumes nothing.
 use Rattle.basis.proofs.Prelude.{needs, eq-eqb, le-leb, lt-leb, ne-eqb}
-use Rattle.packing.specs.Words.{urgencyOf}
-use Rattle.packing.proofs.urgency_of.{Statement.statement, Tie.{close, spec}}
+use Rattle.packing.proofs.{Names.urgencyOf, urgency_of.{Statement.statement, Tie.{close, spec}}}
 
 ruleset tests = (eq-eqb, ne-eqb, le-leb, lt-leb)
 

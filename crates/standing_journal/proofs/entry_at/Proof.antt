@@ -1,7 +1,6 @@
 -- `standing_journal::entry_at` meets its contract. Assumes nothing.
 use Rattle.basis.proofs.Prelude.{needs}
-use Rattle.packing.proofs.Words.{room}
-use Rattle.standing_journal.proofs.{Entries.{entry-read, entry-unread}, entry_at.{Statement.statement, Tie.{close, spec}}}
+use Rattle.standing_journal.proofs.{Entries.{entry-read, entry-unread}, Names.room, entry_at.{Statement.statement, Tie.{close, spec}}}
 
 pub entry-at-spec : {M : Type 1} → statement M
 entry-at-spec = close (spec

@@ -1,9 +1,6 @@
 -- `standing_journal::journal_at` meets its contract. The loop's invariant: the first i entries are read. Assumes nothing.
 use Rattle.basis.proofs.Prelude.{_≡_, _-_, _≤_, length, take, arith, needs}
-use native.Mathlib.Nat.{mul-comm}
-use Rattle.packing.{specs.{Layout.entryWidth, Blocks.parts}, proofs.Blocks.{parts-more, parts-done}}
-use Rattle.journal.specs.Words.{entryOf}
-use Rattle.standing_journal.proofs.journal_at.{Statement.statement, Tie.{InvT-loop, MeasureT-loop, close, spec}}
+use Rattle.standing_journal.proofs.{Names.{entryOf, entryWidth, mul-comm, parts, parts-done, parts-more}, journal_at.{Statement.statement, Tie.{InvT-loop, MeasureT-loop, close, spec}}}
 
 abbrev Inv-loop : InvT-loop
 Inv-loop words journal₀ i₀ journal i = (i ≤ 64) × (length journal ≡ 64) × (take i journal ≡ parts entryWidth entryOf i words)

@@ -1,8 +1,6 @@
 -- `standing_journal::pushed` meets its contract: where there is no room, the entries up to i have moved down by one. Assumes nothing.
 use Rattle.basis.proofs.Prelude.{_≡_, _-_, _≤_, length, arith, needs}
-use Rattle.spell_places.proofs.Lists.{closed, close-none}
-use Rattle.journal.proofs.Journal.{push-room}
-use Rattle.standing_journal.proofs.{Entries.{moves-down, goes-last}, pushed.{Statement.statement, Tie.{InvT-loop, MeasureT-loop, close, spec}}}
+use Rattle.standing_journal.proofs.{Entries.{goes-last, moves-down}, Names.{close-none, closed, push-room}, pushed.{Statement.statement, Tie.{InvT-loop, MeasureT-loop, close, spec}}}
 
 abbrev Inv-loop : InvT-loop
 Inv-loop d e a₀ i₀ a i = (i ≤ 63) × (length a₀ ≡ 64) × (a ≡ closed 0 i a₀)

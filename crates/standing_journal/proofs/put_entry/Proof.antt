@@ -1,8 +1,6 @@
 -- `standing_journal::put_entry` meets its contract: two stores and the spell's words, where there is room. Assumes nothing.
 use Rattle.basis.proofs.Prelude.{_∙_, ap, length, length-set, arith, needs}
-use Rattle.packing.{specs.Layout.entryWidth, proofs.{Blocks.{put-length, unput}, Words.room}}
-use Rattle.journal.{specs.Words.{entryWords, entryOf}, proofs.Words.{entry-held, entry-long}}
-use Rattle.standing_journal.proofs.{Entries.entry-put, put_entry.{Statement.statement, Tie.{close, spec}}}
+use Rattle.standing_journal.proofs.{Entries.entry-put, Names.{entry-held, entry-long, entryOf, entryWidth, entryWords, put-length, room, unput}, put_entry.{Statement.statement, Tie.{close, spec}}}
 
 pub put-entry-spec : {M : Type 1} → statement M
 put-entry-spec = close (spec

@@ -1,9 +1,6 @@
 -- `standing_journal::put_journal` meets its contract. The loop's invariant: the words of the first i entries are put. Assumes nothing.
 use Rattle.basis.proofs.Prelude.{_-_, _≤_, take, arith, needs}
-use native.Mathlib.Nat.{mul-comm}
-use Rattle.packing.{specs.Blocks.PutAll, proofs.Blocks.{put-short, put-nothing, put-more, put-done, put-long}}
-use Rattle.journal.{specs.Words.{entryWords, entryOf}, proofs.Words.entry-long}
-use Rattle.standing_journal.proofs.put_journal.{Statement.statement, Tie.{InvT-loop, MeasureT-loop, close, spec}}
+use Rattle.standing_journal.proofs.{Names.{PutAll, entry-long, entryOf, entryWords, mul-comm, put-done, put-long, put-more, put-nothing, put-short}, put_journal.{Statement.statement, Tie.{InvT-loop, MeasureT-loop, close, spec}}}
 
 abbrev Inv-loop : InvT-loop
 Inv-loop out₀ journal i₀ out i = (i ≤ 64) × PutAll entryWords entryOf (take i journal) out₀ out
