@@ -1,6 +1,6 @@
 -- Values written one after the other, and read back: how a loop writes and reads them, and that reading gives back what was written. Assumes nothing.
-use Rattle.basis.proofs.Prelude.{_∙_, _≡_, ap, refl, sym, _*_, _+_, _<_, _≤_, suc, zero, ℕ, List, [], _++_, _∷_, append-assoc, append-nil, drop, drop-of-length-le, getD, length, length-append, length-drop, set, take, append-snoc, drop-append-add, drop-append-le, drop-at, drop-cons, drop-drop, length-sets, length-take-le, set-at, sets, sets-eq, take-all, take-at, take-suc, le-trans, mul-le-mul-right, suc-mul, zero-mul, zero-add, add-one, getD-at, take-suc-set, _-_, decLe, arith, le-leb, lt-leb}
-use Rattle.packing.proofs.Names.{Every, Put, PutAll, over, over-length, parts, put, written}
+use Rattle.basis.proofs.Prelude.{_∙_, _≡_, ap, refl, sym, _*_, _+_, _<_, _≤_, suc, zero, ℕ, List, [], _++_, _∷_, append-assoc, append-nil, drop, drop-of-length-le, getD, length, length-append, length-drop, set, take, append-snoc, drop-append-add, drop-append-le, drop-at, drop-cons, drop-drop, length-sets, length-take-le, set-at, sets, sets-eq, take-all, take-at, take-suc, le-trans, mul-le-mul-right, suc-mul, zero-mul, add-zero, zero-add, add-one, getD-at, take-suc-set, _-_, decLe, arith, le-leb, lt-leb}
+use Rattle.packing.proofs.Names.{Every, Put, PutAll, over, parts, put, written}
 
 -- ---- Words put into a list
 
@@ -21,17 +21,14 @@ put-length k new l = elim (decLe (k + length new) (length l)) [
   | no h ↦ ap length (put-none k new l (omega arith))
 ]
 
--- new put after what is over l
-put-over : (k : ℕ) (w new l : List ℕ) → k ≡ length w → k + length new ≤ length l → put k new (over w l) ≡ over (w ++ new) l
-put-over k w new l e h =
-    let after : drop (k + length new) (w ++ drop (length w) l) ≡ drop (length w + length new) l =
-    rw e (drop-append-add w (drop (length w) l) (length new) ∙ drop-drop (length new) (length w) l) in
-    put-room k new (over w l) (omega (arith, over-length w l (omega arith)))
-    ∙ rw (take-at w (drop (length w) l) k (sym e), after, length-append w new) refl
-
 -- put from the first place on
 pub put-first : (new l : List ℕ) → length new ≤ length l → put 0 new l ≡ over new l
-put-first new l h = put-over 0 [] new l refl (omega arith)
+put-first new l h = put-room 0 new l (omega arith) ∙ rw zero-add
+
+-- stores behind others
+pub sets-append : (s new l : List ℕ) (k : ℕ) → sets l k (s ++ new) ≡ sets (sets l k s) (k + length s) new
+sets-append [] new l k = rw add-zero
+sets-append (x ∷ s) new l k = let at : k + suc (length s) ≡ suc k + length s = omega arith in rw at (sets-append s new (set l k x) (suc k))
 
 module _ {A : Type 0} where
   pub every-map : (P Q : A → Type 0) → ((x : A) → P x → Q x) → (l : List A) → Every P l → Every Q l
@@ -83,11 +80,11 @@ module _ {A : Type 0} where
         let before : length w ≡ i * k = written-length (take i a) ∙ ap (λ (n : ℕ). n * k) (length-take-le i a (omega arith)) in
         let after : i * k + k ≤ length l = rw (suc-mul i k) at (le-trans (mul-le-mul-right k h) room) in
         let here : at + length (f x) ≤ length l = omega (arith, long x) in
+        let first : 0 + length w ≡ at = omega arith in
         let next : written f (take (i + 1) a) ≡ w ++ f x =
         rw (add-one, take-suc a i d (omega arith), written-append (take i a) (x ∷ [])) (unfold written in rw append-nil) in
         record {
-          words = rw (p .words, so .words, next, put-first w l (omega arith), put-first (w ++ f x) l (omega (arith, length-append w (f x))))
-              (put-over at w (f x) l (omega arith) here);
+          words = rw (p .words, so .words, next, ← put-sets 0 w l (omega arith), ← put-sets 0 (w ++ f x) l (omega (arith, length-append w (f x))), ← put-sets at (f x) (sets l 0 w) (omega (arith, length-sets l 0 w)), sets-append w (f x) l 0, first);
           back = λ fits. rw (add-one, take-suc a i d (omega arith)) (every-snoc (λ y. g (f y) ≡ y) (take i a) x (so .back (omega arith)) (p .back));
         }
 
@@ -118,10 +115,10 @@ module _ {A : Type 0} where
         rw (all, parts-part i (suc (n - suc i)) l) (getD-at (parts k g i l) _ _ d i (parts-length i l))
 
     -- a loop goes on by one: the value i is read; and all are read
-    pub parts-more : (l : List ℕ) (a : List A) (i : ℕ) {at : ℕ} {x : A} → i < length a → take i a ≡ parts k g i l → at ≡ i * k → x ≡ g (drop at l)
+    pub parts-more : (l : List ℕ) (a : List A) (i : ℕ) {n at : ℕ} {x : A} → length a ≡ n → i < n → take i a ≡ parts k g i l → at ≡ i * k → x ≡ g (drop at l)
         → take (i + 1) (set a i x) ≡ parts k g (i + 1) l
     unfolding parts
-    parts-more l a i h so e is = rw (parts-part i 1 l, ← so, is, e, add-one) (take-suc-set a i _ h)
+    parts-more l a i all h so e is = rw (parts-part i 1 l, ← so, is, e, add-one) (take-suc-set a i _ (omega arith))
 
     pub parts-done : (l : List ℕ) (a : List A) (i : ℕ) {n : ℕ} → i ≤ n → n ≤ i → length a ≡ n → take i a ≡ parts k g i l → a ≡ parts k g n l
     parts-done l a i {n} low high all so = let is : i ≡ n = omega arith in sym (take-all i a (omega arith)) ∙ so ∙ rw is

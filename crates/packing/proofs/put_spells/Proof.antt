@@ -10,7 +10,7 @@ abbrev μ-loop : MeasureT-loop
 
 pub put-spells-spec : {M : Type 1} → statement M
 put-spells-spec = close (spec
-    Inv-loop μ-loop (λ c. search (put-short spellWords spellOf spell-long 1024, needs)) (λ c. (omega arith, search (put-nothing spellWords spellOf spell-long)))
+    Inv-loop μ-loop (λ c. search (put-short spellWords spellOf spell-long 1024)) (λ c. (omega arith, search (put-nothing spellWords spellOf spell-long)))
     (λ c. omega arith) (λ c. omega arith) (λ c. omega arith) (λ c κs. search needs)
-    (λ c. omega arith) (λ c. omega arith) (λ c. (omega arith, search (put-more spellWords spellOf spell-long 1024, mul-comm, needs)))
-    (λ c. search (put-long, arith)) (λ c. search (put-done spellWords spellOf spell-long 1024, needs)))
+    (λ c. omega arith) (λ c. omega arith) (λ c. (omega arith, search (put-more spellWords spellOf spell-long 1024, mul-comm)))
+    (λ c. search (put-long, arith)) (λ c. search (put-done spellWords spellOf spell-long 1024)))

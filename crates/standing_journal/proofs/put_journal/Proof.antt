@@ -10,7 +10,7 @@ abbrev μ-loop : MeasureT-loop
 
 pub put-journal-spec : {M : Type 1} → statement M
 put-journal-spec = close (spec
-    Inv-loop μ-loop (λ c. search (put-short entryWords entryOf entry-long 64, needs)) (λ c. (omega arith, search (put-nothing entryWords entryOf entry-long)))
+    Inv-loop μ-loop (λ c. search (put-short entryWords entryOf entry-long 64)) (λ c. (omega arith, search (put-nothing entryWords entryOf entry-long)))
     (λ c. omega arith) (λ c. omega arith) (λ c. omega arith) (λ c κs. search needs)
-    (λ c. omega arith) (λ c. omega arith) (λ c. (omega arith, search (put-more entryWords entryOf entry-long 64, mul-comm, needs)))
-    (λ c. search (put-long, arith)) (λ c. search (put-done entryWords entryOf entry-long 64, needs)))
+    (λ c. omega arith) (λ c. omega arith) (λ c. (omega arith, search (put-more entryWords entryOf entry-long 64, mul-comm)))
+    (λ c. search (put-long, arith)) (λ c. search (put-done entryWords entryOf entry-long 64)))
