@@ -1,6 +1,6 @@
 -- What moving and putting words makes of the spells and the entries that they hold. Assumes nothing.
 use Rattle.basis.proofs.Prelude.{_∙_, _≡_, ap, refl, sym, _*_, _-_, _<_, _≤_, ℕ, List, Bool, _&&_, false, not, true, ltb, drop, length, take, length-take-le, take-append-seam, arith, le-leb, le-ltb, lt-ltb, not-false, not-true, by-test}
-use Rattle.standing_words.proofs.{Moves.raised-put, Names.{Exchanges, Holds, Notes, Put, PutsIn, Spell, TakesOut, Undo, close-all, closed, countedOf, earlierOf, entriesOf, entry-long, entry-near, entryOf, entryWidth, entryWords, insert, insert-at, journalLength, lastEntry, left-le, left-length, leftOf, length-insert, lowered, opened, over, over-twice, own-over, parts, parts-length, placeOf, push-full, push-room, putting, raised, remove-none, spell-long, spell-near, spellOf, spellWidth, spellWords, spellsLength, spellsOf, without, written}, Reading.{place-in, places}, Values.{inserts, lowers, puts-over}}
+use Rattle.standing_words.proofs.{Names.{Exchanges, Holds, Notes, Put, PutsIn, Spell, TakesOut, Undo, close-all, closed, countedOf, earlierOf, entriesOf, entry-long, entry-near, entryOf, entryWidth, entryWords, insert, insert-at, journalLength, lastEntry, left-le, left-length, leftOf, length-insert, lowered, opened, over, over-twice, own-over, parts, parts-length, placeOf, push-full, push-room, putting, raised, remove-none, spell-long, spell-near, spellOf, spellWidth, spellWords, spellsLength, spellsOf, without, written}, Reading.{place-in, places}, Values.{lowers, opened-is, puts-over, raises}}
 
 module _ {A : Type 0} {k : ℕ} {f : A → List ℕ} {g : List ℕ → A} {n : ℕ} where
   -- words hold what is read of them
@@ -44,8 +44,9 @@ module _ (x : List ℕ) (whole : length x ≡ spellsLength) where
         let from : spellWidth * q ≡ q * spellWidth = omega arith in
         let to : spellWidth * m ≡ m * spellWidth = omega arith in
         let placed : opened q s first ≡ insert s first = ap (λ (i : ℕ). opened i s first) at ∙ sym (insert-at s first) in
-        rw (not-false puts asked, p .words, up, from, to, raised-put spellWidth q m (spellWords s) x (spell-long s) (omega arith) (omega arith), length-take-le m (spellsOf x) (places x few), lt-ltb m 1024 room, ← placed)
-        (inserts spellWidth spellWords spellOf spell-long spell-near _ (as-read x whole) q m s (p .back) low (omega arith))
+        let up-to = raises spellWidth spellWords spellOf spell-long spell-near _ {n = 1024} (as-read x whole) q m low (omega arith) in
+        rw (not-false puts asked, p .words, up, from, to, length-take-le m (spellsOf x) (places x few), lt-ltb m 1024 room, ← placed, ← opened-is (spellsOf x) q m s low (places x room))
+        (puts-over spellWidth spellWords spellOf spell-long spell-near _ up-to q s (p .back) (omega arith))
 
 longer : (puts : Bool) (s : Spell) (l : List Spell) → length l ≤ length (putting puts s l)
 longer puts s l = by-test (puts && ltb (length l) 1024) (λ e. rw e (omega (arith, length-insert earlierOf s l))) (λ e. rw e (omega arith))

@@ -1,6 +1,6 @@
 -- Words that hold values, k words each: cut and joined at whole values they hold the values cut and joined. Assumes nothing.
-use Rattle.basis.proofs.Prelude.{_∙_, _≡_, ap, refl, sym, _*_, _+_, _-_, _<_, _≤_, suc, ℕ, List, [], _++_, _∷_, append-assoc, append-nil, drop, length, length-append, length-drop, take, take-append-drop, drop-at, length-take-le, slice, set, set-split, take-at, take-take, mul-le-mul-right, suc-mul, arith}
-use Rattle.standing_words.proofs.Names.{Holds, add-mul, closed, front, inserted, lowered, opened, over, parts, parts-length, parts-near, parts-part, put, put-room, written, written-append, written-length}
+use Rattle.basis.proofs.Prelude.{_∙_, _≡_, ap, refl, sym, _*_, _+_, _-_, _<_, _≤_, suc, ℕ, List, [], _++_, _∷_, append-assoc, append-nil, append-snoc, drop, getD, length, length-append, length-drop, take, take-append-drop, drop-at, length-take-le, slice, set, set-at, set-split, sets, sets-eq, take-suc, add-one, take-at, take-take, mul-le-mul-right, suc-mul, arith}
+use Rattle.standing_words.proofs.Names.{raised, put-sets, Holds, add-mul, closed, front, lowered, opened, over, parts, parts-length, parts-near, parts-part, put, written, written-append, written-length}
 
 module _ {A : Type 0} (k : ℕ) (f : A → List ℕ) (g : List ℕ → A) (wide : (x : A) → length (f x) ≡ k) (near : (x r : List ℕ) → k ≤ length x → g (x ++ r) ≡ g x) (L : Type 0) where
   abbrev Are : ℕ → List ℕ → List A → Type 0
@@ -58,31 +58,40 @@ module _ {A : Type 0} (k : ℕ) (f : A → List ℕ) (g : List ℕ → A) (wide 
     some : (p i : ℕ) → p ≤ i → i ≤ n → Are (i - p) (slice (p * k) (i * k) x) (slice p i a)
     some p i h b = the-rest p (i - p) (omega arith) (the-first i (n - i) (omega arith) v)
 
+    -- values are put over those from the value i on
+    puts-many : (i m : ℕ) {w : List ℕ} {b : List A} → Are m w b → i + m ≤ n → Are n (sets x (i * k) w) (take i a ++ b ++ drop (i + m) a)
+    puts-many i m {w} q h =
+        let all : (i + m) + (n - (i + m)) ≡ n = omega arith in
+        let end : i * k + length w ≡ (i + m) * k = omega (arith, add-mul i m k, q .long) in
+        rw (sets-eq w x (i * k) (omega (arith, v .long, mul-le-mul-right k h)), end)
+        (rw all at (join (join (the-first i (n - i) (omega arith) v) q) (the-rest (i + m) (n - (i + m)) (omega arith) v)))
+
     -- a value is taken out: those after it, up to the value i, move down
     pub lowers : (p i : ℕ) → p ≤ i → i < n → Are n (lowered k (p * k) (i * k) x) (closed p i a)
-    unfolding lowered closed front
+    unfolding closed front
     lowers p i h b =
-        let all : p + ((i - p) + (n - i)) ≡ n = omega arith in
         let least : suc i - suc p ≡ i - p = omega arith in
-        let middle = rw (suc-mul p k, suc-mul i k, least) at (some (suc p) (suc i) (omega arith) (omega arith)) in
-        rw (append-assoc (take p a) (slice (suc p) (suc i) a) (drop i a))
-        (rw all at (join (the-first p (n - p) (omega arith) v) (join middle (the-rest i (n - i) (omega arith) v))))
+        let all : p + (i - p) ≡ i = omega arith in
+        rw all at (puts-many p (i - p) (rw (suc-mul p k, suc-mul i k, least) at (some (suc p) (suc i) (omega arith) (omega arith))) (omega arith))
+
+    -- those from the value q on, up to the value m, move up
+    pub raises : (q m : ℕ) → q ≤ m → m < n → Are n (raised k (q * k) (m * k) x) (take (suc q) a ++ slice q m a ++ drop (suc m) a)
+    raises q m h b =
+        let all : suc q + (m - q) ≡ suc m = omega arith in
+        rw (suc-mul q k, all) at (puts-many (suc q) (m - q) (some q m h (omega arith)) (omega arith))
 
     -- a value is put over the value i
     pub puts-over : (i : ℕ) (s : A) → g (f s) ≡ s → i < n → Are n (put (i * k) (f s) x) (set a i s)
     puts-over i s back b =
-        let all : i + (1 + (n - suc i)) ≡ n = omega arith in
-        let room : i * k + k ≤ length x = rw (← suc-mul i k, v .long) (mul-le-mul-right k b) in
-        let put = join (the-first i (n - i) (omega arith) v) (join (one s back) (rw (suc-mul i k) at (the-rest (suc i) (n - suc i) (omega arith) v))) in
-        rw (put-room (i * k) (f s) x (omega (arith, wide s)), wide s, append-assoc (take (i * k) x) (f s) (drop (i * k + k) x), set-split a i s (omega (arith, all-long))) (rw all at put)
+        let room : i * k + length (f s) ≤ length x = omega (arith, wide s, v .long, suc-mul i k, mul-le-mul-right k b) in
+        rw (← put-sets (i * k) (f s) x room, set-split a i s (omega (arith, all-long)), ← append-snoc (take i a) s (drop (suc i) a), ← add-one i) (puts-many i 1 (one s back) (omega arith))
 
-    -- a value is put in before the value q: those from there on, up to the value m, move up
-    pub inserts : (q m : ℕ) (s : A) → g (f s) ≡ s → q ≤ m → m < n → Are n (inserted k q m (f s) x) (over (opened q s (take m a)) a)
-    unfolding inserted
-    inserts q m s back h b =
-        let all : q + (1 + ((m - q) + (n - suc m))) ≡ n = omega arith in
-        let first = length-take-le m a (omega (arith, all-long)) in
-        let many : length (opened q s (take m a)) ≡ suc m =
-        omega (arith, length-append (take q (take m a)) (s ∷ drop q (take m a)), length-take-le q (take m a) (omega arith), length-drop q (take m a)) in
-        let put = join (the-first q (n - q) (omega arith) v) (join (one s back) (join (some q m h (omega arith)) (rw (suc-mul m k) at (the-rest (suc m) (n - suc m) (omega arith) v)))) in
-        rw (many, take-take q m a h, append-assoc (take q a) (s ∷ slice q m a) (drop (suc m) a)) (rw all at put)
+-- s put over the value q where those from there on have moved up
+pub opened-is : {A : Type 0} (a : List A) (q m : ℕ) (s : A) → q ≤ m → m < length a → set (take (suc q) a ++ slice q m a ++ drop (suc m) a) q s ≡ over (opened q s (take m a)) a
+opened-is a q m s h b =
+    let first = length-take-le m a (omega arith) in
+    let many : length (opened q s (take m a)) ≡ suc m =
+    omega (arith, length-append (take q (take m a)) (s ∷ drop q (take m a)), length-take-le q (take m a) (omega arith), length-drop q (take m a)) in
+    let rest = slice q m a ++ drop (suc m) a in
+    rw (many, take-take q m a h, take-suc a q s (omega arith), append-snoc (take q a) (getD a q s) (slice q m a), append-assoc (take q a) (getD a q s ∷ slice q m a) (drop (suc m) a))
+    (set-at (take q a) (getD a q s) rest s q (length-take-le q a (omega arith)) ∙ sym (append-assoc (take q a) (s ∷ slice q m a) (drop (suc m) a)))

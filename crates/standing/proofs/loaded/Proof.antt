@@ -1,9 +1,6 @@
 -- `standing::loaded` meets its contract. Assumes nothing.
 use Rattle.basis.proofs.Prelude.{needs}
-use Rattle.standing.proofs.loaded.{Statement.statement, Tie.{Need-returns, close, spec}}
-
-returns : Need-returns
-returns c = rw (c .before .fresh .ensures .whole)
+use Rattle.standing.proofs.loaded.{Statement.statement, Tie.{close, spec}}
 
 pub loaded-spec : {M : Type 1} → statement M
-loaded-spec = close (spec (λ c κs. search needs) returns)
+loaded-spec = close (spec (λ c κs. search needs) (λ c. rw (c .before .fresh .ensures .whole)))

@@ -1,22 +1,17 @@
 -- `standing_words::raise` meets its contract: the words from i on have moved. Assumes nothing.
-use Rattle.basis.proofs.Prelude.{_≡_, refl, _-_, _≤_, suc, length, length-set, arith}
+use Rattle.basis.proofs.Prelude.{_≡_, refl, _+_, _≤_, length, length-set, arith}
 use Rattle.standing_words.proofs.{Moves.{raise-none, raise-step}, Names.raised, raise.{Statement.statement, Tie.{InvT-loop, MeasureT-loop, close, spec}}}
 
 abbrev Inv-loop : InvT-loop
-Inv-loop words₀ from to by i₀ words i = (from ≤ i) × (i ≤ to) × (length words ≡ length words₀) × (words ≡ raised by i to words₀)
+Inv-loop words₀ from to by i₀ words i = (from ≤ i) × (i ≤ to) × (to + by ≤ length words₀) × (length words ≡ length words₀) × (words ≡ raised by i to words₀)
 
 abbrev μ-loop : MeasureT-loop
 μ-loop words₀ from to by i₀ words i = i
 
 pub raise-spec : {M : Type 1} → statement M
 raise-spec = close (spec
-    Inv-loop μ-loop (λ c. (omega arith, omega arith, refl, raise-none _ _ _))
+    Inv-loop μ-loop (λ c. (omega arith, omega arith, omega arith, refl, search raise-none))
     -- words[i + by] = words[i]
     (λ c. omega arith) (λ c. omega arith) (λ c. omega arith) (λ c. omega arith) (λ c. omega arith) (λ c. omega arith) (λ c. omega arith)
-    (λ c.
-    let at = c .before .before in
-    let a = at .before .args in
-    let back : suc (at .loop .i - 1) ≡ at .loop .i = omega arith in
-    (omega arith, omega arith, simp length-set (at .loop .inv .2), raise-step (a .by) (a .to) (a .words .now) {p = at .loop .i - 1} {a = at .loop .words} (omega arith) (omega arith) (rw back (at .loop .inv .3))))
-    (λ c. omega arith)
-    (λ c. let done : c .before .loop .i ≡ c .before .before .args .from = omega arith in rw (← done) (c .before .loop .inv .3)))
+    (λ c. (omega arith, omega arith, omega arith, simp length-set (search), search raise-step)) (λ c. omega arith)
+    (λ c. let done : c .before .loop .i ≡ c .before .before .args .from = omega arith in rw (← done) (c .before .loop .inv .4)))
