@@ -84,7 +84,8 @@ module _ {A : Type 0} where
         let next : written f (take (i + 1) a) ≡ w ++ f x =
         rw (add-one, take-suc a i d (omega arith), written-append (take i a) (x ∷ [])) (unfold written in rw append-nil) in
         record {
-          words = rw (p .words, so .words, next, ← put-sets 0 w l (omega arith), ← put-sets 0 (w ++ f x) l (omega (arith, length-append w (f x))), ← put-sets at (f x) (sets l 0 w) (omega (arith, length-sets l 0 w)), sets-append w (f x) l 0, first);
+          words = rw (p .words, so .words, next, ← put-sets 0 w l (omega arith), ← put-sets 0 (w ++ f x) l (omega (arith, length-append w (f x))))
+              (rw (← put-sets at (f x) (sets l 0 w) (omega (arith, length-sets l 0 w)), sets-append w (f x) l 0, first));
           back = λ fits. rw (add-one, take-suc a i d (omega arith)) (every-snoc (λ y. g (f y) ≡ y) (take i a) x (so .back (omega arith)) (p .back));
         }
 

@@ -11,7 +11,8 @@ pub spell-near : (x r : List ℕ) → spellWidth ≤ length x → spellOf (x ++ 
 unfolding spellOf
 spell-near x r h =
     let at : (i : ℕ) → i < spellWidth → getD (x ++ r) i 0 ≡ getD x i 0 = λ i in-it. List·getD-append x r 0 i (omega arith) in
-    simp (le-leb spellWidth (length (x ++ r)) (omega (arith, length-append x r)), le-leb spellWidth (length x) h, at 0 (omega arith), at 1 (omega arith), at 2 (omega arith), at 3 (omega arith), at 4 (omega arith), at 5 (omega arith), at 6 (omega arith))
+    simp (le-leb spellWidth (length (x ++ r)) (omega (arith, length-append x r)), le-leb spellWidth (length x) h)
+    (simp (at 0 (omega arith), at 1 (omega arith), at 2 (omega arith), at 3 (omega arith), at 4 (omega arith), at 5 (omega arith), at 6 (omega arith)))
 
 pub spell-reads : (s : Spell) (r : List ℕ) → spellOf (spellWords s ++ r) ≡ spellOf (spellWords s)
 spell-reads s r = spell-near (spellWords s) r (omega (arith, spell-long s))

@@ -67,7 +67,8 @@ module _ (x : List ℕ) (whole : length x ≡ standingLength) where
 
   pub is-assembled : x ≡ assembled (arrayIn x) (journalIn x) (getD x countPlace 0) (getD x depthPlace 0)
   is-assembled =
-      rw (take-append-drop journalLength (drop spellsLength x), take-append-drop spellsLength x, set-getD x countPlace 0, set-getD x depthPlace 0) at (put-back (journalIn x) journal-long (getD x countPlace 0) (getD x depthPlace 0))
+      rw (take-append-drop journalLength (drop spellsLength x), take-append-drop spellsLength x, set-getD x countPlace 0, set-getD x depthPlace 0)
+      at (put-back (journalIn x) journal-long (getD x countPlace 0) (getD x depthPlace 0))
 
 module _ (a b : List ℕ) (n d : ℕ) (array : length a ≡ spellsLength) (journal : length b ≡ journalLength) where
   pub unpacked-assembled : unpacked (assembled a b n d) ≡ record { spells = parts spellWidth spellOf 1024 a; count = n; journal = parts entryWidth entryOf 64 b; depth = d }

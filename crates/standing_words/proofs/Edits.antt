@@ -1,6 +1,6 @@
 -- What the code makes of the words, part by part, is a plan carried out on the standing list that they hold. Assumes nothing.
-use Rattle.basis.proofs.Prelude.{_∙_, _≡_, ap, refl, sym, _*_, _+_, _-_, _<_, _≤_, ℕ, List, _++_, drop, getD, length, length-append, length-drop, set, take, drop-at, drop-drop, take-at, arith}
-use Rattle.standing_words.proofs.Names.{Amend, Ask, Call, Does, Edited, EditedIn, Enter, Exchanges, Laid, Located, Notes, Plan, Publish, Standing, Strike, TakeBack, Takes, Undo, Wf, Write, array-is, arrayIn, assembled, blankEntry, carried, countPlace, countedOf, deeperBy, depthPlace, entries-long, entriesOf, entryOf, entryWidth, entryWords, foundIn, journal-is, journalIn, journalLength, numberOf, packed, packed-is, parts, parts-at, parts-length, planFor, planOf, planned-is, put-back, rejoined, rejoined-long, spellOf, spellWidth, spellWords, spells-long, spellsLength, spellsOf, standingLength, unpacked, unpacked-assembled, written}
+use Rattle.basis.proofs.Prelude.{_∙_, _≡_, ap, refl, sym, _*_, _+_, _-_, _<_, _≤_, ℕ, List, _++_, drop, getD, length, length-append, length-drop, set, take, drop-at, drop-drop, take-at, Bool, _&&_, cond, leb, ltb, by-cases, arith}
+use Rattle.standing_words.proofs.Names.{held-le, leftOf, Amend, Ask, Call, Does, Edited, EditedIn, Enter, Exchanges, Laid, Located, Notes, Plan, Publish, Standing, Strike, TakeBack, Takes, Undo, Wf, Write, array-is, arrayIn, assembled, blankEntry, carried, countPlace, countedOf, deeperBy, depthPlace, entries-long, entriesOf, entryOf, entryWidth, entryWords, foundIn, journal-is, journalIn, journalLength, numberOf, packed, packed-is, parts, parts-at, parts-length, planFor, planOf, planned-is, put-back, rejoined, rejoined-long, spellOf, spellWidth, spellWords, spells-long, spellsLength, spellsOf, standingLength, unpacked, unpacked-assembled, written}
 
 -- what any call leaves is a standing list that the calls gave
 does-wf : {st : Standing} (w : Wf st) (c : Call) (r : Edited) → Does st c r → Wf (r .standing)
@@ -60,6 +60,13 @@ module _ (x : List ℕ) (whole : length x ≡ standingLength) (w : Wf (unpacked 
       let far : entryWidth * i ≡ i * entryWidth = omega arith in
       read ∙ rw (← is, parts-at entryWidth entryOf 64 i (drop spellsLength x) blankEntry (omega (arith, w .depth-in)), drop-drop (i * entryWidth) spellsLength x, far)
 
+-- the count after any change
+pub count-fits : (n p : ℕ) (puts : Bool) {m : ℕ} → m ≡ countedOf n p puts → m < 65536
+count-fits n p puts is =
+    let h = cond (leb n 1024) n 1024 in
+    let left : leftOf h p ≤ 1024 = by-cases (λ r. r ≤ 1024) (ltb p h) (λ _. omega (arith, held-le n)) (λ _. held-le n) in
+    rw is (by-cases (λ r. r < 65536) (puts && ltb (leftOf h p) 1024) (λ _. omega arith) (λ _. omega arith))
+
 -- the plan p of the call c, as the code finds it
 pub record Planned (x : List ℕ) (c : Call) (p : Plan) : Type 0 where
   pub whole : length x ≡ standingLength
@@ -74,16 +81,10 @@ planned-in x c whole w ei ee ek ef ep =
     record { whole = whole; wf = w; is = unfold unpacked in planned-is (unpacked x) c (newest-at x whole w ei ee) ek ef (ep .0); takes = ep .1 }
 
 module _ (x : List ℕ) (c : Call) (p : Plan) (known : Planned x c p) where
-  -- the count and the depth after it
-  fits : (countedOf (countIn x) (p .out) (p .puts) ≤ 1024) × (deeperBy (p .depth) (p .notes) ≤ 64)
-  unfolding unpacked
-  fits = let after = does-wf (known .wf) c _ (carried (known .wf) c (known .is) (known .takes) refl refl refl refl) in (after .count-in, after .depth-in)
-
-  pub count-fits : {m : ℕ} → m ≡ countedOf (countIn x) (p .out) (p .puts) → m < 65536
-  count-fits is = omega (arith, fits .0)
-
+  -- the depth after it
   pub depth-fits : {d : ℕ} → d ≡ deeperBy (p .depth) (p .notes) → d < 65536
-  depth-fits is = omega (arith, fits .1)
+  unfolding unpacked
+  depth-fits is = let after = does-wf (known .wf) c _ (carried (known .wf) c (known .is) (known .takes) refl refl refl refl) in omega (arith, after .depth-in)
 
   pub edited : {a b : List ℕ} {m d : ℕ} → Exchanges (countIn x) (p .out) (p .puts) (p .spell) (arrayIn x) a → Notes (p .depth) (p .notes) (p .entry) (journalIn (a ++ drop spellsLength x)) b
       → m ≡ countedOf (countIn x) (p .out) (p .puts) → d ≡ deeperBy (p .depth) (p .notes)

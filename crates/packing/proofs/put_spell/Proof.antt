@@ -4,7 +4,8 @@ use Rattle.packing.proofs.{Blocks.unput, Names.{spellOf, spellWidth, sp
 
 pub put-spell-spec : {M : Type 1} → statement M
 put-spell-spec = close (spec
-    (λ c. search (unput spellWords spellOf spellWidth, spell-long, spell-back, spell-held, room)) (λ c. search needs) (λ c. search (unput spellWords spellOf spellWidth, spell-long, spell-back, spell-held, room)) (λ c κs. search needs)
+    (λ c. search (unput spellWords spellOf spellWidth, spell-long, spell-back, spell-held, room)) (λ c. search needs)
+    (λ c. search (unput spellWords spellOf spellWidth, spell-long, spell-back, spell-held, room)) (λ c κs. search needs)
     (λ c κs. search needs) (λ c κs. search needs) (λ c κs. search needs)
     -- the stores
     (λ c. search needs) (λ c. search needs) (λ c. search needs) (λ c. search needs) (λ c. simp length-set (omega arith)) (λ c. search needs)

@@ -38,7 +38,7 @@ edit-in-spec = close (spec
     (λ c κs. search needs) (λ c. omega (arith, c .before .before .slice-known3 .given depthPlace)) (λ c. omega (arith, c .before .before .slice-known3 .given depthPlace))
     (λ c κs. search needs) (λ c κs. search needs) (λ c κs. (search count-in, omega arith)) (λ c κs. search needs)
     -- the count and the depth
-    (λ c κs. search needs) (λ c. let p = planned (c .before) in search (count-fits, needs))
+    (λ c κs. search needs) (λ c. search (count-fits, needs))
     (λ c κs. search needs) (λ c. let p = planned (c .before .before) in search (depth-fits, needs))
     -- change(&mut words[..SPELLS], ..)
     (λ c. let p = planned (c .before .before .before .before) in omega arith)
@@ -47,4 +47,6 @@ edit-in-spec = close (spec
     (λ c. search needs) (λ c. search needs) (λ c. let p = planned (changing (c .before .before .before)) in search mid-room) (λ c κs. search needs)
     -- the stores
     (λ c. omega (arith, kept c, start (plan c) .pre .0)) (λ c. simp length-set (omega (arith, kept c, start (plan c) .pre .0))) (λ c. simp length-set (kept c))
-    (λ c. edited _ _ _ (planned (plan c)) (changed c .change .ensures) (c .before .before .note .ensures) (changed c .before .before .before .before .before .counted .ensures) (changed c .before .before .before .before .deeper .ensures)))
+    (λ c.
+    edited _ _ _ (planned (plan c)) (changed c .change .ensures) (c .before .before .note .ensures)
+    (changed c .before .before .before .before .before .counted .ensures) (changed c .before .before .before .before .deeper .ensures)))
