@@ -2,7 +2,7 @@
 -- is written of its value. Assumes nothing.
 use Rattle.basis.proofs.Prelude.{_≡_, _<_, _≤_, ℕ, List, arith}
 use Rattle.fields.specs.Fields.{found, readNumber, readLength, numberText, wideText}
-use Rattle.decimals.proofs.{Decimals.{read-number, write-number, read-length, length-back}, Puts.word-small}
+use Rattle.decimals.proofs.Decimals.{read-number, write-number, read-length, length-back}
 
 -- a decimal up to 65,535, ended by a byte below the digits
 pub number-read : (e n : ℕ) (rest : List ℕ) → e < 48 → n ≤ 65535 → readNumber e (numberText n e rest) ≡ found n rest
@@ -14,7 +14,7 @@ number-written = write-number
 -- and one up to any limit of 64 bits
 module _ (limit e : ℕ) (h : limit ≤ 18446744073709551615) where
   pub wide-read : (n : ℕ) (rest : List ℕ) → e < 48 → n ≤ limit → readLength limit e (wideText n e rest) ≡ found n rest
-  wide-read n rest b k = read-length limit 19 e n rest b k (word-small n (omega arith))
+  wide-read n rest b k = read-length limit 19 e n rest b k (omega arith)
 
   pub wide-written : (s : List ℕ) (n : ℕ) (rest : List ℕ) → readLength limit e s ≡ found n rest → (n ≤ limit) × (s ≡ wideText n e rest)
-  wide-written s n rest r = let w = length-back limit 19 e s n rest r in (w .0, w .1 (word-small limit h))
+  wide-written s n rest r = let w = length-back limit 19 e s n rest r in (w .0, w .1 (omega arith))

@@ -1,5 +1,5 @@
 -- Decimals parted by tabs, put into a list from the last to the first. Assumes nothing.
-use Rattle.basis.proofs.Prelude.{_∙_, _≡_, _*_, _-_, _<_, _≤_, suc, ℕ, List, _∷_, drop, getD, length, length-drop, drop-cons, drop-length, arith}
+use Rattle.basis.proofs.Prelude.{_∙_, _≡_, _*_, _-_, _/_, _<_, _≤_, suc, ℕ, List, _∷_, drop, getD, length, length-drop, drop-cons, drop-length, arith}
 use Rattle.fields.{specs.{Fields.{numberText, endBefore, numbersText}, Answers.Puts}, proofs.{Puts.{Put, put-none, put-on, put-place, number-put, puts-room}, Widths.decimal-wide}}
 
 -- the decimals from i on stand in front of what stood from `at` on, in at most six places each
@@ -8,29 +8,29 @@ pub record Rest (ns entry : List ℕ) (at : ℕ) (buf : List ℕ) (place i : ℕ
   pub put : Put entry buf place (numbersText (drop i ns) (drop at entry))
   pub roomy : 6 * i ≤ place
 
-module _ (ns entry : List ℕ) (at : ℕ) (h : 6 * length ns ≤ at) (k : at ≤ length entry) where
+module _ (ns entry : List ℕ) (at : ℕ) (h : length ns ≤ at / 6) (k : at ≤ length entry) where
   pub rest-none : Rest ns entry at entry at (length ns)
   unfolding numbersText
-  rest-none = record { upto = omega arith; put = rw (drop-length ns) (put-none entry at k); roomy = h }
+  rest-none = record { upto = omega arith; put = rw (drop-length ns) (put-none entry at k); roomy = omega arith }
 
   one-text : (i : ℕ) → i < length ns → numbersText (drop i ns) (drop at entry)
       ≡ numberText (getD ns i 0) (endBefore (length ns - suc i)) (numbersText (drop (suc i) ns) (drop at entry))
   unfolding numbersText
   one-text i l = rw (drop-cons ns i 0 l, length-drop (suc i) ns)
 
-  pub rest-one : (buf exit : List ℕ) (place i r : ℕ) → Rest ns entry at buf place i → 1 ≤ i
-      → Puts 6 (numberText (getD ns (i - 1) 0) (endBefore (length ns - i))) buf place r exit → Rest ns entry at exit r (i - 1)
-  rest-one buf exit place i r g l p =
+  pub rest-one : (buf exit : List ℕ) (place i r e : ℕ) → Rest ns entry at buf place i → 1 ≤ i → e ≡ endBefore (length ns - i)
+      → Puts 6 (numberText (getD ns (i - 1) 0) e) buf place r exit → Rest ns entry at exit r (i - 1)
+  rest-one buf exit place i r e g l is p =
       let up : suc (i - 1) ≡ i = omega arith in
       let in-buf : place ≤ length buf = omega (arith, g .put .sized, g .put .inside) in
-      let q = number-put in-buf (getD ns (i - 1) 0) (endBefore (length ns - i)) (omega (arith, g .roomy)) p in
-      let text : numbersText (drop (i - 1) ns) (drop at entry) ≡ numberText (getD ns (i - 1) 0) (endBefore (length ns - i)) (drop place buf)
-      = one-text (i - 1) (omega (arith, g .upto)) ∙ rw (up, g .put .written) in
-      record {
-        upto = omega (arith, g .upto);
-        put = rw text (put-on (g .put) (q .0) (omega (arith, put-place (q .0), decimal-wide (getD ns (i - 1) 0) (endBefore (length ns - i) ∷ drop place buf), length-drop place buf)));
-        roomy = omega (arith, g .roomy, q .1);
-      }
+      let q = number-put in-buf (getD ns (i - 1) 0) e (omega (arith, g .roomy)) p in
+      let text : numbersText (drop (i - 1) ns) (drop at entry) ≡ numberText (getD ns (i - 1) 0) e (drop place buf)
+      = one-text (i - 1) (omega (arith, g .upto)) ∙ rw (up, g .put .written, is) in
+      let wide = decimal-wide (getD ns (i - 1) 0) (e ∷ drop place buf) in
+      let less = put-place (q .0) in
+      let left = length-drop place buf in
+      let on = put-on (g .put) (q .0) (omega arith) in
+      search (arith, text)
 
-  pub rest-all : (exit : List ℕ) (r : ℕ) → Rest ns entry at exit r 0 → Puts (6 * length ns) (numbersText ns) entry at r exit
-  rest-all exit r g = puts-room (6 * length ns) (numbersText ns) h k (g .put)
+  pub rest-all : (exit : List ℕ) (r i : ℕ) → Rest ns entry at exit r i → i ≤ 0 → Puts (6 * length ns) (numbersText ns) entry at r exit
+  rest-all exit r i g z = let none : i ≡ 0 = omega arith in puts-room (6 * length ns) (numbersText ns) (omega arith) k (rw none at (g .put))

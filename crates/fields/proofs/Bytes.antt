@@ -1,10 +1,6 @@
 -- Single bytes: those that are digits, and the byte that ends a field. Assumes nothing.
-use Rattle.basis.proofs.Prelude.{_≡_, refl, _<_, _≤_, ℕ, List, [], _∷_, Bool, false, true, _⊎_, inl, inr, eqb, leb, arith, eqb-true, le-leb, leb-true, lt-leb, both, by-test}
+use Rattle.basis.proofs.Prelude.{_≡_, _<_, _≤_, ℕ, List, [], _∷_, false, true, eqb, leb, arith, eqb-true, le-leb, leb-true, lt-leb, both, by-test}
 use Rattle.fields.specs.Fields.{Found, found, unreadable, onward, passed, isDigit}
-
-pub which : (t : Bool) → (t ≡ true) ⊎ (t ≡ false)
-which true = inl refl
-which false = inr refl
 
 pub never : {A : Type 0} {a : A} {rest : List ℕ} → unreadable ≡ found a rest → ⊥
 never h = let z : _≡_ {A = ℕ} 0 1 = cc in omega arith

@@ -1,6 +1,6 @@
--- What stands at a place of a text. Assumes nothing.
-use Rattle.basis.proofs.Prelude.{_∙_, _≡_, ap, sym, _+_, _<_, _≤_, ℕ, List, [], _∷_, false, false≢true, true, drop, drop-of-length-le, getD, length, length-drop, drop-cons, add-one, decLe, arith, le-ltb, lt-ltb}
-use Rattle.fields.specs.{declared.{Field.{Field, the-variants.{Value as FieldValue, Malformed as FieldMalformed}}, Length.{Length, the-variants.{Value as LengthValue, Malformed as LengthMalformed}}}, Fields.{Found, found, unreadable, passed, isAt}, Answers.{placeOf, fieldAt, fieldOf, lengthAt, lengthOf, Reads}}
+-- What stands at a place of a text, and what an answer says of it. Assumes nothing.
+use Rattle.basis.proofs.Prelude.{_∙_, _≡_, sym, _+_, _<_, _≤_, ℕ, List, [], _∷_, Bool, false, not, true, eqb, ltb, drop, drop-of-length-le, getD, length, length-drop, drop-cons, add-one, arith, ltb-false, ltb-true, both, by-test, not-false, not-true}
+use Rattle.fields.specs.{declared.{Field.{Field, the-variants.{Value as FieldValue, Malformed as FieldMalformed}}, Length.{Length, the-variants.{Value as LengthValue, Malformed as LengthMalformed}}}, Fields.{Found, found, unreadable, onward, passed, isAt}, Answers.{placeOf, fieldAt, fieldOf, lengthAt, lengthOf, Reads}}
 
 module _ (s : List ℕ) (i : ℕ) where
   pub here : i < length s → drop i s ≡ getD s i 0 ∷ drop (i + 1) s
@@ -11,63 +11,45 @@ module _ (s : List ℕ) (i : ℕ) where
 
   -- ---- the byte that ends a field
   pub at-inside : (e : ℕ) → isAt s i e ≡ true → i < length s
-  at-inside e h = elim (decLe (length s) i) [
-    | yes m ↦ absurd (false≢true (rw (le-ltb i (length s) m) at h))
-    | no m ↦ omega arith
-  ]
+  at-inside e h = ltb-true i (length s) (both (ltb i (length s)) (eqb (getD s i 0) e) h .0)
 
   module _ {A : Type 0} (e : ℕ) (a : A) where
     pub passed-not : isAt s i e ≡ false → passed e a (drop i s) ≡ unreadable
-    unfolding passed
-    passed-not h = elim (decLe (length s) i) [
-      | yes m ↦ rw (past-end m)
-      | no m ↦
-          let l : i < length s = omega arith in
-          rw (here l, rw (lt-ltb i (length s) l) at h)
-    ]
+    passed-not h = unfold passed in
+        by-test (ltb i (length s)) (λ l. rw (here (ltb-true i (length s) l), rw l at h)) (λ l. rw (past-end (ltb-false i (length s) l)))
 
     pub passed-at : isAt s i e ≡ true → passed e a (drop i s) ≡ found a (drop (i + 1) s)
-    unfolding passed
-    passed-at h =
-        let l = at-inside e h in
-        rw (here l, rw (lt-ltb i (length s) l) at h)
+    passed-at h = unfold passed in rw (here (at-inside e h), both (ltb i (length s)) (eqb (getD s i 0) e) h .1)
 
--- an answer whose next place is inside the text is that of the rest from there on
-pub place-back : (text : List ℕ) (next : ℕ) → next ≤ length text → next ≡ placeOf text (drop next text)
-place-back text next h = omega (arith, length-drop next text)
+-- after a value, as the test of the byte says
+module _ (s : List ℕ) (v i e : ℕ) (x : Length) (is : x ≡ LengthValue v i) (b : Bool) (t : b ≡ isAt s i e) where
+  pub end-not : not b ≡ true → Reads lengthAt lengthOf s LengthMalformed (onward (lengthOf s x) (passed e))
+  end-not n = let p = passed-not s i e v (sym t ∙ not-true b n) in record { answer = cc; says = cc }
 
--- an answer made of what is found
-pub reads-as : {R A : Type 0} {At : List ℕ → Found A → R} {Of : List ℕ → R → Found A} {text : List ℕ} {r : R} {f : Found A} (g : Found A) → f ≡ g
-    → r ≡ At text g → Of text r ≡ g → Reads At Of text r f
-reads-as {At = At} {text = text} g e a s = record { answer = a ∙ ap (At text) (sym e); says = s ∙ sym e }
+  pub end-at : not b ≡ false → Reads lengthAt lengthOf s (LengthValue v (i + 1)) (onward (lengthOf s x) (passed e))
+  end-at n =
+      let h = sym t ∙ not-false b n in
+      let p = passed-at s i e v h in
+      let same : i + 1 ≡ placeOf s (drop (i + 1) s) = omega (arith, at-inside s i e h, length-drop (i + 1) s) in
+      record { answer = cc; says = cc }
 
--- what is found, by an answer that is known
+-- ---- what is found, by an answer that is known
 pub said : {R A : Type 0} {At : List ℕ → Found A → R} {Of : List ℕ → R → Found A} {text : List ℕ} {r x : R} {f : Found A} → Reads At Of text r f → r ≡ x → f ≡ Of text x
-said {Of = Of} {text} p e = sym (p .says) ∙ ap (Of text) e
+said p e = cc
 
 -- the next place of a value is that of the rest
 pub field-next : {text : List ℕ} {r : Field} {f : Found ℕ} {v next : ℕ} → Reads fieldAt fieldOf text r f → r ≡ FieldValue v next
     → next ≡ placeOf text (drop next text)
-field-next {text} {r} {f} {v} {next} p e =
-    let is : f ≡ found v (drop next text) = said p e in
-    let same : FieldValue v next ≡ FieldValue v (placeOf text (drop next text)) = sym e ∙ p .answer ∙ ap (fieldAt text) is in
-    cc
+field-next p e = cc
 
 pub length-next : {text : List ℕ} {r : Length} {f : Found ℕ} {v next : ℕ} → Reads lengthAt lengthOf text r f → r ≡ LengthValue v next
     → next ≡ placeOf text (drop next text)
-length-next {text} {r} {f} {v} {next} p e =
-    let is : f ≡ found v (drop next text) = said p e in
-    let same : LengthValue v next ≡ LengthValue v (placeOf text (drop next text)) = sym e ∙ p .answer ∙ ap (lengthAt text) is in
-    cc
+length-next p e = cc
 
 -- what was read as a length, as a number
 pub none-narrowed : {text : List ℕ} {r : Length} {f : Found ℕ} → Reads lengthAt lengthOf text r f → r ≡ LengthMalformed → Reads fieldAt fieldOf text FieldMalformed f
-none-narrowed {text} {f = f} p e =
-    let is : f ≡ unreadable = said p e in
-    record { answer = ap (fieldAt text) (sym is); says = sym is }
+none-narrowed p e = record { answer = cc; says = cc }
 
 pub narrowed : {text : List ℕ} {r : Length} {f : Found ℕ} {v next : ℕ} → Reads lengthAt lengthOf text r f → r ≡ LengthValue v next
     → Reads fieldAt fieldOf text (FieldValue v next) f
-narrowed {text} {f = f} {v} {next} p e =
-    let is : f ≡ found v (drop next text) = said p e in
-    record { answer = ap (λ (n : ℕ). FieldValue v n) (length-next p e) ∙ ap (fieldAt text) (sym is); says = sym is }
+narrowed p e = record { answer = cc; says = cc }

@@ -5,8 +5,6 @@ use Rattle.decimals.proofs.{Decimals.length-within, read_number.{Statem
 
 pub read-number-spec : {M : Type 1} → statement M
 read-number-spec = close (spec
-    (λ c κs. search needs) (λ c. search needs) (λ c. search needs)
-    (λ c. none-narrowed (c .before .before .read-length .ensures) (c .enum-told .given .1))
-    -- v as u16
-    (λ c. omega (arith, length-within 65535 _ _ _ _ (said (c .before .before .before .read-length .ensures) (c .before .v .given .1))))
-    (λ c. narrowed (c .before .before .before .read-length .ensures) (c .before .v .given .1)))
+    (λ c κs. search needs) (λ c. search needs) (λ c. search needs) (λ c. search none-narrowed)
+    (λ c. omega (arith, length-within 65535 _ _ _ _ (said (c .before .before .before .read-length .ensures) (c .before .v .given .1))))  -- v as u16
+    (λ c. search narrowed))
