@@ -1,13 +1,13 @@
 -- A text is read as it was written, and what is read is what is written. Assumes nothing.
-use Rattle.basis.proofs.Prelude.{_∙_, _≡_, ap, refl, subst, sym, _+_, _<_, _≤_, suc, zero, ℕ, List, [], _++_, _∷_, append-nil, Bool, cond, false, false≢true, true, eqb, leb, length, append-snoc, arith, eq-eqb, eqb-true, le-leb, by-test}
-use Rattle.spell.{specs.{declared.Spell.Spell, Entry.refusalOf, Order.{ordered, orderedBy}, Listing.{stands, distinct, Each, Sound, Good}}, proofs.{Entered.past, Listing.{distinct-fresh, distinct-more}}}
+use Rattle.basis.proofs.Prelude.{_∙_, _≡_, ap, refl, sym, _+_, _<_, _≤_, suc, zero, ℕ, List, [], _++_, _∷_, append-nil, false, true, eqb, leb, length, length-append, append-snoc, arith, eq-eqb, eqb-false, eqb-true, le-leb, by-test}
+use Rattle.spell.{specs.{declared.Spell.Spell, Entry.refusalOf, Order.{ordered, orderedBy}, Listing.{stands, distinct, Each, Sound, Good}}, proofs.Listing.{distinct-fresh, distinct-more}}
 use Rattle.fields.{specs.Fields.{Found, found, unreadable, readDecimal}, proofs.Bytes.never}
 use Rattle.register.specs.Text.{readLine, lineText, textOnto, writeAll, follows, lineRefusal, Register, good, bad, lineAnswer, nextLine, readLines, readText}
 use Rattle.register.proofs.{Lines.{read-line, write-line}, Ordered.{ordered-follows, ordered-more}, Widths.sound-width}
 
 -- ---- what the lines give, by what comes next
 -- after a line that passes, where `room` more may stand
-abbrev after : ℕ → List Spell → Spell → List ℕ → Register
+abbrev pub after : ℕ → List Spell → Spell → List ℕ → Register
 after zero before s rest = bad 8 (length before + 1)
 after (suc room) before s rest = readLines room (before ++ (s ∷ [])) rest
 
@@ -17,156 +17,101 @@ lines-by zero before t = refl
 lines-by (suc room) before t = refl
 
 pub lines-end : (room : ℕ) (before : List Spell) → readLines room before [] ≡ good before
-unfolding nextLine
-lines-end room before = lines-by room before []
+lines-end room before = unfold nextLine in lines-by room before []
 
 pub lines-malformed : (room : ℕ) (before : List Spell) (t : List ℕ) → 0 < length t → readLine t ≡ unreadable → readLines room before t ≡ bad 12 (length before + 1)
 unfolding nextLine lineAnswer
-lines-malformed room before [] h e = absurd (none h)
-  where
-    none : 0 < 0 → ⊥
-    none h = omega arith
+lines-malformed room before [] h e = absurd (omega arith)
 lines-malformed room before (b ∷ t) h e = lines-by room before (b ∷ t) ∙ rw e
 
-nothing-there : readLine [] ≡ unreadable
-unfolding readLine readDecimal
-nothing-there = refl
-
 -- a line that is there
-module _ (before : List Spell) (t : List ℕ) (s : Spell) (rest : List ℕ) (e : readLine t ≡ found s rest) where
-  line-there : (next : Spell → List ℕ → Register) → nextLine before t next ≡ lineAnswer before (found s rest) next
-  line-there next = go t e
-    where
-      go : (t : List ℕ) → readLine t ≡ found s rest → nextLine before t next ≡ lineAnswer before (found s rest) next
-      go [] e = absurd (never (sym nothing-there ∙ e))
-      go (b ∷ t) e = unfold nextLine in rw e
+line-there : (room : ℕ) (before : List Spell) (t : List ℕ) (s : Spell) (rest : List ℕ) → readLine t ≡ found s rest
+    → readLines room before t ≡ lineAnswer before (found s rest) (after room before)
+unfolding nextLine
+line-there room before [] s rest e = unfold readLine readDecimal in absurd (never e)
+line-there room before (b ∷ t) s rest e = lines-by room before (b ∷ t) ∙ rw e
 
-  pub lines-refused : (room : ℕ) → eqb (lineRefusal before s) 0 ≡ false → readLines room before t ≡ bad (lineRefusal before s) (length before + 1)
-  unfolding lineAnswer
-  lines-refused room h = lines-by room before t ∙ line-there (after room before) ∙ rw h
+module _ (before : List Spell) (t : List ℕ) (s : Spell) (rest : List ℕ) (e : readLine t ≡ found s rest) (room : ℕ) where
+  pub lines-refused : eqb (lineRefusal before s) 0 ≡ false → readLines room before t ≡ bad (lineRefusal before s) (length before + 1)
+  lines-refused h = unfold lineAnswer in line-there room before t s rest e ∙ rw h
 
-  passing : (room : ℕ) → lineRefusal before s ≡ 0 → readLines room before t ≡ after room before s rest
-  unfolding lineAnswer
-  passing room h = lines-by room before t ∙ line-there (after room before) ∙ rw (eq-eqb (lineRefusal before s) 0 h)
-
-  pub lines-full : lineRefusal before s ≡ 0 → readLines zero before t ≡ bad 8 (length before + 1)
-  lines-full = passing zero
-
-  pub lines-on : (room : ℕ) → lineRefusal before s ≡ 0 → readLines (suc room) before t ≡ readLines room (before ++ (s ∷ [])) rest
-  lines-on room = passing (suc room)
+  pub lines-on : lineRefusal before s ≡ 0 → readLines room before t ≡ after room before s rest
+  lines-on h = unfold lineAnswer in line-there room before t s rest e ∙ rw (eq-eqb (lineRefusal before s) 0 h)
 
 -- ---- what is written is read
 pub not-refused : (before : List Spell) (s : Spell) → refusalOf s ≡ 0 → stands before (s .number) ≡ false → follows before s ≡ true → lineRefusal before s ≡ 0
-unfolding lineRefusal
-not-refused before s e t f = rw (e, t, f)
+not-refused before s e t f = unfold lineRefusal in rw (e, t, f)
 
 read-lines : (m before : List Spell) (room : ℕ) → Each Sound m → ordered (before ++ m) ≡ true → distinct (before ++ m) ≡ true → length m ≤ room
     → readLines room before (textOnto m []) ≡ good (before ++ m)
 unfolding textOnto Each
 read-lines [] before room g o d h = lines-end room before ∙ ap good (sym (append-nil before))
-read-lines (x ∷ m) before zero g o d h = absurd (none h)
-  where
-    none : suc (length m) ≤ 0 → ⊥
-    none h = omega arith
+read-lines (x ∷ m) before zero g o d h = absurd (omega arith)
 read-lines (x ∷ m) before (suc room) g o d h =
-    let on : lineRefusal before x ≡ 0 = not-refused before x (g .0 .entered) (distinct-fresh before x m d) (ordered-follows before x m o) in
+    let on = not-refused before x (g .0 .entered) (distinct-fresh before x m d) (ordered-follows before x m o) in
     let later = read-lines m (before ++ (x ∷ [])) room (g .1) (rw append-snoc o) (rw append-snoc d) (omega arith) in
-    lines-on before _ x _ (read-line x (textOnto m []) (g .0)) room on ∙ later ∙ ap good (append-snoc before x m)
+    lines-on before _ x _ (read-line x (textOnto m []) (g .0)) (suc room) on ∙ later ∙ ap good (append-snoc before x m)
 
 pub written-width : (l : List Spell) → Good l → length (writeAll l) ≤ 33792
 written-width l g = omega (arith, sound-width l (g .each), g .few)
 
 -- every good list is read back from its text
 pub read-written : (l : List Spell) → Good l → readText (writeAll l) ≡ good l
-unfolding readText
-read-written l g = rw (le-leb (length (writeAll l)) 65536 (omega (arith, written-width l g))) (read-lines l [] 1024 (g .each) (g .in-order) (g .unique) (g .few))
+read-written l g = unfold readText in
+    rw (le-leb (length (writeAll l)) 65536 (omega (arith, written-width l g))) (read-lines l [] 1024 (g .each) (g .in-order) (g .unique) (g .few))
 
 -- ---- what is read is what is written
-record Read (room : ℕ) (before : List Spell) (t : List ℕ) (l : List Spell) : Type 0 where
-  more : List Spell
-  whole : before ++ more ≡ l
-  text : textOnto more [] ≡ t
-  sound : Each Sound more
-  few : length more ≤ room
-  in-order : ordered before ≡ true → ordered l ≡ true
-  unique : distinct before ≡ true → distinct l ≡ true
-
 no-answer : {k n : ℕ} {l : List Spell} → bad k n ≡ good l → ⊥
 no-answer h = let z : _≡_ {A = ℕ} 0 1 = cc in omega arith
 
-record Passed (before : List Spell) (s : Spell) : Type 0 where
-  pub entered : refusalOf s ≡ 0
-  pub new : stands before (s .number) ≡ false
-  pub after : follows before s ≡ true
-
-passed : (before : List Spell) (s : Spell) → lineRefusal before s ≡ 0 → Passed before s
+-- a line that passes
+passed : (before : List Spell) (s : Spell) → lineRefusal before s ≡ 0 → (refusalOf s ≡ 0) × (stands before (s .number) ≡ false) × (follows before s ≡ true)
 unfolding lineRefusal
-passed before s e = by-test (eqb (refusalOf s) 0)
-    (λ r.
-    let p = past (stands before (s .number)) 5 (cond (follows before s) 0 13) (rw r at e) in
-    record { entered = eqb-true (refusalOf s) 0 r; new = p .0; after = follow (follows before s) (p .1) })
-    (λ r. absurd (false≢true (sym r ∙ eq-eqb (refusalOf s) 0 (rw r at e))))
+passed before s e =
+    by-test (eqb (refusalOf s) 0)
+    (λ r. by-test (stands before (s .number))
+    (λ t. let z : _≡_ {A = ℕ} 6 0 = rw (r, t) at e in absurd (omega arith))
+    (λ t. by-test (follows before s)
+    (λ f. (eqb-true (refusalOf s) 0 r, t, f))
+    (λ f. let z : _≡_ {A = ℕ} 13 0 = rw (r, t, f) at e in absurd (omega arith))))
+    (λ r. absurd (eqb-false (refusalOf s) 0 r (rw r at e)))
+
+-- one spell more at the end of a list
+text-more : (l : List Spell) (s : Spell) (rest : List ℕ) → textOnto (l ++ (s ∷ [])) rest ≡ textOnto l (lineText s rest)
+unfolding textOnto
+text-more [] s rest = refl
+text-more (x ∷ l) s rest = ap (lineText x) (text-more l s rest)
+
+sound-more : (l : List Spell) (s : Spell) → Each Sound l → Sound s → Each Sound (l ++ (s ∷ []))
+unfolding Each
+sound-more [] s g h = (h, tt)
+sound-more (x ∷ l) s g h = (g .0, sound-more l s (g .1) h)
+
+-- where lines are accepted, there is none, or the first passes
+line-first : {C : Type 0} (room : ℕ) (before : List Spell) (t : List ℕ) (l : List Spell) → readLines room before t ≡ good l → (t ≡ [] → before ≡ l → C)
+    → ((s : Spell) (rest : List ℕ) → readLine t ≡ found s rest → lineRefusal before s ≡ 0 → after room before s rest ≡ good l → C) → C
+line-first room before [] l e d k = let ends = lines-end room before in d refl (cc)
+line-first {C} room before (b ∷ t) l e d k = by-line (readLine (b ∷ t)) refl
   where
-    follow : (b : Bool) → cond {A = ℕ} b 0 13 ≡ 0 → b ≡ true
-    follow true e = refl
-    follow false e = absurd (omega arith)
+    by-line : (f : Found Spell) → readLine (b ∷ t) ≡ f → C
+    by-line unreadable r = absurd (no-answer (sym (lines-malformed room before (b ∷ t) (omega arith) r) ∙ e))
+    by-line (found s rest) r =
+        by-test (eqb (lineRefusal before s) 0)
+        (λ h. let p = eqb-true (lineRefusal before s) 0 h in k s rest r p (sym (lines-on before (b ∷ t) s rest r room p) ∙ e))
+        (λ h. absurd (no-answer (sym (lines-refused before (b ∷ t) s rest r room h) ∙ e)))
 
-ended : (room : ℕ) (before l : List Spell) → good before ≡ good l → Read room before [] l
-unfolding textOnto Each
-ended room before l e =
-    let same : before ≡ l = cc in
-    record { more = []; whole = append-nil before ∙ same; text = refl; sound = tt; few = omega arith; in-order = λ h. rw (← same) h; unique = λ h. rw (← same) h }
-
-one-more : {room : ℕ} {before : List Spell} {t : List ℕ} {l : List Spell} {s : Spell} {rest : List ℕ} → readLine t ≡ found s rest → lineRefusal before s ≡ 0
-    → Read room (before ++ (s ∷ [])) rest l → Read (suc room) before t l
-unfolding textOnto Each
-one-more {room} {before} {t} {l} {s} {rest} e h r =
-    let p = passed before s h in
-    let w = write-line t s rest e (p .entered) in
-    record {
-      more = s ∷ r .more;
-      whole = sym (append-snoc before s (r .more)) ∙ r .whole;
-      text = ap (lineText s) (r .text) ∙ sym (w .1);
-      sound = (w .0, r .sound);
-      few = omega (arith, r .few);
-      in-order = λ o. r .in-order (ordered-more before s o (p .after));
-      unique = λ d. r .unique (distinct-more before s d (p .new));
-    }
-
--- what can come next: the end, a line that refuses the text, or one that passes
-data Comes (before : List Spell) (t : List ℕ) : Type 0 where
-  ends : t ≡ [] → Comes before t
-  stops : (k : ℕ) → ((room : ℕ) → readLines room before t ≡ bad k (length before + 1)) → Comes before t
-  goes : (s : Spell) (rest : List ℕ) → readLine t ≡ found s rest → lineRefusal before s ≡ 0 → Comes before t
-
-comes : (before : List Spell) (t : List ℕ) → Comes before t
-comes before [] = ends refl
-comes before (b ∷ t) = by-line (readLine (b ∷ t)) refl
-  where
-    by-line : (f : Found Spell) → readLine (b ∷ t) ≡ f → Comes before (b ∷ t)
-    by-line unreadable e = stops 12 (λ room. lines-malformed room before (b ∷ t) (omega arith) e)
-    by-line (found s rest) e =
-        by-test (eqb (lineRefusal before s) 0) (λ h. goes s rest e (eqb-true (lineRefusal before s) 0 h))
-        (λ h. stops (lineRefusal before s) (λ room. lines-refused before (b ∷ t) s rest e room h))
-
-write-lines : (room : ℕ) (before : List Spell) (t : List ℕ) (l : List Spell) → readLines room before t ≡ good l → Read room before t l
-write-lines zero before t l e = elim (comes before t) [
-  | ends n ↦ rw n (ended zero before l (sym (lines-end zero before) ∙ (rw n at e)))
-  | stops k f ↦ absurd (no-answer (sym (f zero) ∙ e))
-  | goes s rest r h ↦ absurd (no-answer (sym (lines-full before t s rest r h) ∙ e))
-]
-write-lines (suc room) before t l e = elim (comes before t) [
-  | ends n ↦ rw n (ended (suc room) before l (sym (lines-end (suc room) before) ∙ (rw n at e)))
-  | stops k f ↦ absurd (no-answer (sym (f (suc room)) ∙ e))
-  | goes s rest r h ↦ one-more r h (write-lines room (before ++ (s ∷ [])) rest l (sym (lines-on before t s rest r room h) ∙ e))
-]
+write-lines : (room : ℕ) (before : List Spell) (t : List ℕ) (l : List Spell) → Good before → length before + room ≡ 1024 → readLines room before t ≡ good l
+    → (textOnto l [] ≡ textOnto before t) × Good l
+write-lines zero before t l g n e = line-first zero before t l e (λ z same. rw (z, ← same) (refl, g)) (λ s rest r p a. absurd (no-answer a))
+write-lines (suc room) before t l g n e = line-first (suc room) before t l e (λ z same. rw (z, ← same) (refl, g)) (λ s rest r p a.
+    let q = passed before s p in
+    let w = write-line t s rest r (q .0) in
+    let long = length-append before (s ∷ []) in
+    let more : Good (before ++ (s ∷ [])) = search (sound-more before s (g .each) (w .0), ordered-more, distinct-more, arith) in
+    let on = write-lines room (before ++ (s ∷ [])) rest l more (omega arith) a in
+    (on .0 ∙ text-more before s rest ∙ ap (textOnto before) (sym (w .1)), on .1))
 
 -- every accepted text is its list's text, and its list is good
 pub written-read : (t : List ℕ) (l : List Spell) → readText t ≡ good l → (writeAll l ≡ t) × Good l
-unfolding readText orderedBy distinct
-written-read t l e = by-test (leb (length t) 65536) (λ h. whole (write-lines 1024 [] t l (rw h at e))) (λ h. absurd (no-answer (rw h at e)))
-  where
-    whole : Read 1024 [] t l → (writeAll l ≡ t) × Good l
-    whole r =
-        let same : r .more ≡ l = r .whole in
-        (rw (← same) (r .text), record { each = subst (Each Sound) same (r .sound); in-order = r .in-order refl; unique = r .unique refl; few = omega (arith, r .few, ap length same) })
+unfolding readText orderedBy distinct textOnto Each
+written-read t l e = by-test (leb (length t) 65536) (λ h. write-lines 1024 [] t l (search arith) (omega arith) (rw h at e)) (λ h. absurd (no-answer (rw h at e)))
