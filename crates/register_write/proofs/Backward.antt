@@ -1,33 +1,49 @@
--- A list's text, put into the scratch list line by line from the last spell to the first, and copied out. Assumes nothing.
-use Rattle.basis.proofs.Prelude.{_∙_, _≡_, ap, sym, _*_, _+_, _-_, _<_, _≤_, min, suc, ℕ, List, [], _++_, _∷_, drop, drop-of-length-le, getD, length, length-append, length-drop, length-take, take, drop-cons, drop-length, take-all, min-le-right, arith, le-leb, lt-leb}
-use Rattle.fields.{proofs.Puts.{Put, byte-put, number-put}, specs.{Fields.{byteText, numberText}, Answers.Puts}}
-use Rattle.spell.specs.{declared.Spell.Spell, Blank.blank}
-use Rattle.register.{specs.{Text.{lineText, textOnto}, Answers.Writes}, proofs.Widths.text-width}
+-- Texts put into the scratch list from the end to the front, and the answer. Assumes nothing.
+use Rattle.basis.proofs.Prelude.{_∙_, _≡_, ap, sym, _*_, _+_, _-_, _<_, _≤_, min, suc, ℕ, List, [], _++_, _∷_, drop, drop-of-length-le, getD, getD-take, length, length-append, length-drop, length-take, min-le-left, min-le-right, take, drop-cons, drop-length, take-all, arith, le-leb, lt-leb}
+use lib.Ieee.{Float, binary32, toBits}
+use Rattle.fields.{proofs.Puts.{Put, number-put, bits-put, byte-put}, specs.{Fields.{byteText, numberText, bitsText}, Answers.Puts}}
+use Rattle.spell.specs.{declared.{Spell.Spell, Urgency.{Urgency, the-variants.{Grade, Reading}}}, Blank.blank}
+use Rattle.register.{specs.{Text.{urgencyText, lineText, textOnto, writeAll}, Answers.Writes}, proofs.Widths.{urgency-width, text-width}}
 use Rattle.register_write.specs.Contracts.{Room, Ends}
 
 -- ---- the scratch list
-pub ends-place : {buf : List ℕ} {r : ℕ} {text : List ℕ} → Ends buf r text → r + length text ≡ 35840
+ends-place : {buf : List ℕ} {r : ℕ} {text : List ℕ} → Ends buf r text → r + length text ≡ 35840
 ends-place {buf} {r} p = omega (arith, p .sized, p .inside, ap length (p .written), length-drop r buf)
 
--- what a writer of a field leaves
-pub put-ends : {entry exit : List ℕ} {r : ℕ} {text : List ℕ} → length entry ≡ 35840 → Put entry exit r text → Ends exit r text
-put-ends z p = record { sized = p .sized ∙ z; inside = omega (arith, p .inside, z); written = p .written }
+two-more : {buf b1 b2 exit : List ℕ} {i j r : ℕ} {text : List ℕ} (a : ℕ) → length buf ≡ 35840 → Put buf b1 i text → 2 ≤ i → Puts 1 (byteText 9) b1 i j b2
+    → Puts 1 (byteText a) b2 j r exit → Ends exit r (a ∷ 9 ∷ text)
+two-more a z p h q s =
+    let q1 = byte-put (omega (arith, p .sized, p .inside)) 9 (omega arith) q in
+    let q2 = byte-put (omega (arith, q1 .0 .sized, q1 .0 .inside)) a (omega (arith, q1 .1)) s in
+    search arith
 
--- a number before it, and two bytes
-pub one-number : {buf exit : List ℕ} {i r : ℕ} {text : List ℕ} (n : ℕ) → Ends buf i text → 6 ≤ i → Puts 6 (numberText n 9) buf i r exit
+-- an urgency: its value, a tab and the letter
+module _ (buf b1 b2 b3 : List ℕ) (at i j r : ℕ) (u : Urgency) (room : Room buf at 11) (p2 : Puts 1 (byteText 9) b1 i j b2) where
+  pub grade-put : (g : ℕ) → u ≡ Grade g → Puts 6 (numberText g 10) buf at i b1 → Puts 1 (byteText 71) b2 j r b3 → Ends b3 r (urgencyText u (drop at buf))
+  grade-put g is p1 p3 =
+      let q = number-put (omega (arith, room .sized, room .inside)) g 10 (omega (arith, room .wide)) p1 in
+      rw is (two-more 71 (room .sized) (q .0) (omega (arith, room .wide, q .1)) p2 p3)
+
+  pub reading-put : (x : Float) (n : ℕ) → u ≡ Reading x → n ≡ toBits binary32 x → Puts 9 (bitsText n 10) buf at i b1 → Puts 1 (byteText 67) b2 j r b3
+      → Ends b3 r (urgencyText u (drop at buf))
+  reading-put x n is bits p1 p3 =
+      let q = bits-put (omega (arith, room .sized, room .inside)) n 10 (omega (arith, room .wide)) p1 in
+      rw (is, ← bits) (two-more 67 (room .sized) (q .0) (omega (arith, room .wide, q .1)) p2 p3)
+
+one-number : {buf exit : List ℕ} {i r : ℕ} {text : List ℕ} (n : ℕ) → Ends buf i text → 6 ≤ i → Puts 6 (numberText n 9) buf i r exit
     → Ends exit r (numberText n 9 text) × (i ≤ r + 6)
-one-number {buf} {exit} {i} {r} {text} n p h q =
-    let put = number-put (omega (arith, p .sized, p .inside)) n 9 h q in
-    (rw (p .written) at (put-ends (p .sized) (put .0)), put .1)
+one-number n p h q = let put = number-put (omega arith) n 9 h q in search arith
 
-pub two-more : {buf mid exit : List ℕ} {i j r : ℕ} {text : List ℕ} (a b : ℕ) → Ends buf i text → 2 ≤ i → Puts 1 (byteText b) buf i j mid
-    → Puts 1 (byteText a) mid j r exit → Ends exit r (a ∷ b ∷ text)
-two-more {buf} {mid} {exit} {i} {j} {r} {text} a b p h q s =
-    let first = byte-put (omega (arith, p .sized, p .inside)) b (omega arith) q in
-    let one = put-ends (p .sized) (first .0) in
-    let second = byte-put (omega (arith, one .sized, one .inside)) a (omega (arith, first .1)) s in
-    let two = put-ends (one .sized) (second .0) in
-    record { sized = two .sized; inside = two .inside; written = two .written ∙ rw (one .written, p .written) }
+-- a line: its urgency, and four numbers before it
+pub line-put : (s : Spell) (buf b0 b1 b2 b3 b4 : List ℕ) (at i j k m r : ℕ) → Room buf at 35 → Ends b0 i (urgencyText (s .urgency) (drop at buf))
+    → Puts 6 (numberText (s .last) 9) b0 i j b1 → Puts 6 (numberText (s .first) 9) b1 j k b2 → Puts 6 (numberText (s .candidate) 9) b2 k m b3
+    → Puts 6 (numberText (s .number) 9) b3 m r b4 → Ends b4 r (lineText s (drop at buf))
+line-put s buf b0 b1 b2 b3 b4 at i j k m r room p p1 p2 p3 p4 = unfold lineText in
+    let low : 24 ≤ i = omega (arith, room .sized, ends-place p, urgency-width (s .urgency) (drop at buf), length-drop at buf) in
+    let q1 = one-number (s .last) p (omega arith) p1 in
+    let q2 = one-number (s .first) (q1 .0) (omega (arith, q1 .1)) p2 in
+    let q3 = one-number (s .candidate) (q2 .0) (omega (arith, q1 .1, q2 .1)) p3 in
+    one-number (s .number) (q3 .0) (omega (arith, q1 .1, q2 .1, q3 .1)) p4 .0
 
 -- ---- the text of the spells from i on stands from the place `at` on
 pub record Back (l : List Spell) (buf : List ℕ) (at i : ℕ) : Type 0 where
@@ -36,44 +52,49 @@ pub record Back (l : List Spell) (buf : List ℕ) (at i : ℕ) : Type 0 where
   pub put : Ends buf at (textOnto (drop i l) [])
 
 -- at first none, after the first `count` of 1,024 spells
-pub back-start : (spells : List Spell) (count : ℕ) {i : ℕ} {buf : List ℕ} → length spells ≡ 1024 → i ≡ min count 1024 → length buf ≡ 35840 → Back (take count spells) buf 35840 i
-unfolding textOnto
-back-start spells count {i} {buf} w e h =
+pub back-start : (spells : List Spell) (count i : ℕ) (buf : List ℕ) → length spells ≡ 1024 → i ≡ min count 1024 → length buf ≡ 35840 → Back (take count spells) buf 35840 i
+back-start spells count i buf w e h = unfold textOnto in
     let long : i ≡ length (take count spells) = e ∙ sym (length-take count spells ∙ ap (min count) w) in
-    record {
-      few = omega (arith, min-le-right count 1024);
-      upto = omega arith;
-      put = record { sized = h; inside = omega arith; written = drop-of-length-le buf {i = 35840} (omega arith) ∙ rw (long, drop-length (take count spells)) };
-    }
+    let most = min-le-right count 1024 in
+    search (arith, drop-of-length-le buf {i = 35840} (omega arith), long, drop-length)
 
-module _ {l : List Spell} {buf : List ℕ} {at i : ℕ} (b : Back l buf at i) where
-  pub back-room : 1 ≤ i → Room buf at 35
-  back-room h =
-      let wide : 35 * i ≤ at = omega (arith, b .few, b .upto, ends-place (b .put), text-width (drop i l), length-drop i l) in
-      record { sized = b .put .sized; inside = b .put .inside; wide = omega arith }
+module _ (buf : List ℕ) (at i : ℕ) where
+  pub back-room : (l : List Spell) → Back l buf at i → 1 ≤ i → Room buf at 35
+  back-room l b h =
+      let wide : 35 * i ≤ at = omega (arith, ends-place (b .put), text-width (drop i l), length-drop i l) in
+      search arith
 
-  pub back-step : {exit : List ℕ} {r : ℕ} → 1 ≤ i → Ends exit r (lineText (getD l (i - 1) blank) (drop at buf)) → Back l exit r (i - 1)
-  unfolding textOnto
-  back-step h p =
-      let up : suc (i - 1) ≡ i = omega arith in
-      let after = b .put .written ∙ ap (λ (n : ℕ). textOnto (drop n l) []) (sym up) in
-      record {
-        few = b .few;
-        upto = omega (arith, b .upto);
-        put = record { sized = p .sized; inside = p .inside; written = p .written ∙ ap (lineText (getD l (i - 1) blank)) after ∙ rw (drop-cons l (i - 1) blank (omega (arith, b .upto))) };
-      }
+  module _ (spells : List Spell) (count : ℕ) (b : Back (take count spells) buf at i) where
+    pub back-step : (exit : List ℕ) (r : ℕ) → 1 ≤ i → Ends exit r (lineText (getD spells (i - 1) blank) (drop at buf)) → Back (take count spells) exit r (i - 1)
+    back-step exit r h p = unfold textOnto in
+        let up : suc (i - 1) ≡ i = omega arith in
+        let first = drop-cons (take count spells) (i - 1) blank (omega arith) in
+        let same = getD-take count spells (i - 1) blank (omega (arith, length-take count spells, min-le-left count (length spells))) in
+        let after = b .put .written ∙ ap (λ (n : ℕ). textOnto (drop n (take count spells)) []) (sym up) in
+        let text : drop r exit ≡ textOnto (drop (i - 1) (take count spells)) [] = rw (first, same, ← after) (p .written) in
+        search arith
 
--- ---- the answer
-module _ (entry : List ℕ) {t buf : List ℕ} {at : ℕ} (p : Ends buf at t) where
-  pub too-short : length entry < 35840 - at → Writes t entry (record { refusal = 11; length = 0 }) entry
-  too-short h =
-      let no = lt-leb (length t) (length entry) (omega (arith, ends-place p)) in
-      record { answer = rw no; places = rw no }
+    -- the whole text stands there: it is too long, or copied
+    module _ (none : i ≤ 0) (out : List ℕ) where
+      all : Ends buf at (writeAll (take count spells))
+      all = let done : i ≡ 0 = omega arith in rw done at (b .put)
 
-  pub copied : {exit part : List ℕ} → part ≡ drop at buf → 35840 - at ≤ length entry → exit ≡ take (length part) part ++ drop (length part) entry
-      → Writes t entry (record { refusal = 0; length = 35840 - at }) exit × (length exit ≡ length entry)
-  copied {exit} e h c =
-      let out : exit ≡ t ++ drop (length t) entry = c ∙ rw (e ∙ p .written, take-all (length t) t (omega arith)) in
-      let same : 35840 - at ≡ length t = omega (arith, ends-place p) in
-      let fits = le-leb (length t) (length entry) (omega arith) in
-      (record { answer = rw (fits, same); places = rw fits out }, ap length out ∙ length-append t (drop (length t) entry) ∙ omega (arith, length-drop (length t) entry))
+      pub too-short : length out < 35840 - at → Writes (writeAll (take count spells)) out (record { refusal = 11; length = 0 }) out
+      too-short h = search (lt-leb (length (writeAll (take count spells))) (length out) (omega (arith, ends-place all)))
+
+      part : take (35840 - at) (drop at buf) ≡ writeAll (take count spells)
+      part = take-all (35840 - at) (drop at buf) (omega (arith, length-drop at buf)) ∙ all .written
+
+      module _ (h : 35840 - at ≤ length out) where
+        pub copy-fits : length (take (35840 - at) (drop at buf)) ≤ length out
+        copy-fits = omega (arith, ap length part, ends-place all)
+
+        module _ (exit : List ℕ) (e : exit ≡ (let part = take (35840 - at) (drop at buf) in take (length part) part ++ drop (length part) out)) where
+          pub copied : Writes (writeAll (take count spells)) out (record { refusal = 0; length = 35840 - at }) exit
+          copied =
+              let same : 35840 - at ≡ length (writeAll (take count spells)) = omega (arith, ends-place all) in
+              let fits = le-leb (length (writeAll (take count spells))) (length out) (omega arith) in
+              record { answer = rw (fits, same); places = rw fits (e ∙ rw (part, take-all (length (writeAll (take count spells))) (writeAll (take count spells)) (omega arith))) }
+
+          pub copied-sized : length exit ≡ length out
+          copied-sized = ap length e ∙ simp (length-append, length-take, length-drop) (omega (arith, copy-fits))
