@@ -6,17 +6,11 @@ pub sift-lines-spec : {M : Type 1} → statement M
 sift-lines-spec = close (spec
     (λ text met₀ spells₀ seen₀ count₀ lines₀ at₀ met spells seen count lines at. State text met₀ met spells seen count lines at)
     (λ text _ _ _ _ _ _ _ _ _ _ _ at. length text - at)
-    (λ c κs. search needs)
-    (λ c. begins _ _ (c .blank .ensures) (c .before .before .before .pre .1))
-    (λ c κs. search needs)
-    -- met[lines]
-    (λ c. let l = c .before .before .before in omega (arith, l .loop .inv .behind, l .before .before .before .before .pre .0))
-    (λ c. let l = c .before .before .before in omega (arith, l .loop .inv .behind, l .loop .inv .wide))
-    (λ c. let l = c .before .before .before in omega (arith, l .loop .inv .behind, l .before .before .before .before .pre .0))
+    (λ c κs. tt) (λ c. begins _ _ (c .blank .ensures) (c .before .before .before .pre .1))
+    (λ c κs. tt) (λ c. omega arith) (λ c. omega arith) (λ c. omega arith)  -- met[lines]
     (λ c κs. c .before .before .before .loop .inv .inside)
     (λ c. omega (arith, c .before .before .after-line .ensures .further (c .before .before .before .before .before .loop-test .taken)))
-    (λ c. let l = c .before .before .before .before .before in
-    drops (l .before .loop .inv) (l .loop-test .taken) (c .before .before .before .judge .ensures) (c .before .before .after-line .ensures) (λ z. omega (arith, c .if1 .taken)))
+    (λ c. search drops)
     -- a line that is kept: spells[count] and seen[n]
     (λ c. search needs)
     (λ c. omega (arith, c .before .before .before .before .before .judge .ensures .room (omega (arith, c .before .before .if1 .left))))
@@ -24,8 +18,4 @@ sift-lines-spec = close (spec
     (λ c. search needs)
     (λ c. omega (arith, c .before .before .before .before .before .judge .ensures .room (omega (arith, c .before .before .if1 .left))))
     (λ c. omega (arith, c .before .before .before .before .after-line .ensures .further (c .before .before .before .before .before .before .before .loop-test .taken)))
-    (λ c. let l = c .before .before .before .before .before .before .before in
-    keeps-one (l .before .loop .inv) (l .loop-test .taken) (c .before .before .before .before .before .judge .ensures) (c .before .before .before .before .after-line .ensures)
-    (omega (arith, c .before .before .if1 .left)) (search needs))
-    (λ c. c .before .loop .inv .sized)
-    (λ c. ends (c .before .loop .inv) (omega (arith, c .loop-test .left))))
+    (λ c. search (keeps-one, needs)) (λ c. search arith) (λ c. search ends))
