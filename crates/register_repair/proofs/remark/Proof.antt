@@ -1,5 +1,5 @@
 -- `register_repair::remark` meets its contract: the remarks of i lines are written. Assumes nothing.
-use Rattle.basis.proofs.Prelude.{_-_, _≤_, take, arith, needs}
+use Rattle.basis.proofs.Prelude.{_-_, _≤_, take, arith}
 use Rattle.register_repair.proofs.{Saying.{Saying, saying-none, passes-over, one-place, next-place, says-one, all-said}, remark.{Statement.statement, Tie.close, Tie.spec}}
 
 pub remark-spec : {M : Type 1} → statement M
