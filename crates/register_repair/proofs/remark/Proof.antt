@@ -7,8 +7,9 @@ remark-spec = close (spec
     (λ met n remarks₀ i₀ k₀ remarks i k. (i ≤ n) × Saying (take n met) remarks₀ remarks i k)
     (λ _ n _ _ _ _ i _. n - i)
     (λ c. (omega arith, saying-none _ _))
-    (λ c. omega arith) (λ c. omega arith) (λ c. omega arith) (λ c. omega arith)  -- met[i]
-    (λ c. (omega arith, search passes-over))
-    (λ c. omega arith) (λ c. omega arith) (λ c. search one-place)  -- remarks[k]
-    (λ c κs. tt) (λ c. omega arith) (λ c. omega arith) (λ c. search next-place)  -- remarks[k + 1]
-    (λ c. omega arith) (λ c. omega arith) (λ c. (omega arith, search says-one)) (λ c. search arith) (λ c. search all-said))
+    (λ c. omega (arith, c .before .before .before .before .pre)) (λ c. omega (arith, c .before .before .before .before .before .pre))  -- met[i]
+    (λ c. omega (arith, c .before .before .before .before .before .pre)) (λ c. omega arith) (λ c. (omega arith, search passes-over))
+    (λ c. omega (arith, c .before .before .before .before .before .before .pre)) (λ c. omega (arith, c .before .before .before .before .before .before .pre, c .before .before .before .loop .inv .1 .most)) (λ c. search one-place)  -- remarks[k]
+    (λ c κs. tt) (λ c. omega (arith, c .before .before .before .before .before .before .before .pre, c .before .before .before .before .loop .inv .1 .most)) (λ c. omega (arith, c .before .before .before .before .before .before .before .pre, c .before .before .before .before .loop .inv .1 .most))
+    (λ c. search next-place)  -- remarks[k + 1]
+    (λ c. omega (arith, c .before .before .before .before .before .before .before .pre, c .before .before .before .before .loop .inv .1 .most)) (λ c. omega arith) (λ c. (omega arith, search says-one)) (λ c. search arith) (λ c. search all-said))
