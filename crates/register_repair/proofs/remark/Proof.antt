@@ -9,7 +9,11 @@ remark-spec = close (spec
     (λ c. (omega arith, saying-none _ _))
     (λ c. omega (arith, c .before .before .before .before .pre)) (λ c. omega (arith, c .before .before .before .before .before .pre))  -- met[i]
     (λ c. omega (arith, c .before .before .before .before .before .pre)) (λ c. omega arith) (λ c. (omega arith, search passes-over))
-    (λ c. omega (arith, c .before .before .before .before .before .before .pre)) (λ c. omega (arith, c .before .before .before .before .before .before .pre, c .before .before .before .loop .inv .1 .most)) (λ c. search one-place)  -- remarks[k]
-    (λ c κs. tt) (λ c. omega (arith, c .before .before .before .before .before .before .before .pre, c .before .before .before .before .loop .inv .1 .most)) (λ c. omega (arith, c .before .before .before .before .before .before .before .pre, c .before .before .before .before .loop .inv .1 .most))
-    (λ c. search next-place)  -- remarks[k + 1]
-    (λ c. omega (arith, c .before .before .before .before .before .before .before .pre, c .before .before .before .before .loop .inv .1 .most)) (λ c. omega arith) (λ c. (omega arith, search says-one)) (λ c. search arith) (λ c. search all-said))
+    -- remarks[k]
+    (λ c. omega (arith, c .before .before .before .before .before .before .pre))
+    (λ c. let l = c .before .before .before in omega (arith, l .before .before .before .pre, l .loop .inv .1 .most)) (λ c. search one-place)
+    -- remarks[k + 1]
+    (λ c κs. tt) (λ c. let l = c .before .before .before .before in omega (arith, l .before .before .before .pre, l .loop .inv .1 .most))
+    (λ c. let l = c .before .before .before .before in omega (arith, l .before .before .before .pre, l .loop .inv .1 .most)) (λ c. search next-place)
+    (λ c. let l = c .before .before .before .before in omega (arith, l .before .before .before .pre, l .loop .inv .1 .most)) (λ c. omega arith)
+    (λ c. (omega arith, search says-one)) (λ c. search arith) (λ c. search all-said))
