@@ -1,18 +1,15 @@
 -- The step of `Shared` is the contract of `phayaklit_request` itself, as the prover reads it; and what it asks. Assumes nothing.
-use Rattle.basis.proofs.Prelude.{_≡_, refl, ℕ, List}
+use Rattle.basis.proofs.Prelude.{refl, ℕ, List}
 use contract.Lifetimes.{Lfts}
 use denote.Ref.{RefT, now}
-use Rattle.service.specs.{Packed.unpacked, Service.{blocks, Given}}
+use Rattle.service.{specs.{Packed.unpacked, Service.{blocks, Given}}, proofs.Tied.Is}
 use Rattle.sharing.specs.{declared.Carried.Carried, Carrying.Requested}
 use Rattle.host_wire.proofs.phayaklit_request.Reads as request-reads
 
-module _ (κs : Lfts 8) (room allowed : ℕ) (r : Carried) (words words′ index index′ line payload days days′ numbers numbers′ text text′ out out′ : RefT (List ℕ)) where
-  pub request-asks : request-reads.Pre κs (words, (index, (room, (allowed, (line, (payload, (days, (numbers, (text, (out, tt))))))))))
-      ≡ Given (unpacked (now words)) (blocks (now index))
-  request-asks = refl
-
-  pub request-is : request-reads.Post κs (words, (index, (room, (allowed, (line, (payload, (days, (numbers, (text, (out, tt)))))))))) r
-      (words′, (index′, (room, (allowed, (line, (payload, (days′, (numbers′, (text′, (out′, tt))))))))))
-      ≡ Requested (now words) (blocks (now index)) room allowed (now line) (now payload) (now days) (now numbers) (now text) (now out) r
-      (now words′) (blocks (now index′)) (now days′) (now numbers′) (now text′) (now out′)
-  request-is = refl
+pub request-is : (κs : Lfts 8) (room allowed : ℕ) (r : Carried) (words words′ index index′ line payload days days′ numbers numbers′ text text′ out out′ : RefT (List ℕ))
+    → Is (request-reads.Pre κs) (request-reads.Post κs) (words, (index, (room, (allowed, (line, (payload, (days, (numbers, (text, (out, tt)))))))))) r
+    (words′, (index′, (room, (allowed, (line, (payload, (days′, (numbers′, (text′, (out′, tt))))))))))
+    (Given (unpacked (now words)) (blocks (now index)))
+    (Requested (now words) (blocks (now index)) room allowed (now line) (now payload) (now days) (now numbers) (now text) (now out) r
+    (now words′) (blocks (now index′)) (now days′) (now numbers′) (now text′) (now out′))
+request-is κs room allowed r words words′ index index′ line payload days days′ numbers numbers′ text text′ out out′ = (refl, refl)

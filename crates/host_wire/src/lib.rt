@@ -1,17 +1,13 @@
 // A request from bytes to bytes for other software, on a host's words: what it asks is answered, and the host is told which word it was
 // and whether it changed the state.
 ghost use mathlib.Core.Path.{_≡_};
-ghost use Prim.Native.Nat.{ℕ, _≤_, _<_};
+ghost use Prim.Native.Nat.{_≤_, _<_};
 ghost use lib.ListN.{length};
-ghost use mathlib.Core.List.{List};
-ghost use Rattle.fields.specs.Fields.{isAt};
 ghost use Rattle.service.specs.Packed.{unpacked};
 ghost use Rattle.service.specs.Service.{blocks, Given, Valid};
-ghost use Rattle.conversations.specs.Answering.{roomOf, Answers, askedIn};
-ghost use Rattle.phayaklit.specs.Host.{Laid};
-ghost use Rattle.sharing.specs.Words.{questionWord, callWord, wordIn, wordOf, powerOf, changedAt};
-ghost use Rattle.sharing.specs.Carrying.{answeredOf, heldAt, Requested};
-ghost use Rattle.sharing.specs.Contracts.{EditTurn, EditsIn, RequestedOf};
+ghost use Rattle.sharing.specs.Words.{questionWord, callWord, wordIn, powerOf, changedAt};
+ghost use Rattle.sharing.specs.Carrying.{heldAt, Requested};
+ghost use Rattle.sharing.specs.Contracts.{wantedWord, EditTurn, EditsIn, Changing, RequestedOf};
 use conversations::DAYS;
 use conversations::Looked;
 use conversations::ROOM;
@@ -60,7 +56,7 @@ fn word_of(request: Request) -> u32
 
 // The word of what is wanted of the service.
 fn wanted_word(wanted: Wanted) -> u32
-    ensures { λ r. ⌜ ((days : List ℕ) → r ≡ wordOf (askedIn wanted days)) ⌝ }
+    ensures { λ r. ⌜ r ≡ wantedWord wanted ⌝ }
 {
     match wanted {
         Wanted::Call(call, _) => call_word(call),
@@ -143,9 +139,9 @@ fn edit(
     out: &mut [u8; OUT],
 ) -> Carried
     requires { ⌜ Valid (unpacked (now words)) ⌝ }
-    requires { ⌜ ((days : List ℕ) → word ≡ wordOf (askedIn wanted days)) ⌝ }
+    requires { ⌜ word ≡ wantedWord wanted ⌝ }
     requires { ⌜ (16 ≤ word) × (word < 20) ⌝ }
-    ensures { λ r. ⌜ EditsIn wanted (now (words .entry)) room (now (numbers .entry)) (now (text .entry)) (now (out .entry)) r (now (words .exit)) (now (out .exit)) ⌝ }
+    ensures { λ r. ⌜ EditsIn wanted word (now (words .entry)) room (now (numbers .entry)) (now (text .entry)) (now (out .entry)) r (now (words .exit)) (now (out .exit)) ⌝ }
 {
     match wanted {
         Wanted::Call(call, _) => {
@@ -179,10 +175,8 @@ fn change(
     out: &mut [u8; OUT],
 ) -> Carried
     requires { ⌜ Given (unpacked (now words)) (blocks (now index)) ⌝ }
-    requires { ⌜ power ≡ powerOf (wordOf (askedIn wanted (now days))) ⌝ }
-    ensures { λ r. ⌜ Answers (unpacked (now (words .entry))) (blocks (now (index .entry))) (roomOf room) (askedIn wanted (now (days .entry))) (now (payload .entry)) (now (numbers .entry)) (now (text .entry)) (now (out .entry)) (answeredOf (now (words .exit)) r) (blocks (now (index .exit))) (now (numbers .exit)) (now (text .exit)) (now (out .exit)) ⌝ }
-    ensures { λ r. ⌜ (Laid (now (words .entry)) → Laid (now (words .exit))) × (power ≡ 0 → now (words .exit) ≡ now (words .entry)) ⌝ }
-    ensures { λ r. ⌜ (r .word ≡ word) × (r .changed ≡ changedAt power (now (out .exit)) (r .place)) ⌝ }
+    requires { ⌜ (word ≡ wantedWord wanted) × (power ≡ powerOf word) ⌝ }
+    ensures { λ r. ⌜ Changing wanted word power (now (words .entry)) (blocks (now (index .entry))) room (now (payload .entry)) (now (days .entry)) (now (numbers .entry)) (now (text .entry)) (now (out .entry)) r (now (words .exit)) (blocks (now (index .exit))) (now (numbers .exit)) (now (text .exit)) (now (out .exit)) ⌝ }
 {
     let service = service::unpack(words);
     let r = wire::carry(
@@ -231,7 +225,7 @@ fn carry(
     out: &mut [u8; OUT],
 ) -> Carried
     requires { ⌜ Given (unpacked (now words)) (blocks (now index)) ⌝ }
-    ensures { λ r. ⌜ RequestedOf (askedIn wanted (now (days .entry))) (now (words .entry)) (blocks (now (index .entry))) room allowed (now (payload .entry)) (now (numbers .entry)) (now (text .entry)) (now (out .entry)) r (now (words .exit)) (blocks (now (index .exit))) (now (numbers .exit)) (now (text .exit)) (now (out .exit)) ⌝ }
+    ensures { λ r. ⌜ RequestedOf wanted (now (words .entry)) (blocks (now (index .entry))) room allowed (now (payload .entry)) (now (days .entry)) (now (numbers .entry)) (now (text .entry)) (now (out .entry)) r (now (words .exit)) (blocks (now (index .exit))) (now (numbers .exit)) (now (text .exit)) (now (out .exit)) ⌝ }
 {
     let word = wanted_word(wanted);
     let power = power_of(word);

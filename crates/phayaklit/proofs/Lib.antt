@@ -1,4 +1,1 @@
-pub mod Host
-pub mod Claims
-pub mod Second
 pub mod Tied

@@ -10,7 +10,10 @@ ghost use Rattle.service.specs.Packed.{packed, unpacked};
 ghost use Rattle.published_index.specs.Index.{indexOf, Published};
 ghost use Rattle.questions.specs.Asked.{Asked};
 ghost use Rattle.service.specs.Service.{blocks, Valid, Represents, Changed, Changes, Publishes, Wrote, Begins};
-ghost use Rattle.phayaklit.specs.Host.{version, Held, Laid, spellIn, outcomeOf, steppedOf, startedOf};
+ghost use Rattle.hosting.specs.Host.{version, Held, Laid, spellIn, outcomeOf, steppedOf, startedOf};
+use hosting::Entry;
+use hosting::Opened;
+use hosting::Reply;
 use model::Call;
 use model::Question;
 use outcomes::Outcome;
@@ -18,36 +21,6 @@ use service::SERVICE;
 use spell::Spell;
 use stabbing::INDEX;
 use telling::told;
-
-// A spell as a host gives it. Kind 0 is a grade, and `value` is the grade; kind 1 is a reading, and `value` is its bits. Any other
-// kind, and a grade above 65,535, is a bad urgency, which is refused in its turn among the checks.
-#[repr(C)]
-pub struct Entry {
-    pub number: u16,
-    pub candidate: u16,
-    pub first: u16,
-    pub last: u16,
-    pub kind: u16,
-    pub value: u32,
-}
-
-// What a call answers: the refusal's number or 0, how many spells are listed, the comparisons made (document 01's looks), the
-// length of a written text, the number of days ticked.
-#[repr(C)]
-pub struct Reply {
-    pub refusal: u16,
-    pub count: usize,
-    pub comparisons: usize,
-    pub length: usize,
-    pub ticked: usize,
-}
-
-// What a reading answers: the refusal's number with its line, or 0 and 0.
-#[repr(C)]
-pub struct Opened {
-    pub refusal: u16,
-    pub line: u16,
-}
 
 fn spell_in(e: Entry) -> Spell
     ensures { λ r. ⌜ r ≡ spellIn e ⌝ }

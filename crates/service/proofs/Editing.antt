@@ -1,101 +1,74 @@
 -- From an edit of the standing list to the postcondition of the call. Assumes nothing.
-use Rattle.basis.proofs.Prelude.{_∙_, _≡_, ap, refl, subst, sym, ℕ, List, [], _∷_, Bool, cond, false, false≢true, true, eqb, eqb-true, by-cases}
-use Rattle.service.proofs.Names.{accepted, Spell, entering, replacing, Wf, listOf, pasts, makes, afterEdit, Edits, TakesBack, Does, Call, Enter, Amend, Strike, TakeBack, Publish, Write, Ask, insert, remove, replace, idle, enterRefusal, amendRefusal, strikeRefusal, takeBackRefusal, remember, frontOr, restOf, State, withStanding, Effect, refused, done, settle, become, edit, takeBack, effectOf, toldOf, asking, answerOf, Service, Stepped, serviceOf, leavesOf, Blocks, Represents, Changed, Changes}
-use Rattle.standing.specs.declared.Edited.{Edited}
+use Rattle.basis.proofs.Prelude.{_∙_, _≡_, ap, refl, sym, ℕ, List, [], _∷_, Bool, cond, false, false≢true, true, eqb, eqb-true, by-test}
+use Rattle.service.proofs.Names.{accepted, Spell, entering, replacing, Wf, listOf, pasts, makes, Edits, TakesBack, Does, Call, Enter, Amend, Strike, TakeBack, Publish, Write, Ask, insert, remove, replace, idle, enterRefusal, amendRefusal, strikeRefusal, takeBackRefusal, remember, frontOr, restOf, State, Request, Effect, settle, become, edit, takeBack, effectOf, Outcome, toldOf, answerOf, Service, Stepped, serviceOf, leavesOf, Blocks, Represents, Changed, Changes}
+use Rattle.standing.specs.declared.{Edited.Edited, Standing.Standing}
 use Rattle.journal.specs.declared.Undo.{Undo}
 
--- the call's result
-abbrev pub steppedOf : Edited → Stepped
+abbrev steppedOf : Edited → Stepped
 steppedOf e = record { service = serviceOf (e .standing); outcome = toldOf (e .refusal) }
 
--- whatever the lent lists hold, the result answers as an effect on the state m does, and represents what it leaves
-abbrev Follows : Edited → Blocks → State → Effect → Type 0
-Follows e bs m f = (days numbers text : List ℕ) (c : Call)
-    → (answerOf (steppedOf e .outcome) numbers text ≡ settle f m (asking c days numbers text) .answer)
-    × Represents (steppedOf e .service) bs (settle f m (asking c days numbers text) .state)
+-- the standing list st′, of which n is told, answers as an effect on the state m does, and represents what it leaves
+record Follows (st′ : Standing) (n : ℕ) (bs : Blocks) (m : State) (f : Effect) (q : Request) : Type 0 where
+  pub answer : answerOf (toldOf n) (q .numbers) (q .text) ≡ settle f m q .answer
+  pub after : Represents (serviceOf st′) bs (settle f m q .state)
 
 -- a result that follows what the call does, whatever stands beside it
-changed : (sv : Service) (c : Call) (e : Edited) → Wf (e .standing) → e .standing ≡ leavesOf (sv .standing) c → (eqb (e .refusal) accepted ≡ false → e .standing ≡ sv .standing)
-    → ((m : State) (bs : Blocks) (days : List ℕ) → Represents sv bs m → Follows e bs m (effectOf c days m))
+changed : {sv : Service} {c : Call} {e : Edited} → Wf (e .standing) → e .standing ≡ leavesOf (sv .standing) c → (eqb (e .refusal) accepted ≡ false → e .standing ≡ sv .standing)
+    → ((m : State) (bs : Blocks) (q : Request) → Represents sv bs m → Follows (e .standing) (e .refusal) bs m (effectOf c (q .days) m) q)
     → Changed sv c (steppedOf e)
-changed sv c e w whole kept f = record {
+changed w whole kept f = record {
   valid = record { standing = w };
   whole = ap serviceOf whole;
   kept = λ t. ap serviceOf (kept t);
   met = λ bs days numbers text g. record {
     given = record { valid = record { standing = w }; published = g .published };
-    answer = λ m h. f m bs days h days numbers text c .0;
-    after = λ m h. f m bs days h days numbers text c .1;
+    answer = λ m h. f m bs _ h .answer;
+    after = λ m h. f m bs _ h .after;
   };
 }
 
--- ---- Enter, amend, strike
+-- where the check n accepts, the state becomes the list l with the past p, and else it stays
+becomes : {sv : Service} {st′ : Standing} {k n : ℕ} {bs : Blocks} {m : State} (l : List Spell) (p : List (List Spell)) (q : Request) → Represents sv bs m → Wf st′ → k ≡ n
+    → listOf st′ ≡ cond (eqb n accepted) l (m .standing) → pasts st′ ≡ cond (eqb n accepted) p (m .past) → Follows st′ k bs m (become n l p m) q
+becomes {n = n} l p q h w is list past = unfold settle in by-test (eqb n accepted)
+    (λ t. rw t (record { answer = rw (is ∙ eqb-true n accepted t); after = record { valid = record { standing = w }; standing = rw t at list; past = rw t at past; shows = h .shows } }))
+    (λ t. rw t (record { answer = rw is; after = record { valid = record { standing = w }; standing = rw t at list; past = rw t at past; shows = h .shows } }))
 
--- a refused edit is not made
-unmade : (idle : Bool) (n : ℕ) → eqb n accepted ≡ false → makes idle n ≡ false
-unmade true n t = refl
-unmade false n t = t
+-- enter, amend, strike: idle by the test i, refused with the number n, and else the standing list becomes l
+module _ {sv : Service} {e : Edited} {l : List Spell} {u : Undo} where
+  edit-follows : (i : Bool) {n : ℕ} (m : State) (bs : Blocks) (q : Request) → Edits (sv .standing) e i n l u → Represents sv bs m
+      → Follows (e .standing) (e .refusal) bs m (cond i (become n (m .standing) (m .past) m) (edit n l m)) q
+  edit-follows true {n} m bs q d h = becomes _ _ q h (d .wf) (d .refusal) (by-test (eqb n accepted) (λ t. rw t (d .list ∙ h .standing)) (λ t. rw t (d .list ∙ h .standing))) (by-test (eqb n accepted) (λ t. rw t (d .past ∙ h .past)) (λ t. rw t (d .past ∙ h .past)))
+  edit-follows false m bs q d h = becomes _ _ q h (d .wf) (d .refusal) (rw (← h .standing) (d .list)) (rw (← h .standing, ← h .past) (d .past))
 
--- the call c is idle by the test i, refused with the number of n, and else makes the standing list f
-module _ (sv : Service) (c : Call) (e : Edited) (i : List Spell → Bool) (n : List Spell → ℕ) (f : List Spell → List Spell) (u : Undo)
-    (left : leavesOf (sv .standing) c ≡ afterEdit (sv .standing) (i (listOf (sv .standing))) (n (listOf (sv .standing))) (f (listOf (sv .standing))) u)
-    (is : (m : State) (days : List ℕ) → effectOf c days m ≡ cond (i (m .standing)) (become (n (m .standing)) (m .standing) (m .past) m) (edit (n (m .standing)) (f (m .standing)) m))
-    (d : Edits (sv .standing) e (i (listOf (sv .standing))) (n (listOf (sv .standing))) (f (listOf (sv .standing))) u) where
-  abbrev l : List Spell
-  l = listOf (sv .standing)
+  -- a refused one leaves every place
+  edit-kept : (i : Bool) {n : ℕ} → Edits (sv .standing) e i n l u → eqb (e .refusal) accepted ≡ false → e .standing ≡ sv .standing
+  edit-kept true d t = d .kept refl
+  edit-kept false d t = d .kept (rw (d .refusal) at t)
 
-  kept : {m : State} {bs : Blocks} → makes (i l) (n l) ≡ false → Represents sv bs m → Represents (steppedOf e .service) bs m
-  kept t h = record { valid = record { standing = d .wf }; standing = d .list ∙ rw t (h .standing); past = d .past ∙ rw t (h .past); shows = h .shows }
+-- take back, which is refused where there is no past
+back-follows : {sv : Service} {e : Edited} (m : State) (bs : Blocks) (q : Request) → TakesBack (sv .standing) e → Represents sv bs m → Follows (e .standing) (e .refusal) bs m (takeBack (m .past) m) q
+unfolding takeBack takeBackRefusal frontOr restOf
+back-follows {sv} {e} m bs q d h = go (m .past) refl (rw (h .past) at (d .refusal)) (rw (h .past, h .standing) at (d .list)) (rw (h .past) at (d .past))
+  where
+    go : (past : List (List Spell)) → past ≡ m .past → e .refusal ≡ takeBackRefusal past → listOf (e .standing) ≡ frontOr (m .standing) past → pasts (e .standing) ≡ restOf past
+        → Follows (e .standing) (e .refusal) bs m (takeBack past m) q
+    go [] same r l b = becomes (m .standing) [] q h (d .wf) r l (b ∙ same)
+    go (x ∷ past) same r l b = becomes x past q h (d .wf) r l b
 
-  made : {m : State} {bs : Blocks} → makes (i l) (n l) ≡ true → Represents sv bs m → Represents (steppedOf e .service) bs (withStanding (f l) (remember (m .standing) (m .past)) m)
-  made {m} t h = record {
-    valid = record { standing = d .wf };
-    standing = d .list ∙ rw t;
-    past = d .past ∙ rw t (ap (λ (l : List Spell). remember l (pasts (sv .standing))) (h .standing) ∙ ap (remember (m .standing)) (h .past));
-    shows = h .shows;
-  }
-
-  edit-changed : Changed sv c (steppedOf e)
-  edit-changed = unfold settle in changed sv c e (d .wf) (d .whole ∙ sym left) (λ t. d .kept (unmade (i l) (n l) (rw (d .refusal) at t))) (λ m bs days h.
-      let k : ℕ = n l in
-      let does : List Spell → Effect = λ z. cond (i z) (become (n z) (m .standing) (m .past) m) (edit (n z) (f z) m) in
-      let refused : eqb k accepted ≡ false → Follows e bs m (refused k) = λ t. rw (d .refusal) (λ days numbers text c. (refl, kept (unmade (i l) k t) h)) in
-      let done : eqb k accepted ≡ true → (x : State) → Represents (steppedOf e .service) bs x → Follows e bs m (done x) =
-      λ t x r. rw (d .refusal ∙ eqb-true k accepted t) (λ days numbers text c. (refl, r)) in
-      rw (is m days ∙ sym (ap does (h .standing)))
-      (by-cases (Follows e bs m) (i l)
-      (λ y. by-cases (Follows e bs m) (eqb k accepted) (λ t. done t m (kept (rw y) h)) refused)
-      (λ y. by-cases (Follows e bs m) (eqb k accepted) (λ t. done t _ (made (rw (y, t)) h)) refused)))
-
--- ---- Take back
-
--- it is refused where there is no past
 no-past : (past : List (List Spell)) → eqb (takeBackRefusal past) accepted ≡ false → past ≡ []
 unfolding takeBackRefusal
 no-past [] t = refl
 no-past (l ∷ past) t = absurd (false≢true (sym t))
 
-back-changed : (sv : Service) (e : Edited) → TakesBack (sv .standing) e → Changed sv TakeBack (steppedOf e)
-unfolding effectOf takeBack settle takeBackRefusal frontOr restOf leavesOf
-back-changed sv e d = changed sv TakeBack e (d .wf) (d .whole) (λ t. d .kept (no-past (pasts (sv .standing)) (rw (d .refusal) at t))) (λ m bs days h.
-    subst (λ (past : List (List Spell)). Follows e bs m (takeBack past m)) (h .past)
-    (go m bs (pasts (sv .standing)) (h .past) h (d .refusal) (d .list) (d .past)))
-  where
-    go : (m : State) (bs : Blocks) (past : List (List Spell)) → past ≡ m .past → Represents sv bs m
-        → e .refusal ≡ takeBackRefusal past → listOf (e .standing) ≡ frontOr (listOf (sv .standing)) past → pasts (e .standing) ≡ restOf past
-        → Follows e bs m (takeBack past m)
-    go m bs [] p h r l b days numbers text c = (rw r, record { valid = record { standing = d .wf }; standing = l ∙ h .standing; past = b ∙ p; shows = h .shows })
-    go m bs (x ∷ past) p h r l b days numbers text c = (rw r, record { valid = record { standing = d .wf }; standing = l; past = b; shows = h .shows })
-
--- ---- Any call
-
--- what a call makes of the standing list is what it makes of the service
-pub changes : (sv : Service) (c : Call) (e : Edited) → Does (sv .standing) c e → Changes sv c (steppedOf e)
-unfolding effectOf leavesOf Does Changes
-changes sv (Enter s) e d = edit-changed sv (Enter s) e (λ _. false) (λ l. enterRefusal l s) (insert s) (entering s) refl (λ m ds. refl) d
-changes sv (Amend s) e d = edit-changed sv (Amend s) e (λ l. idle l s) (λ l. amendRefusal l s) (replace s) (replacing (s .number) (listOf (sv .standing))) refl (λ m ds. refl) d
-changes sv (Strike k) e d = edit-changed sv (Strike k) e (λ _. false) (λ l. strikeRefusal l k) (remove k) (replacing k (listOf (sv .standing))) refl (λ m ds. refl) d
-changes sv TakeBack e d = back-changed sv e d
-changes sv (Publish rule) e d = ap steppedOf d
-changes sv Write e d = ap steppedOf d
-changes sv (Ask w) e d = ap steppedOf d
+-- WHAT A CALL MAKES of the standing list, with what is told of it, is what it makes of the service
+pub changes : (sv : Service) (c : Call) (st′ : Standing) {n : ℕ} {o : Outcome} → Does (sv .standing) c (record { standing = st′; refusal = n }) → o ≡ toldOf n
+    → Changes sv c (record { service = serviceOf st′; outcome = o })
+unfolding effectOf leavesOf Does
+changes sv (Enter s) st′ d is = rw is (changed (d .wf) (d .whole) (edit-kept false d) (λ m bs q h. edit-follows false m bs q (rw (h .standing) at d) h))
+changes sv (Amend s) st′ d is = rw is (changed (d .wf) (d .whole) (edit-kept _ d) (λ m bs q h. edit-follows _ m bs q (rw (h .standing) at d) h))
+changes sv (Strike k) st′ d is = rw is (changed (d .wf) (d .whole) (edit-kept false d) (λ m bs q h. edit-follows false m bs q (rw (h .standing) at d) h))
+changes sv TakeBack st′ d is = rw is (changed (d .wf) (d .whole) (λ t. d .kept (no-past _ (rw (d .refusal) at t))) (λ m bs q h. back-follows m bs q d h))
+changes sv (Publish rule) st′ d is = rw is (ap steppedOf d)
+changes sv Write st′ d is = rw is (ap steppedOf d)
+changes sv (Ask w) st′ d is = rw is (ap steppedOf d)

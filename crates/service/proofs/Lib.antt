@@ -2,7 +2,6 @@ pub mod Names
 pub mod Represented
 pub mod Asking
 pub mod Editing
-pub mod Stepping
 pub mod Beginning
 pub mod Claims
 pub mod Tied

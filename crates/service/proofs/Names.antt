@@ -6,8 +6,8 @@ pub use Rattle.published_index.specs.Index.{Published, indexOf}
 pub use Rattle.refusal.specs.Table.{accepted}
 pub use Rattle.register.specs.Text.{Register, bad, good, writeAll}
 unfoldable pub use Rattle.register.specs.Text.{readText}
-pub use Rattle.service.specs.{History.{Made, Steps, none, then}, Places.{freshService, leaves, serviceOf}, Service.{Begins, Blocks, Changed, Given, Met, Publishes, Represents, Valid, Wrote, blocks, keeping}, declared.Service.Service, declared.Started.Started, declared.Stepped.Stepped}
-unfoldable pub use Rattle.service.specs.{Places.leavesOf, Service.Changes}
+pub use Rattle.service.specs.{History.{Made, Steps, none, then}, Places.{freshService, leaves, serviceOf}, Service.{Begins, Blocks, Changed, Changes, Given, Met, Publishes, Represents, Valid, Wrote, blocks, keeping}, declared.Service.Service, declared.Started.Started, declared.Stepped.Stepped}
+unfoldable pub use Rattle.service.specs.Places.{leavesOf}
 pub use Rattle.spell.specs.declared.Spell.{Spell}
 pub use Rattle.standing.specs.{Places.{entering, loadedOf, replacing}, Standing.{Edits, Fresh, TakesBack, Wf, afterEdit, listOf, makes, pasts}}
 unfoldable pub use Rattle.standing.specs.Standing.{Does}

@@ -65,7 +65,7 @@ pub record Changed (sv : Service) (c : Call) (r : Stepped) : Type 0 where
   pub met : (bs : Blocks) (days numbers text : List ℕ) → Given sv bs → Met sv bs (asking c days numbers text) r bs numbers text
 
 -- and of any call that is given to `edit`: one that is neither leaves the service as it was, and 0 is told
-unfoldable pub Changes : Service → Call → Stepped → Type 0
+abbrev pub Changes : Service → Call → Stepped → Type 0
 Changes sv (Enter s) r = Changed sv (Enter s) r
 Changes sv (Amend s) r = Changed sv (Amend s) r
 Changes sv (Strike k) r = Changed sv (Strike k) r

@@ -94,7 +94,8 @@ pub fn publish(service: Service, rule: u16, index: &mut [u16; INDEX]) -> Stepped
     requires { ⌜ Valid service ⌝ }
     ensures { λ r. ⌜ Publishes service rule (blocks (now (index .entry))) r (blocks (now (index .exit))) ⌝ }
 {
-    answered(service, published(service, rule, index))
+    let outcome = published(service, rule, index);
+    Stepped { service, outcome }
 }
 
 // The text of the standing list, into the first places of the lent list.
@@ -106,13 +107,6 @@ pub fn write(service: Service, text: &mut [u8]) -> Outcome
 }
 
 // ---- Any call
-
-// A call that leaves the service as it was.
-fn answered(service: Service, outcome: Outcome) -> Stepped
-    ensures { λ r. ⌜ r ≡ keeping service outcome ⌝ }
-{
-    Stepped { service, outcome }
-}
 
 // What a call does beside its edit, which gave the outcome o: a publish, a writing or a question answers by itself.
 fn beside(

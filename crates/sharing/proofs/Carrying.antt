@@ -1,120 +1,122 @@
 -- A request carried out on the service of a host's words is carried out on the words. Assumes nothing.
-use Rattle.basis.proofs.Prelude.{_∙_, _≡_, ap, refl, sym, _<_, _≤_, ℕ, List, Bool, cond, false, true, leb, length, arith, le-leb, lt-leb}
+use Rattle.basis.proofs.Prelude.{_∙_, _≡_, ap, refl, sym, _<_, _≤_, ℕ, _≢_, List, leb, length, arith, le-leb, leb-true, leb-false, by-test}
 use Rattle.model.specs.{Model.State, Journal.journal}
-use Rattle.requests.specs.{declared.Request.Request, Requests.{Demand, askedOf}}
-use Rattle.service.specs.{declared.Service.Service, Packed.unpacked, Service.{Blocks, Represents, Given}}
-use Rattle.conversations.{specs.{declared.{Answered.Answered, Wanted.Wanted, Looked.the-variants.{Done, Wants}}, Conversation.turnOf, Answering.{conv, roomOf, Answers, askedIn, Looks}}, proofs.Serving.{looked-served, carried-served}}
-use Rattle.phayaklit.specs.Host.{Laid}
-use Rattle.sharing.specs.{declared.Carried.Carried, Words.{wordOf, wordIn, powerOf, changedAt}, Carrying.{eventsOf, answeredOf, Carries, HeldBack, Requested}, Contracts.{CarriesOf, HeldOf, RequestedOf}}
-use Rattle.sharing.proofs.Words.{word-parsed, power-none, power-onlyReads, length-none, unkept, changed-journal}
+use Rattle.requests.specs.{declared.Request.Request, Requests.askedOf}
+use Rattle.service.specs.{declared.Service.Service, Packed.{unpacked, Packs}, Service.{Blocks, Represents, Given}}
+use Rattle.conversations.{specs.{declared.{Answered.Answered, Wanted.{Wanted, the-variants.{Call as WantedCall, Read as WantedRead}}, Looked.{Looked, the-variants.{Done, Wants}}}, Conversation.turnOf, Answering.{conv, roomOf, Answers, askedIn, Looks}}, proofs.Serving.{looked-served, carried-served}}
+use Rattle.hosting.proofs.Host.{laid}
+use Rattle.sharing.specs.{declared.Carried.Carried, Words.{wordOf, wordIn, powerOf, changedAt}, Carrying.{eventsOf, heldAt, Requested}, Contracts.{RequestedOf, wantedWord, Changing, EditsIn}}
+use Rattle.sharing.proofs.Words.{word-parsed, power-none, power-onlyReads, power-mid, length-none, unkept, changed-none, changed-journal}
 
--- ---- What leaves the service as it is
+pub wanted-word : (x : Wanted) (days : List ℕ) → wantedWord x ≡ wordOf (askedIn x days)
+wanted-word (WantedCall c k) days = refl
+wanted-word (WantedRead n) days = refl
 
--- the state after a request is the one before
-abbrev Stays : Service → Blocks → ℕ → Demand → List ℕ → Type 0
-Stays sv bs room q payload = (m : State) → Represents sv bs m → turnOf q payload (conv m room) .next .state ≡ m
+-- ---- What is wanted of the service of the words
 
--- then its service need not be taken from the answer
-pub unchanged : {sv : Service} {bs bs′ : Blocks} {room : ℕ} (q : Demand) {payload numbers text out numbers′ text′ out′ : List ℕ} {r : Answered}
-    → Stays sv bs room q payload → Given sv bs → Answers sv bs room q payload numbers text out r bs′ numbers′ text′ out′
-    → Answers sv bs room q payload numbers text out (record { service = sv; room = r .room; place = r .place }) bs′ numbers′ text′ out′
-unchanged q same g a =
-    let t = a .turned in
-    record {
-      turned = record {
-        given = record { valid = g .valid; published = t .given .published };
-        room = t .room;
-        taken = λ m rep. record {
-          sends = t .taken m rep .sends;
-          after = rw (same m rep) (record { valid = rep .valid; standing = rep .standing; past = rep .past; shows = rw (same m rep) at (t .taken m rep .after .shows) });
-          room = t .taken m rep .room;
+pub unpacked-given : (words : List ℕ) {sv : Service} {bs : Blocks} → sv ≡ unpacked words → Given (unpacked words) bs → Given sv bs
+unpacked-given words e g = rw e g
+
+module _ (x : Wanted) (words : List ℕ) {bs bs′ : Blocks} (room : ℕ) {word : ℕ} (power : ℕ) {changed : ℕ} {payload : List ℕ} (days : List ℕ) {numbers text out numbers′ text′ out′ : List ℕ}
+    {sv : Service} {a : Answered} (asked : sv ≡ unpacked words) (answers : Answers sv bs (roomOf room) (askedIn x days) payload numbers text out a bs′ numbers′ text′ out′)
+    (told : changed ≡ changedAt power out′ (a .place)) where
+  -- nothing was changed: the state is the one before, and the words stay
+  pub change-none : Given (unpacked words) bs → word ≡ wantedWord x → power ≡ powerOf word → changed ≡ 0
+      → Changing x word power words bs room payload days numbers text out (record { word = word; changed = changed; room = a .room; place = a .place }) words bs′ numbers′ text′ out′
+  change-none g w is none = let b = rw asked at answers in let t = b .turned in
+      let q = askedIn x days in let p : power ≡ powerOf (wordOf q) = is ∙ ap powerOf (w ∙ wanted-word x days) in
+      let same : (m : State) → Represents (unpacked words) bs m → turnOf q payload (conv m (roomOf room)) .next .state ≡ m = λ m rep. unkept m payload (roomOf room) q
+      (length-none (journal m (eventsOf q payload (roomOf room))) (sym (changed-journal m payload (roomOf room) q (t .taken m rep .sends)) ∙ rw (← p) (sym told ∙ none))) in record {
+        answers = record {
+          turned = record {
+            given = record { valid = g .valid; published = t .given .published };
+            room = t .room;
+            taken = λ m rep.
+                let k = t .taken m rep in let after = rw (same m rep) at (k .after) in record { sends = k .sends; after = rw (same m rep) search; room = k .room };
+          };
+          lists = b .lists;
         };
-      };
-      lists = a .lists;
-    }
+        laid = λ l. l;
+        kept = λ _. refl;
+        word = refl;
+        changed = told;
+      }
 
--- so it is where it is told that nothing was changed
-pub stays : {sv : Service} {bs bs′ : Blocks} {room : ℕ} (q : Demand) {payload numbers text out numbers′ text′ out′ : List ℕ} {r : Answered} (power : ℕ) → power ≡ powerOf (wordOf q)
-    → changedAt power out′ (r .place) ≡ 0 → Answers sv bs room q payload numbers text out r bs′ numbers′ text′ out′ → Stays sv bs room q payload
-stays {room = room} q {payload} {out′ = out′} {r = r} power is none a m rep =
-    let told = changed-journal m payload room q (a .turned .taken m rep .sends) in
-    unkept m payload room q (length-none (journal m (eventsOf q payload room)) (sym told ∙ ap (λ (k : ℕ). changedAt k out′ (r .place)) (sym is) ∙ none))
+  -- else the words are those of the service after it
+  pub change-packed : (words′ : List ℕ) → Packs (a .service) words′ → changed ≢ 0
+      → Changing x word power words bs room payload days numbers text out (record { word = word; changed = changed; room = a .room; place = a .place }) words′ bs′ numbers′ text′ out′
+  change-packed words′ p some = record {
+    answers = rw (p .back) (rw asked at answers);
+    laid = λ _. laid words′ (a .service) p;
+    kept = λ none. absurd (some (told ∙ sym (changed-none power out′ (a .place) none)));
+    word = refl;
+    changed = told;
+  }
 
--- ---- What is wanted of it
+-- ---- By whether its word does no more than is allowed
 
--- a word that leaves the state changes nothing
-pub unchanging : {power : ℕ} (out : List ℕ) (place : ℕ) → power ≡ 0 → changedAt power out place ≡ 0
-unfolding changedAt
-unchanging out place none = rw none
+module _ {x : Wanted} {word power : ℕ} {words : List ℕ} {bs : Blocks} {room allowed : ℕ} {payload days numbers text out : List ℕ} {r : Carried} where
+  pub changed-requested : {words′ : List ℕ} {bs′ : Blocks} {numbers′ text′ out′ : List ℕ} → word ≡ wantedWord x → power ≡ powerOf word → power ≤ allowed → Changing x word power words bs room payload days numbers text out r words′ bs′ numbers′ text′ out′
+      → RequestedOf x words bs room allowed payload days numbers text out r words′ bs′ numbers′ text′ out′
+  changed-requested w is h c = let p : power ≡ powerOf (wantedWord x) = is ∙ ap powerOf w in record { within = λ _. rw (← p, ← w) c; beyond = λ f. absurd (omega (arith, p)) }
 
-pub carries : (q : Demand) {words words′ : List ℕ} {bs bs′ : Blocks} {room : ℕ} {payload numbers text out numbers′ text′ out′ : List ℕ} {r : Carried} (power : ℕ)
-    → Answers (unpacked words) bs (roomOf room) q payload numbers text out (answeredOf words′ r) bs′ numbers′ text′ out′ → r .word ≡ wordOf q → power ≡ powerOf (wordOf q)
-    → r .changed ≡ changedAt power out′ (r .place) → (Laid words → Laid words′) → (power ≡ 0 → words′ ≡ words)
-    → CarriesOf q words bs room payload numbers text out r words′ bs′ numbers′ text′ out′
-carries q {room = room} {payload} {out′ = out′} {r = r} power a w is c l same = record {
-  answers = a;
-  word = w;
-  changed = λ m rep. c ∙ ap (λ (k : ℕ). changedAt k out′ (r .place)) is ∙ changed-journal m payload (roomOf room) q (a .turned .taken m rep .sends);
-  laid = l;
-  kept = λ none. same (is ∙ none);
-}
+  -- an edit's word may change the state
+  pub edits-requested : {words′ out′ : List ℕ} → word ≡ wantedWord x → power ≡ powerOf word → power ≤ allowed → 16 ≤ word → word < 20 → Given (unpacked words) bs → EditsIn x word words room numbers text out r words′ out′
+      → RequestedOf x words bs room allowed payload days numbers text out r words′ bs numbers text out′
+  edits-requested w is h low high g e =
+      let p : power ≡ powerOf (wantedWord x) = is ∙ ap powerOf w in let one : powerOf (wantedWord x) ≡ 1 = sym p ∙ is ∙ sym (power-mid word low (omega arith)) in
+      record { within = λ _. rw (one, ← w) (e .edits bs payload days g); beyond = λ f. absurd (omega (arith, p)) }
 
-module _ (q : Demand) {words words′ : List ℕ} {bs bs′ : Blocks} {room allowed : ℕ} (payload : List ℕ) {numbers text out numbers′ text′ out′ : List ℕ} {r : Carried}
-    {power : ℕ} (is : power ≡ powerOf (wordOf q)) where
-  pub within-allowed : power ≤ allowed → CarriesOf q words bs room payload numbers text out r words′ bs′ numbers′ text′ out′
-      → RequestedOf q words bs room allowed payload numbers text out r words′ bs′ numbers′ text′ out′
-  within-allowed h c = rw (le-leb (powerOf (wordOf q)) allowed (omega (arith, h, is))) c
-
-  pub beyond-allowed : allowed < power → HeldOf q words bs room numbers text out r words′ bs′ numbers′ text′ out′
-      → RequestedOf q words bs room allowed payload numbers text out r words′ bs′ numbers′ text′ out′
-  beyond-allowed h c = rw (lt-leb (powerOf (wordOf q)) allowed (omega (arith, h, is))) c
+  pub held-requested : word ≡ wantedWord x → power ≡ powerOf word → allowed < power → r ≡ heldAt word room → RequestedOf x words bs room allowed payload days numbers text out r words bs numbers text out
+  held-requested w is h told = let p : power ≡ powerOf (wantedWord x) = is ∙ ap powerOf w in record {
+    within = λ f. absurd (omega (arith, p));
+    beyond = λ _. record {
+      told = told ∙ ap (λ k. heldAt k room) w;
+      words-kept = refl;
+      blocks-kept = refl;
+      numbers-kept = refl;
+      text-kept = refl;
+      out-kept = refl;
+    };
+  }
 
 -- ---- A request's line
 
 -- what a look answers is carried out
-pub done-requested : (words : List ℕ) {bs : Blocks} {room : ℕ} (allowed : ℕ) (line payload days : List ℕ) {numbers text out days′ numbers′ out′ : List ℕ} {q : Request} {later place word : ℕ}
-    → Given (unpacked words) bs → Looks bs room line days numbers text out (Done q later place) days′ numbers′ out′ → word ≡ wordIn q
+pub done-requested : (words : List ℕ) {bs : Blocks} {room : ℕ} (allowed : ℕ) (line payload days : List ℕ) {numbers text out days′ numbers′ out′ : List ℕ} {x : Looked} {q : Request} {later place word : ℕ}
+    → Looks bs room line days numbers text out x days′ numbers′ out′ → x ≡ Done q later place → Given (unpacked words) bs → word ≡ wordIn q
     → Requested words bs room allowed line payload days numbers text out (record { word = word; changed = 0; room = later; place = place }) words bs days′ numbers′ text out′
-done-requested words {room = room} allowed line payload days g l w =
-    let none : powerOf (wordOf (askedOf 32768 line)) ≡ 0 = power-onlyReads (askedOf 32768 line) (l .at .1) in
+done-requested words {room = room} allowed line payload days l e g w =
+    let d = rw e at l in let none : powerOf (wordOf (askedOf 32768 line)) ≡ 0 = power-onlyReads (askedOf 32768 line) (d .at .1) in
     rw (le-leb (powerOf (wordOf (askedOf 32768 line))) allowed (omega (arith, none))) (record {
-      served = looked-served payload l (unpacked words) g;
-      word = w ∙ ap wordIn (l .at .0) ∙ word-parsed (askedOf 32768 line);
+      served = looked-served payload d (unpacked words) g;
+      word = w ∙ ap wordIn (d .at .0) ∙ word-parsed (askedOf 32768 line);
       changed = λ m rep. ap length (sym (power-none m payload (roomOf room) (askedOf 32768 line) none));
       laid = λ h. h;
       kept = λ _. refl;
     })
 
 -- and what is wanted after it
-module _ {bs : Blocks} {room : ℕ} {line days numbers text out days′ seen put : List ℕ} {w : Wanted} (l : Looks bs room line days numbers text out (Wants w) days′ seen put)
-    (words payload : List ℕ) (r : Carried) (words′ : List ℕ) (bs′ : Blocks) (numbers′ text′ out′ : List ℕ) where
-  carries-line : CarriesOf (askedIn w days′) words bs room payload seen text put r words′ bs′ numbers′ text′ out′
-      → Carries words bs room line payload days numbers text out r words′ bs′ days′ numbers′ text′ out′
-  carries-line c = record {
-    served = carried-served payload l (c .answers);
-    word = rw (l .at .0) (c .word);
-    changed = rw (l .at .0) (c .changed);
-    laid = c .laid;
-    kept = rw (l .at .0) (c .kept);
-  }
-
-  held-line : HeldOf (askedIn w days′) words bs room seen text put r words′ bs′ numbers′ text′ out′
-      → HeldBack words bs room line days numbers text out r words′ bs′ days′ numbers′ text′ out′
-  held-line h = record {
-    told = rw (l .at .0) (h .told);
-    words-kept = h .words-kept;
-    blocks-kept = h .blocks-kept;
-    days-kept = l .kept;
-    numbers-kept = h .numbers-kept ∙ l .at .1;
-    text-kept = h .text-kept;
-    out-kept = h .out-kept ∙ l .at .2;
-  }
-
-  pub wanted-requested : (allowed : ℕ) → RequestedOf (askedIn w days′) words bs room allowed payload seen text put r words′ bs′ numbers′ text′ out′
-      → Requested words bs room allowed line payload days numbers text out r words′ bs′ days′ numbers′ text′ out′
-  wanted-requested allowed c = go (leb (powerOf (wordOf (askedOf 32768 line))) allowed) (rw (← l .at .0) at c)
-    where
-      go : (b : Bool) → cond b (CarriesOf (askedOf 32768 line) words bs room payload seen text put r words′ bs′ numbers′ text′ out′) (HeldOf (askedOf 32768 line) words bs room seen text put r words′ bs′ numbers′ text′ out′)
-          → cond b (Carries words bs room line payload days numbers text out r words′ bs′ days′ numbers′ text′ out′) (HeldBack words bs room line days numbers text out r words′ bs′ days′ numbers′ text′ out′)
-      go true x = carries-line (rw (l .at .0) at x)
-      go false x = held-line (rw (l .at .0) at x)
+pub wanted-requested : (words : List ℕ) {words′ : List ℕ} {bs bs′ : Blocks} {room : ℕ} (allowed : ℕ) (line payload : List ℕ) {days numbers text out days′ seen put numbers′ text′ out′ : List ℕ} {x : Looked} {w : Wanted} {r : Carried}
+    → Looks bs room line days numbers text out x days′ seen put → x ≡ Wants w → RequestedOf w words bs room allowed payload days′ seen text put r words′ bs′ numbers′ text′ out′
+    → Requested words bs room allowed line payload days numbers text out r words′ bs′ days′ numbers′ text′ out′
+wanted-requested words {room = room} allowed line payload {days′ = days′} {w = w} e is c =
+    let l = rw is at e in
+    let word : wantedWord w ≡ wordOf (askedOf 32768 line) = wanted-word w days′ ∙ ap wordOf (sym (l .at .0)) in
+    let power : powerOf (wantedWord w) ≡ powerOf (wordOf (askedOf 32768 line)) = ap powerOf word in by-test (leb (powerOf (wordOf (askedOf 32768 line))) allowed)
+    (λ t. let k = c .within (omega (arith, leb-true)) in let s = carried-served payload l (k .answers) in rw t (record {
+      served = s;
+      word = k .word ∙ word;
+      changed = λ m rep. k .changed ∙ rw power (changed-journal m payload (roomOf room) (askedOf 32768 line) (s .answers .turned .taken m rep .sends));
+      laid = k .laid;
+      kept = λ none. k .kept (power ∙ none);
+    }))
+    (λ t. let k = c .beyond (omega (arith, leb-false)) in rw t (record {
+      told = rw (← word) (k .told);
+      words-kept = k .words-kept;
+      blocks-kept = k .blocks-kept;
+      days-kept = l .kept;
+      numbers-kept = k .numbers-kept ∙ l .at .1;
+      text-kept = k .text-kept;
+      out-kept = k .out-kept ∙ l .at .2;
+    }))

@@ -6,7 +6,7 @@ use Rattle.requests.specs.Requests.{askedOf}
 use Rattle.service.{specs.{Packed.unpacked, Service.{Blocks, Represents}}, proofs.Represented.represented}
 use Rattle.conversations.specs.Answering.{roomOf}
 use Rattle.replies.proofs.Sending.{sends-bytes}
-use Rattle.phayaklit.specs.History.{Opens}
+use Rattle.hosting.specs.History.{Opens}
 use Rattle.sharing.specs.{declared.Carried.Carried, Carrying.Carries, History.{Posted, eventsIn, allEvents, replies, Shared, none, carried, held}}
 use Rattle.sharing.proofs.Words.{turn-left}
 
@@ -21,36 +21,32 @@ carried-after : {words words′ : List ℕ} {bs bs′ : Blocks} {m : State} (p :
     → Represents (unpacked words′) bs′ (left m (eventsIn p))
 carried-after {m = m} p s c = rw (← turn-left m (p .payload) (roomOf (p .room)) (askedOf 32768 (p .line))) (c .served .answers .turned .taken m s .after)
 
--- THE ANSWERS are the account's, whichever conversation each request belongs to
-pub shared-replies : {words words′ : List ℕ} {bs bs′ : Blocks} {ps : List Posted} {rs : List (List ℕ)} (m : State) → Represents (unpacked words) bs m
-    → Shared words bs ps rs words′ bs′ → rs ≡ replies m ps
-unfolding replies
-shared-replies m s none = refl
-shared-replies m s (carried {p = p} allowed r days numbers text out words′ bs′ days′ numbers′ text′ out′ within met more) =
+-- what requests are answered, and what words and blocks they leave
+shared-led : {words words′ : List ℕ} {bs bs′ : Blocks} {ps : List Posted} {rs : List (List ℕ)} (m : State) → Represents (unpacked words) bs m
+    → Shared words bs ps rs words′ bs′ → (rs ≡ replies m ps) × Represents (unpacked words′) bs′ (left m (allEvents ps))
+unfolding replies allEvents left
+shared-led m s none = (refl, s)
+shared-led m s (carried {p = p} {ps} allowed r days numbers text out words′ bs′ days′ numbers′ text′ out′ within met more) =
     let c = rw within at (met (represented s)) in
-    rw (sends-bytes (c .served .answers .turned .taken m s .sends), shared-replies (left m (eventsIn p)) (carried-after p s c) more)
-shared-replies {bs = bs} m s (held p allowed r days numbers text out words′ bs′ days′ numbers′ text′ out′ beyond met more) =
+    let led = shared-led (left m (eventsIn p)) (carried-after p s c) more in
+    (rw (sends-bytes (c .served .answers .turned .taken m s .sends), led .0), rw (left-append m (eventsIn p) (allEvents ps)) (led .1))
+shared-led m s (held p allowed r days numbers text out words′ bs′ days′ numbers′ text′ out′ beyond met more) =
     let h = rw beyond at (met (represented s)) in
-    shared-replies m (rw (h .words-kept, h .blocks-kept) s) more
+    shared-led m (rw (h .words-kept, h .blocks-kept) s) more
 
--- THE WORDS AND BLOCKS AFTER THEM stand for the state after their events
-pub shared-after : {words words′ : List ℕ} {bs bs′ : Blocks} {ps : List Posted} {rs : List (List ℕ)} (m : State) → Represents (unpacked words) bs m
-    → Shared words bs ps rs words′ bs′ → Represents (unpacked words′) bs′ (left m (allEvents ps))
-unfolding allEvents left
-shared-after m s none = s
-shared-after m s (carried {p = p} {ps} allowed r days numbers text out words′ bs′ days′ numbers′ text′ out′ within met more) =
-    let c = rw within at (met (represented s)) in
-    rw (left-append m (eventsIn p) (allEvents ps)) (shared-after (left m (eventsIn p)) (carried-after p s c) more)
-shared-after m s (held p allowed r days numbers text out words′ bs′ days′ numbers′ text′ out′ beyond met more) =
-    let h = rw beyond at (met (represented s)) in
-    shared-after m (rw (h .words-kept, h .blocks-kept) s) more
+module _ {words words′ : List ℕ} {bs bs′ : Blocks} {ps : List Posted} {rs : List (List ℕ)} (m : State) where
+  -- THE ANSWERS are the account's, whichever conversation each request belongs to
+  pub shared-replies : Represents (unpacked words) bs m → Shared words bs ps rs words′ bs′ → rs ≡ replies m ps
+  shared-replies s c = shared-led m s c .0
 
--- A JOURNAL of those that changed the state suffices: it leads to the state for which the words and blocks stand
-pub shared-journal : {words words′ : List ℕ} {bs bs′ : Blocks} {ps : List Posted} {rs : List (List ℕ)} (m : State) → Represents (unpacked words) bs m
-    → Shared words bs ps rs words′ bs′ → Represents (unpacked words′) bs′ (left m (journal m (allEvents ps)))
-shared-journal {ps = ps} m s c = rw (journal-left m (allEvents ps)) (shared-after m s c)
+  -- THE WORDS AND BLOCKS AFTER THEM stand for the state after their events
+  pub shared-after : Represents (unpacked words) bs m → Shared words bs ps rs words′ bs′ → Represents (unpacked words′) bs′ (left m (allEvents ps))
+  shared-after s c = shared-led m s c .1
 
--- BEGUN BY `phayaklit_fresh` OR `phayaklit_read`: what they ensure of the words and the blocks is enough
-pub shared-opened : {words words′ : List ℕ} {bs bs′ : Blocks} {ps : List Posted} {rs : List (List ℕ)} (m : State) → Opens words bs m
-    → Shared words bs ps rs words′ bs′ → rs ≡ replies m ps
-shared-opened m o c = shared-replies m (o .0) c
+  -- A JOURNAL of those that changed the state suffices: it leads to the state for which the words and blocks stand
+  pub shared-journal : Represents (unpacked words) bs m → Shared words bs ps rs words′ bs′ → Represents (unpacked words′) bs′ (left m (journal m (allEvents ps)))
+  shared-journal s c = rw (journal-left m (allEvents ps)) (shared-after s c)
+
+  -- BEGUN BY `phayaklit_fresh` OR `phayaklit_read`: what they ensure of the words and the blocks is enough
+  pub shared-opened : Opens words bs m → Shared words bs ps rs words′ bs′ → rs ≡ replies m ps
+  shared-opened o c = shared-replies (o .0) c

@@ -1,13 +1,12 @@
 -- What a request's word may do is what its event does. Assumes nothing.
-use Rattle.basis.proofs.Prelude.{_∙_, _≡_, ap, refl, sym, _+_, _-_, ℕ, List, [], _∷_, Bool, _&&_, cond, false, false≢true, not, true, eqb, ltb, getD, length, length-append, take, getD-at, length-take-le, arith, le-ltb, lt-ltb, ne-eqb}
+use Rattle.basis.proofs.Prelude.{_∙_, _≡_, ap, refl, sym, _-_, _<_, _≤_, ℕ, _≢_, List, [], _∷_, Bool, cond, false, false≢true, true, eqb, ltb, getD, length, length-append, take, getD-at, length-take-le, arith, le-ltb, lt-ltb, ne-eqb, by-test}
 use Rattle.refusal.specs.Table.{accepted}
 use Rattle.fields.specs.Fields.{isAt}
-use Rattle.model.{specs.{declared.{Call.{Call, the-variants.{Enter, Amend, Strike, TakeBack, Publish, Write, Ask}}, Question.Question}, Model.{State, Answer, step}, Journal.{reads, call, left, journal}}, proofs.Journal.journal-left}
-use Rattle.coding.specs.Coded.{questionNumber}
+use Rattle.model.{specs.{declared.{Call.{Call, the-variants.{Enter, Amend, Strike, TakeBack, Publish, Write, Ask}}}, Model.{State, Answer, step}, Journal.{reads, call, left, journal}}, proofs.Journal.journal-left}
 use Rattle.requests.specs.{Requests.{Demand, asksCall, asksRoom, asksRead, malformed}, Parsing.requestOf}
 use Rattle.replies.specs.{Replies.{okText, refusedText, shapeOf, shapeText, callText}, Sending.Sends}
 use Rattle.conversations.specs.{Conversation.{turnOf, callOf}, Answering.{conv, onlyReads}}
-use Rattle.sharing.specs.{Words.{questionWord, callWord, wordOf, wordIn, powerOf, changedAt}, Carrying.eventsOf}
+use Rattle.sharing.specs.{Words.{callWord, wordOf, wordIn, powerOf, changedAt}, Carrying.eventsOf}
 
 -- the word of the program's form of what is asked
 pub word-parsed : (q : Demand) → wordIn (requestOf q) ≡ wordOf q
@@ -16,50 +15,54 @@ word-parsed (asksRoom n) = refl
 word-parsed (asksRead n) = refl
 word-parsed malformed = refl
 
+-- ---- What a word may do, as the code tests it
+
+pub power-read : (w : ℕ) → w ≡ 2 → 2 ≡ powerOf w
+power-read w e = unfold powerOf in rw e
+
+pub power-low : (w : ℕ) → w ≢ 2 → w < 16 → 0 ≡ powerOf w
+power-low w other low = unfold powerOf in rw (ne-eqb w 2 other, lt-ltb w 16 low)
+
+pub power-mid : (w : ℕ) → 16 ≤ w → w < 32 → 1 ≡ powerOf w
+power-mid w low high = unfold powerOf in rw (ne-eqb w 2 (λ e. omega (arith, e)), le-ltb w 16 low, lt-ltb w 32 high)
+
+pub power-high : (w : ℕ) → 32 ≤ w → 0 ≡ powerOf w
+power-high w high = unfold powerOf in rw (ne-eqb w 2 (λ e. omega (arith, e)), le-ltb w 16 (omega arith), le-ltb w 32 high)
+
+-- and whether it did, by the first byte of the answer
+module _ (p : ℕ) (out : List ℕ) (place : ℕ) where
+  pub changed-none : p ≡ 0 → 0 ≡ changedAt p out place
+  changed-none e = unfold changedAt in rw e
+
+  pub changed-read : p ≡ 2 → 1 ≡ changedAt p out place
+  changed-read e = unfold changedAt in rw e
+
+  pub changed-yes : {b : Bool} → p ≢ 0 → p ≢ 2 → b ≡ isAt out place 111 → b ≡ true → 1 ≡ changedAt p out place
+  changed-yes f g e t = unfold changedAt in rw (ne-eqb p 0 f, ne-eqb p 2 g, sym e ∙ t)
+
+  pub changed-no : {b : Bool} → p ≢ 0 → p ≢ 2 → b ≡ isAt out place 111 → b ≡ false → 0 ≡ changedAt p out place
+  changed-no f g e t = unfold changedAt in rw (ne-eqb p 0 f, ne-eqb p 2 g, sym e ∙ t)
+
 -- ---- Calls
 
--- a question's is 32 or more, and leaves the state
-question-power : (w : Question) → powerOf (questionWord w) ≡ 0
-unfolding powerOf questionWord
-question-power w =
-    let n = 32 + questionNumber w in
-    rw (ne-eqb n 2 (λ e. omega (arith, e)), le-ltb n 16 (omega arith), le-ltb n 32 (omega arith))
+-- a call's word changes the state unless the call only reads; one that does not, accepted, is answered `ok`
+call-acts : (c : Call) → (powerOf (callWord c) ≡ cond (reads c) 0 1) × ((a : Answer) → reads c ≡ false → shapeText (shapeOf c) a ≡ okText)
+unfolding powerOf shapeText
+call-acts (Enter s) = (refl, λ a e. refl)
+call-acts (Amend s) = (refl, λ a e. refl)
+call-acts (Strike k) = (refl, λ a e. refl)
+call-acts TakeBack = (refl, λ a e. refl)
+call-acts (Publish rule) = (refl, λ a e. refl)
+call-acts Write = (refl, λ a e. absurd (false≢true (sym e)))
+call-acts (Ask w) = (sym (power-high (callWord (Ask w)) (omega arith)), λ a e. absurd (false≢true (sym e)))
 
--- a call's word changes the state unless the call only reads
-call-power : (c : Call) → powerOf (callWord c) ≡ cond (reads c) 0 1
-unfolding powerOf
-call-power (Enter s) = refl
-call-power (Amend s) = refl
-call-power (Strike k) = refl
-call-power TakeBack = refl
-call-power (Publish rule) = refl
-call-power Write = refl
-call-power (Ask w) = question-power w
-
-power-reads : (c : Call) → reads c ≡ true → powerOf (callWord c) ≡ 0
-power-reads c e = call-power c ∙ ap (λ (b : Bool). cond b 0 1) e
-
-power-changes : (c : Call) → reads c ≡ false → powerOf (callWord c) ≡ 1
-power-changes c e = call-power c ∙ ap (λ (b : Bool). cond b 0 1) e
-
--- and so a request's that does
+-- a request's that only reads leaves it
 pub power-onlyReads : (q : Demand) → onlyReads q ≡ true → powerOf (wordOf q) ≡ 0
 unfolding powerOf
-power-onlyReads (asksCall c ds) e = power-reads c e
+power-onlyReads (asksCall c ds) e = call-acts c .0 ∙ rw e
 power-onlyReads (asksRoom n) e = refl
 power-onlyReads (asksRead n) e = absurd (false≢true e)
 power-onlyReads malformed e = refl
-
--- an accepted one that does not is answered `ok`
-accepted-ok : (c : Call) (a : Answer) → reads c ≡ false → shapeText (shapeOf c) a ≡ okText
-unfolding shapeText
-accepted-ok (Enter s) a e = refl
-accepted-ok (Amend s) a e = refl
-accepted-ok (Strike k) a e = refl
-accepted-ok TakeBack a e = refl
-accepted-ok (Publish rule) a e = refl
-accepted-ok Write a e = absurd (false≢true (sym e))
-accepted-ok (Ask w) a e = absurd (false≢true (sym e))
 
 -- ---- Requests
 
@@ -79,19 +82,14 @@ module _ (m : State) (payload : List ℕ) (room : ℕ) where
   -- a journal keeps nothing of one whose word leaves the state
   pub power-none : (q : Demand) → powerOf (wordOf q) ≡ 0 → journal m (eventsOf q payload room) ≡ []
   unfolding journal powerOf
-  power-none (asksCall c ds) none = go (reads c) refl
-    where
-      go : (b : Bool) → reads c ≡ b → cond (not b && eqb (step m (callOf c ds room) .answer .refusal) accepted) (call (callOf c ds room) ∷ []) [] ≡ []
-      go true e = refl
-      go false e = absurd (omega (arith, none, power-changes c e))
+  power-none (asksCall c ds) none = by-test (reads c) (λ e. rw e) (λ e. let one : powerOf (callWord c) ≡ 1 = call-acts c .0 ∙ rw e in absurd (omega (arith, none)))
   power-none (asksRoom n) none = refl
   power-none (asksRead n) none = absurd (omega (arith, none))
   power-none malformed none = refl
 
   -- of which a journal keeps nothing, the state is as it was
   pub unkept : (q : Demand) → journal m (eventsOf q payload room) ≡ [] → turnOf q payload (conv m room) .next .state ≡ m
-  unfolding left
-  unkept q none = turn-left q ∙ sym (journal-left m (eventsOf q payload room)) ∙ ap (left m) none
+  unkept q none = unfold left in turn-left q ∙ sym (journal-left m (eventsOf q payload room)) ∙ ap (left m) none
 
 -- ---- The first byte of an answer
 
@@ -103,27 +101,19 @@ first-byte {out} {out′} {t} {place} b x s =
     let byte : getD out′ place 0 ≡ b = rw (s .places) (getD-at before b t 0 place sized) in
     rw (inside, byte)
 
-byte-changed : (p : ℕ) (out : List ℕ) (place : ℕ) (b : Bool) → p ≡ 1 → isAt out place 111 ≡ b → changedAt p out place ≡ cond b 1 0
-unfolding changedAt
-byte-changed p out place b one e = rw (one, e)
-
 -- WHETHER IT CHANGED THE STATE, by its first byte, is whether a journal keeps it
 module _ (m : State) (payload : List ℕ) (room : ℕ) {out out′ : List ℕ} {place : ℕ} where
   changed-call : (c : Call) (ds : List ℕ) → reads c ≡ false → Sends (callText c (step m (callOf c ds room) .answer)) out place out′
-      → (b : Bool) → eqb (step m (callOf c ds room) .answer .refusal) accepted ≡ b → isAt out′ place 111 ≡ b
-  unfolding callText refusedText
-  changed-call c ds e s true f = first-byte 111 111 (rw (f, accepted-ok c (step m (callOf c ds room) .answer) e) at s)
-  changed-call c ds e s false f = first-byte 114 111 (rw f at s)
+      → isAt out′ place 111 ≡ eqb (step m (callOf c ds room) .answer .refusal) accepted
+  changed-call c ds e s = unfold callText refusedText in by-test (eqb (step m (callOf c ds room) .answer .refusal) accepted)
+      (λ f. first-byte 111 111 (rw (f, call-acts c .1 (step m (callOf c ds room) .answer) e) at s) ∙ sym f)
+      (λ f. first-byte 114 111 (rw f at s) ∙ sym f)
 
   pub changed-journal : (q : Demand) → Sends (turnOf q payload (conv m room) .reply) out place out′ → changedAt (powerOf (wordOf q)) out′ place ≡ length (journal m (eventsOf q payload room))
   unfolding turnOf journal changedAt powerOf
-  changed-journal (asksCall c ds) s = go (reads c) refl (eqb (step m (callOf c ds room) .answer .refusal) accepted) refl
-    where
-      go : (b : Bool) → reads c ≡ b → (a : Bool) → eqb (step m (callOf c ds room) .answer .refusal) accepted ≡ a
-          → changedAt (powerOf (callWord c)) out′ place ≡ length (cond (not b && a) (call (callOf c ds room) ∷ []) [])
-      go true e a f = rw (power-reads c e)
-      go false e true f = byte-changed (powerOf (callWord c)) out′ place true (power-changes c e) (changed-call c ds e s true f)
-      go false e false f = byte-changed (powerOf (callWord c)) out′ place false (power-changes c e) (changed-call c ds e s false f)
+  changed-journal (asksCall c ds) s = by-test (reads c)
+      (λ e. rw (call-acts c .0, e))
+      (λ e. rw (call-acts c .0, e, changed-call c ds e s) (by-test (eqb (step m (callOf c ds room) .answer .refusal) accepted) (λ f. rw f) (λ f. rw f)))
   changed-journal (asksRoom n) s = refl
   changed-journal (asksRead n) s = refl
   changed-journal malformed s = refl

@@ -14,7 +14,7 @@ use Rattle.service.specs.Service.{Blocks, Represents}
 use Rattle.conversations.specs.declared.Answered.{Answered}
 use Rattle.conversations.specs.Conversation.{callOf, registerOf}
 use Rattle.conversations.specs.Answering.{roomOf, Served}
-use Rattle.phayaklit.specs.Host.{Laid}
+use Rattle.hosting.specs.Host.{Laid}
 use Rattle.sharing.specs.declared.Carried.{Carried}
 use Rattle.sharing.specs.Words.{wordOf, powerOf}
 

@@ -13,7 +13,7 @@ use Rattle.requests.specs.declared.Request.{Request}
 use Rattle.requests.specs.declared.Request.the-variants.{Call as RequestCall, Room as RequestRoom, Read as RequestRead, Malformed as RequestMalformed}
 
 -- questions follow `write`, in the order of their numbers among the questions
-unfoldable pub questionWord : Question → ℕ
+abbrev pub questionWord : Question → ℕ
 questionWord w = 32 + questionNumber w
 
 abbrev pub callWord : Call → ℕ

@@ -3,4 +3,4 @@ use Rattle.basis.proofs.Prelude.{needs}
 use Rattle.service.proofs.{Editing.changes, edit.{Statement.statement, Tie.close, Tie.spec}}
 
 pub edit-spec : {M : Type 1} → statement M
-edit-spec = close (spec (λ c κs. search needs) (λ c κs. search needs) (λ c. rw (c .told .ensures) (changes _ _ _ (c .before .before .edit .ensures))))
+edit-spec = close (spec (λ c κs. search needs) (λ c κs. search needs) (λ c. search changes))

@@ -3,5 +3,4 @@ use Rattle.basis.proofs.Prelude.{needs}
 use Rattle.service.proofs.{Beginning.begins-read, read.{Statement.statement, Tie.close, Tie.spec}}
 
 pub read-spec : {M : Type 1} → statement M
-read-spec = close (spec (λ c κs. search needs) (λ c κs. search needs) (λ c κs. search needs)
-    (λ c. let got = c .before in begins-read _ (got .read .ensures) (c .loaded .ensures) (got .before .fresh .ensures)))
+read-spec = close (spec (λ c κs. search needs) (λ c κs. search needs) (λ c κs. search needs) (λ c. search begins-read))

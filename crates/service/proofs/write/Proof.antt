@@ -3,5 +3,4 @@ use Rattle.basis.proofs.Prelude.{needs}
 use Rattle.service.proofs.{Beginning.wrote, write.{Statement.statement, Tie.close, Tie.spec}}
 
 pub write-spec : {M : Type 1} → statement M
-write-spec = close (spec (λ c κs. search needs) (λ c κs. search needs) (λ c. search needs)
-    (λ c. rw (c .wrote .ensures) (wrote (c .before .before .before .write .ensures))))
+write-spec = close (spec (λ c κs. search needs) (λ c κs. search needs) (λ c. search needs) (λ c. search wrote))

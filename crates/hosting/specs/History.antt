@@ -10,8 +10,8 @@ use Rattle.outcomes.specs.Outcomes.{asking, answerOf}
 use Rattle.published_index.specs.Index.{Published}
 use Rattle.questions.specs.Asked.{Asked}
 use Rattle.service.specs.Service.{Blocks, Represents, Changed, Publishes, Wrote}
-use Rattle.phayaklit.specs.declared.Reply.{Reply}
-use Rattle.phayaklit.specs.Host.{Held, Laid, outcomeOf, steppedOf}
+use Rattle.hosting.specs.declared.Reply.{Reply}
+use Rattle.hosting.specs.Host.{Held, Laid, outcomeOf, steppedOf}
 
 -- The beginning: the words and the blocks stand for the state m, and every word is laid out. `phayaklit_fresh` and `phayaklit_read`
 -- leave them so, with the account's beginning for m.

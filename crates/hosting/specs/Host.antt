@@ -9,9 +9,9 @@ use Rattle.service.specs.Service.{Valid}
 use Rattle.outcomes.specs.declared.Outcome.{Outcome}
 use Rattle.service.specs.declared.Stepped.{Stepped}
 use Rattle.service.specs.declared.Started.{Started}
-use Rattle.phayaklit.specs.declared.Entry.{Entry}
-use Rattle.phayaklit.specs.declared.Reply.{Reply}
-use Rattle.phayaklit.specs.declared.Opened.{Opened}
+use Rattle.hosting.specs.declared.Entry.{Entry}
+use Rattle.hosting.specs.declared.Reply.{Reply}
+use Rattle.hosting.specs.declared.Opened.{Opened}
 
 -- the version of the exported functions and of the two blocks
 abbrev pub version : ℕ
