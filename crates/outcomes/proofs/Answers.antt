@@ -13,23 +13,19 @@ told o text = answerOf (foundOf (o .result)) (o .out) text
 module _ (m : State) (q : Request) where
   -- A REFUSAL, and no more
   pub refused-told : (n : ℕ) → answerOf (toldOf n) (q .numbers) (q .text) ≡ settle (refused n) m q .answer
-  unfolding settle
-  refused-told n = refl
+  refused-told n = unfold settle in refl
 
   -- ACCEPTED, and no more
   pub done-told : (m′ : State) → answerOf (toldOf accepted) (q .numbers) (q .text) ≡ settle (done m′) m q .answer
-  unfolding settle
-  done-told m′ = refl
+  done-told m′ = unfold settle in refl
 
   -- SPELL NUMBERS with their looks, or 11
   pub give-told : (ns : List ℕ) (c : ℕ) → told (rows.give ns c (q .numbers)) (q .text) ≡ settle (gives ns c 0) m q .answer
-  unfolding rows.give settle
-  give-told ns c = by-test (leb (length ns) (length (q .numbers))) (λ e. rw (e, rows.give)) (λ e. rw (e, rows.give))
+  give-told ns c = unfold rows.give settle in by-test (leb (length ns) (length (q .numbers))) (λ e. rw (e, rows.give)) (λ e. rw (e, rows.give))
 
   -- A TEXT, or 11
   pub write-told : (t : List ℕ) {w : Written} {exit : List ℕ} → Writes t (q .text) w exit → answerOf (wroteOf w) (q .numbers) exit ≡ settle (writes t) m q .answer
-  unfolding settle
-  write-told t d = rw (d .answer, d .places) (by-test (leb (length t) (length (q .text))) (λ e. rw e) (λ e. rw e))
+  write-told t d = unfold settle in rw (d .answer, d .places) (by-test (leb (length t) (length (q .text))) (λ e. rw e) (λ e. rw e))
 
 -- THE DAYS TICKED, where it is accepted
 pub ticking-told : (o : Outcome) (n : ℕ) (numbers text : List ℕ) → answerOf (tickingOf o n) numbers text ≡ ticking n (answerOf o numbers text)

@@ -1,5 +1,5 @@
 -- A list that is filled from the front, part after part. Assumes nothing.
-use Rattle.basis.proofs.Prelude.{_∙_, _≡_, sym, _+_, _≤_, ℕ, List, [], _++_, append-assoc, drop, length, length-append, length-drop, take, take-append-drop, drop-at, drop-drop, length-take-le, take-at, add-assoc, arith}
+use Rattle.basis.proofs.Prelude.{_∙_, _≡_, sym, _+_, _-_, _≤_, ℕ, List, [], _++_, append-assoc, drop, length, length-append, length-drop, take, take-append-drop, drop-at, drop-drop, length-take-le, take-at, add-assoc, arith}
 use Rattle.buffer.specs.Buffer.{over}
 
 -- l as it is up to the place at, and new in its places from there on: the whole is all over what the list was, l₀
@@ -11,30 +11,31 @@ pub upto-done : (l₀ l all : List ℕ) (at : ℕ) → PutUpTo l₀ l at [] all 
 upto-done l₀ l all at e = sym (take-append-drop at l) ∙ e
 
 -- a turn puts the part u into the m places at k
-module _ (l l′ u : List ℕ) (k m : ℕ) (room : k + m ≤ length l) (long : length u ≡ m) (put : l′ ≡ (take k l ++ u) ++ drop (k + m) l) where
+pub record Part (l u : List ℕ) (k m : ℕ) (l′ : List ℕ) : Type 0 where
+  pub room : k + m ≤ length l
+  pub long : length u ≡ m
+  pub put : l′ ≡ (take k l ++ u) ++ drop (k + m) l
+
+module _ {l u : List ℕ} {k m : ℕ} {l′ : List ℕ} (p : Part l u k m l′) where
   head-length : length (take k l ++ u) ≡ k + m
   head-length = omega (arith, length-append (take k l) u, length-take-le k l (omega arith))
 
-  put-take : take (k + m) l′ ≡ take k l ++ u
-  put-take = rw put (take-at (take k l ++ u) (drop (k + m) l) (k + m) head-length)
-
   pub put-drop : drop (k + m) l′ ≡ drop m (drop k l)
-  put-drop = rw put (drop-at (take k l ++ u) (drop (k + m) l) (k + m) head-length ∙ sym (drop-drop m k l))
+  put-drop = rw (p .put) (drop-at (take k l ++ u) (drop (k + m) l) (k + m) head-length ∙ sym (drop-drop m k l))
 
   pub put-length : length l′ ≡ length l
-  put-length = rw put (omega (arith, length-append (take k l ++ u) (drop (k + m) l), head-length, length-drop (k + m) l))
-
-  put-over : (v : List ℕ) → take (k + m) l′ ++ over v (drop (k + m) l′) ≡ take k l ++ over (u ++ v) (drop k l)
-  put-over v = let e : length (u ++ v) ≡ m + length v = omega (arith, length-append u v) in
-      rw (put-take, put-drop, e) (simp (append-assoc, drop-drop, add-assoc))
+  put-length = rw (p .put) (omega (arith, length-append (take k l ++ u) (drop (k + m) l), head-length, length-drop (k + m) l))
 
   pub upto-more : (l₀ v all : List ℕ) → PutUpTo l₀ l k (u ++ v) all → PutUpTo l₀ l′ (k + m) v all
-  upto-more l₀ v all e = put-over v ∙ e
+  upto-more l₀ v all e =
+      let front : take (k + m) l′ ≡ take k l ++ u = rw (p .put) (take-at (take k l ++ u) (drop (k + m) l) (k + m) head-length) in
+      let both : length (u ++ v) ≡ m + length v = omega (arith, length-append u v) in
+      rw (front, put-drop) (let same : (take k l ++ u) ++ over v (drop m (drop k l)) ≡ take k l ++ over (u ++ v) (drop k l) = rw both (simp (append-assoc, drop-drop, add-assoc)) in same ∙ e)
 
--- a part of k places at the place n, lent and back with u in it
-pub part-back : (l u : List ℕ) (n k m : ℕ) → k ≡ m → take n l ++ (u ++ drop k (drop n l)) ≡ (take n l ++ u) ++ drop (n + m) l
-part-back l u n k m e = rw (e, drop-drop) (sym (append-assoc (take n l) u (drop (n + m) l)))
-
--- its length
-pub part-length : (l u : List ℕ) (n k m : ℕ) → k ≡ m → n + m ≤ length l → length u ≡ length (take k (drop n l)) → length u ≡ m
-part-length l u n k m e h long = long ∙ length-take-le k (drop n l) (omega (arith, length-drop n l)) ∙ e
+-- lent and back with u in it
+pub part-back : (l u : List ℕ) (k m : ℕ) → k + m ≤ length l → length u ≡ length (take (k + m - k) (drop k l)) → Part l u k m (take k l ++ (u ++ drop (k + m - k) (drop k l)))
+part-back l u k m room long = let same : k + m - k ≡ m = omega arith in record {
+  room = room;
+  long = long ∙ rw same (length-take-le m (drop k l) (omega (arith, length-drop k l)));
+  put = rw (same, drop-drop) (sym (append-assoc (take k l) u (drop (k + m) l)));
+}

@@ -1,5 +1,5 @@
 -- The account's own answers to the program's calls, computed from its definitions. Assumes nothing.
-use Rattle.basis.proofs.Prelude.{_≡_, ap, refl, ℕ, List, [], _++_, _∷_, true, eqb, getD, length, replicate, eq-eqb}
+use Rattle.basis.proofs.Prelude.{_∙_, _≡_, ap, refl, sym, ℕ, List, [], _++_, _∷_, true, eqb, getD, replicate, eq-eqb}
 use lib.Ieee.{isNan, toBits, ofBits}
 use Rattle.fields.specs.Fields.{digitsOf, decimalOf}
 use Rattle.spell.specs.{Order.{listedBefore, earlierOf}, Listing.stands}
@@ -7,12 +7,12 @@ use Rattle.register.specs.Text.{lineText, textOnto}
 use Rattle.stabbing.specs.Tree.{below, keep, count, head, next, parent, child, leftSibling, lastChild, fitsAt, start, onPath, formula}
 use Rattle.orders.specs.Orders.{sortedBy}
 use Rattle.rules.specs.Rules.{lastOf}
-use Rattle.model.specs.{Edits.{insertBy, enterRefusal, remember}, Publishing.publishedOf, Questions.{filter, comparisonsOf}, Effects.settle, Model.{Answer, fresh, takeBack, ask, effectOf, run}}
-use Rattle.buffer.specs.Buffer.{over}
+use Rattle.model.specs.{Edits.{insertBy, enterRefusal, remember}, Publishing.publishedOf, Questions.{filter, comparisonsOf}, Effects.settle, Model.{fresh, takeBack, ask, effectOf, run}}
 use Rattle.packing.specs.Blocks.{written}
-use Rattle.coding.specs.Coded.{codeAt, callOf, nextOf, decodeFrom, decode, resultsOf, numbersOf, textsOf}
+use Rattle.coding.specs.Coded.{codeAt, callOf, nextOf, decodeFrom, decode}
+use Rattle.replay.specs.Replayed.{Holds}
 
--- ---- The program's lists before the calls
+-- ---- The program's calls
 
 abbrev calls : List ℕ
 calls = (1 ∷ 13 ∷ 9 ∷ 5 ∷ 8 ∷ 0 ∷ 1 ∷ 0 ∷ 0 ∷ 0 ∷ [])
@@ -26,47 +26,52 @@ calls = (1 ∷ 13 ∷ 9 ∷ 5 ∷ 8 ∷ 0 ∷ 1 ∷ 0 ∷ 0 ∷ 0 ∷ [])
     ++ (4 ∷ 0 ∷ 0 ∷ 0 ∷ 0 ∷ 0 ∷ 0 ∷ 0 ∷ 0 ∷ 0 ∷ [])
     ++ (4 ∷ 0 ∷ 0 ∷ 0 ∷ 0 ∷ 0 ∷ 0 ∷ 0 ∷ 0 ∷ 0 ∷ [])
 
-abbrev results : List ℕ
-results = replicate 55 77
+-- a run of them left so many answers, and these results, numbers and text
+abbrev Left : ℕ → List ℕ → List ℕ → List ℕ → Type 0
+Left = Holds (run fresh (decode calls [] (replicate 55 77) (replicate 5 99) (replicate 16 7))) (replicate 55 77) (replicate 5 99) (replicate 16 7)
 
-abbrev numbers : List ℕ
-numbers = replicate 5 99
+-- ---- What it leaves
 
-abbrev text : List ℕ
-text = replicate 16 7
+abbrev told : List ℕ
+told = (0 ∷ 0 ∷ 0 ∷ 0 ∷ 0 ∷ [])
+    ++ (0 ∷ 0 ∷ 0 ∷ 0 ∷ 0 ∷ [])
+    ++ (6 ∷ 0 ∷ 0 ∷ 0 ∷ 0 ∷ [])
+    ++ (0 ∷ 0 ∷ 0 ∷ 0 ∷ 0 ∷ [])
+    ++ (0 ∷ 2 ∷ 1 ∷ 0 ∷ 0 ∷ [])
+    ++ (11 ∷ 0 ∷ 0 ∷ 0 ∷ 0 ∷ [])
+    ++ (0 ∷ 0 ∷ 0 ∷ 0 ∷ 0 ∷ [])
+    ++ (0 ∷ 0 ∷ 0 ∷ 13 ∷ 0 ∷ [])
+    ++ (0 ∷ 0 ∷ 0 ∷ 0 ∷ 0 ∷ [])
+    ++ (9 ∷ 0 ∷ 0 ∷ 0 ∷ 0 ∷ [])
+    ++ (77 ∷ 77 ∷ 77 ∷ 77 ∷ 77 ∷ [])
 
--- ---- The answers, and the lists after the calls
+abbrev listed : List ℕ
+listed = 14 ∷ 13 ∷ 99 ∷ 99 ∷ 99 ∷ []
 
-abbrev answers : List Answer
-answers = run fresh (decode calls [] results numbers text)
-
--- the text of the line "13 9 5 8 G 1"
-abbrev line : List ℕ
-line = 49 ∷ 51 ∷ 9 ∷ 57 ∷ 9 ∷ 53 ∷ 9 ∷ 56 ∷ 9 ∷ 71 ∷ 9 ∷ 49 ∷ 10 ∷ []
+-- the text of the line "13 9 5 8 G 1", and what was there
+abbrev written′ : List ℕ
+written′ = (49 ∷ 51 ∷ 9 ∷ 57 ∷ 9 ∷ 53 ∷ 9 ∷ 56 ∷ 9 ∷ 71 ∷ 9 ∷ 49 ∷ 10 ∷ []) ++ (7 ∷ 7 ∷ 7 ∷ [])
 
 -- how many calls are answered, and what results, numbers and text then hold
-pub record Seen : Type 0 where
-  pub made : length answers ≡ 10
-  pub told : over (resultsOf answers) results
-      ≡ (0 ∷ 0 ∷ 0 ∷ 0 ∷ 0 ∷ [])
-      ++ (0 ∷ 0 ∷ 0 ∷ 0 ∷ 0 ∷ [])
-      ++ (6 ∷ 0 ∷ 0 ∷ 0 ∷ 0 ∷ [])
-      ++ (0 ∷ 0 ∷ 0 ∷ 0 ∷ 0 ∷ [])
-      ++ (0 ∷ 2 ∷ 1 ∷ 0 ∷ 0 ∷ [])
-      ++ (11 ∷ 0 ∷ 0 ∷ 0 ∷ 0 ∷ [])
-      ++ (0 ∷ 0 ∷ 0 ∷ 0 ∷ 0 ∷ [])
-      ++ (0 ∷ 0 ∷ 0 ∷ 13 ∷ 0 ∷ [])
-      ++ (0 ∷ 0 ∷ 0 ∷ 0 ∷ 0 ∷ [])
-      ++ (9 ∷ 0 ∷ 0 ∷ 0 ∷ 0 ∷ [])
-      ++ (77 ∷ 77 ∷ 77 ∷ 77 ∷ 77 ∷ [])
-  pub listed : over (numbersOf answers) numbers ≡ 14 ∷ 13 ∷ 99 ∷ 99 ∷ 99 ∷ []
-  pub written : over (textsOf answers) text ≡ line ++ (7 ∷ 7 ∷ 7 ∷ [])
-
-pub seen : Seen
+seen : Left 10 told listed written′
 unfolding decodeFrom codeAt nextOf callOf written run settle effectOf takeBack ask enterRefusal insertBy publishedOf lastOf sortedBy listedBefore remember earlierOf stands isNan toBits ofBits
     filter comparisonsOf below keep count head next parent child leftSibling lastChild fitsAt start onPath formula textOnto lineText decimalOf digitsOf
-seen = record { made = refl; told = refl; listed = refl; written = refl }
+seen = record { count = refl; told = refl; listed = refl; written = refl }
 
 -- a list that is known whole has at each place what the known one has there
-pub at : {l known : List ℕ} (i : ℕ) → l ≡ known → eqb (getD l i 0) (getD known i 0) ≡ true
-at i e = eq-eqb _ _ (ap (λ (l : List ℕ). getD l i 0) e)
+at : {l known : List ℕ} (i v : ℕ) → l ≡ known → getD known i 0 ≡ v → eqb (getD l i 0) v ≡ true
+at i v e is = eq-eqb _ v (ap (λ (l : List ℕ). getD l i 0) e ∙ is)
+
+-- what a run left
+module _ {n : ℕ} {results′ numbers′ text′ : List ℕ} (h : Left n results′ numbers′ text′) where
+  pub made : eqb n 10 ≡ true
+  made = eq-eqb _ 10 (h .count ∙ sym (seen .count))
+
+  pub told-at : (i v : ℕ) → getD told i 0 ≡ v → eqb (getD results′ i 0) v ≡ true
+  told-at i v = at i v (h .told ∙ sym (seen .told))
+
+  pub listed-at : (i v : ℕ) → getD listed i 0 ≡ v → eqb (getD numbers′ i 0) v ≡ true
+  listed-at i v = at i v (h .listed ∙ sym (seen .listed))
+
+  pub written-at : (i v : ℕ) → getD written′ i 0 ≡ v → eqb (getD text′ i 0) v ≡ true
+  written-at i v = at i v (h .written ∙ sym (seen .written))

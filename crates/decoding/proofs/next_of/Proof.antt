@@ -1,25 +1,20 @@
 -- `decoding::next_of` meets its contract: one test a return. Assumes nothing.
-use Rattle.basis.proofs.Prelude.{needs, le-leb, lt-leb}
-use Rattle.coding.specs.Coded.{nextOf}
-use Rattle.decoding.proofs.next_of.{Statement.statement, Tie.{Need-returns, Need-returns-2, Need-returns-3, Need-returns-4, close, spec}}
+use Rattle.basis.proofs.Prelude.{_≡_, _<_, _≤_, ℕ, le-leb, lt-leb, needs}
+use Rattle.coding.specs.{declared.{Code.Code, Next.{Next, the-variants.Stop}}, Coded.{callOf, nextOf}}
+use Rattle.decoding.proofs.next_of.{Statement.statement, Tie.{close, spec}}
 
-returns : Need-returns
-unfolding nextOf
-returns c = simp (lt-leb _ _ (c .if1 .taken))
+module _ (c : Code) (days numbers text : ℕ) where
+  short-days : days < c .days → Stop ≡ nextOf c days numbers text
+  short-days h = unfold nextOf in rw (lt-leb _ _ h)
 
-returns-2 : Need-returns-2
-unfolding nextOf
-returns-2 c = simp (le-leb _ _ (c .before .before .if1 .left), lt-leb _ _ (c .if2 .taken))
+  short-numbers : c .days ≤ days → numbers < c .numbers → Stop ≡ nextOf c days numbers text
+  short-numbers d h = unfold nextOf in rw (le-leb _ _ d, lt-leb _ _ h)
 
-returns-3 : Need-returns-3
-unfolding nextOf
-returns-3 c = simp (le-leb _ _ (c .before .before .before .before .if1 .left), le-leb _ _ (c .before .before .if2 .left), lt-leb _ _ (c .if3 .taken))
+  short-text : c .days ≤ days → c .numbers ≤ numbers → text < c .text → Stop ≡ nextOf c days numbers text
+  short-text d n h = unfold nextOf in rw (le-leb _ _ d, le-leb _ _ n, lt-leb _ _ h)
 
-returns-4 : Need-returns-4
-unfolding nextOf
-returns-4 c =
-    let e = c .before in
-    simp (le-leb _ _ (e .before .before .before .before .if1 .left), le-leb _ _ (e .before .before .if2 .left), le-leb _ _ (e .if3 .left)) (c .call-of .ensures)
+  room-for-all : {r : Next} → c .days ≤ days → c .numbers ≤ numbers → c .text ≤ text → r ≡ callOf c → r ≡ nextOf c days numbers text
+  room-for-all d n t e = unfold nextOf in rw (le-leb _ _ d, le-leb _ _ n, le-leb _ _ t) e
 
 pub next-of-spec : {M : Type 1} → statement M
-next-of-spec = close (spec returns returns-2 returns-3 (λ c κs. search needs) returns-4)
+next-of-spec = close (spec (λ c. search short-days) (λ c. search short-numbers) (λ c. search short-text) (λ c. search needs) (λ c. search room-for-all))

@@ -1,14 +1,10 @@
 -- `replay::code_at` meets its contract: a word for each field. Assumes nothing.
 use Rattle.coding.specs.Coded.{codeAt}
 use Rattle.basis.proofs.Prelude.{needs}
-use Rattle.replay.proofs.code_at.{Statement.statement, Tie.Need-returns, Tie.close, Tie.spec}
-
-returns : Need-returns
-unfolding codeAt
-returns c = cc
+use Rattle.replay.proofs.code_at.{Statement.statement, Tie.close, Tie.spec}
 
 pub code-at-spec : {M : Type 1} → statement M
 code-at-spec = close (spec
-    (λ c κs. search needs) (λ c κs. search needs) (λ c κs. search needs) (λ c κs. search needs) (λ c κs. search needs) (λ c κs. search needs)
-    (λ c κs. search needs) (λ c κs. search needs) (λ c κs. search needs) (λ c κs. search needs) (λ c κs. search needs) (λ c κs. search needs)
-    (λ c κs. search needs) (λ c κs. search needs) returns)
+    (λ c. search needs) (λ c. search needs) (λ c. search needs) (λ c. search needs) (λ c. search needs) (λ c. search needs) (λ c. search needs)
+    (λ c. search needs) (λ c. search needs) (λ c. search needs) (λ c. search needs) (λ c. search needs) (λ c. search needs) (λ c. search needs)
+    (λ c. unfold codeAt in cc))
