@@ -1,11 +1,11 @@
 // The bytes that are sent to `serve`, cut into requests as they arrive.
 ghost use mathlib.Core.Path.{_≡_};
-ghost use Prim.Native.Nat.{_≤_, min};
+ghost use Prim.Native.Nat.{_≤_};
 ghost use lib.ListN.{length, take};
 ghost use Rattle.streams.specs.Stream.{wants};
-ghost use Rattle.streams.specs.Advancing.{Fits, Advances, ready, refusedFrame, HostAdvances};
+ghost use Rattle.streams.specs.Advancing.{Fits, Advances, ready, advancedOf, refusedFrame, HostAdvances};
 ghost use Rattle.streams.specs.History.{opened};
-ghost use Rattle.framing.specs.Contracts.{Puts, TakesLine, TakesText};
+ghost use Rattle.framing.specs.Contracts.{Puts, PlaceIn, TakesLine, TakesText};
 use streams::Advanced;
 use streams::Frame;
 use streams::Framed;
@@ -14,10 +14,11 @@ use streams::TEXT;
 
 const LF: u8 = 10;
 
-// So many bytes of a line up to its LF, and the place after it; or of one that is not whole.
-enum Taken {
-    Whole(usize, usize),
-    Part(usize),
+// So many bytes of a line, whether its LF is among them, and the place after them.
+struct Taken {
+    line: usize,
+    whole: bool,
+    next: usize,
 }
 
 // The frame of a request of which nothing has come.
@@ -55,10 +56,18 @@ fn take_line(n: usize, arrived: &[u8], from: usize, line: &mut [u8; LINE]) -> Ta
         n = put(line, n, b);
         at += 1;
         if b == LF {
-            return Taken::Whole(n, at);
+            return Taken {
+                line: n,
+                whole: true,
+                next: at,
+            };
         }
     }
-    Taken::Part(n)
+    Taken {
+        line: n,
+        whole: false,
+        next: at,
+    }
 }
 
 // Takes bytes from the place `from` on, as many as are wanted: the line of n bytes is whole, and the text has m bytes already.
@@ -101,9 +110,12 @@ fn text_length(line: &[u8], n: usize) -> u64
 
 // The place n of a list, or its end where it has fewer places.
 fn within(n: usize, list: &[u8]) -> usize
-    ensures { λ r. ⌜ r ≡ min n (length (now (list .entry))) ⌝ }
+    ensures { λ r. ⌜ PlaceIn (now (list .entry)) n r ⌝ }
 {
-    buffer::least(n, list.len())
+    if n < list.len() {
+        return n;
+    }
+    list.len()
 }
 
 // Goes on with a request that has come in part, by the bytes that have arrived from the place `from` on. `line` and `payload` hold
@@ -123,17 +135,16 @@ pub fn advance(
     if frame.wanted > 0 {
         return take_text(n, m, frame.wanted, arrived, start, payload);
     }
-    match take_line(n, arrived, start, line) {
-        Taken::Whole(n, at) => {
-            let wanted = text_length(line, n);
-            take_text(n, 0, wanted, arrived, at, payload)
-        }
-        Taken::Part(n) => Framed::Part(Frame {
-            line: n,
-            payload: 0,
-            wanted: 0,
-        }),
+    let taken = take_line(n, arrived, start, line);
+    if taken.whole {
+        let wanted = text_length(line, taken.line);
+        return take_text(taken.line, 0, wanted, arrived, taken.next, payload);
     }
+    Framed::Part(Frame {
+        line: taken.line,
+        payload: 0,
+        wanted: 0,
+    })
 }
 
 // ---- For other software
@@ -171,22 +182,10 @@ fn refused() -> Advanced
     }
 }
 
-// `advance` for a host. The frame of a request of which nothing has come is all zeros.
-#[no_mangle]
-pub extern "C" fn phayaklit_advance(
-    frame: Frame,
-    arrived: &[u8],
-    from: usize,
-    line: &mut [u8; LINE],
-    payload: &mut [u8; TEXT],
-) -> Advanced
-    ensures { λ r. ⌜ HostAdvances frame (now (arrived .entry)) from (now (line .entry)) (now (payload .entry)) r (now (line .exit)) (now (payload .exit)) ⌝ }
+// What a host is given.
+fn told(r: Framed, size: usize) -> Advanced
+    ensures { λ t. ⌜ t ≡ advancedOf r size ⌝ }
 {
-    let size = arrived.len();
-    if !is_ready(frame, size, from) {
-        return refused();
-    }
-    let r = advance(frame, arrived, from, line, payload);
     match r {
         Framed::Whole(n, m, at) => Advanced {
             outcome: 1,
@@ -203,4 +202,23 @@ pub extern "C" fn phayaklit_advance(
             next: size,
         },
     }
+}
+
+// `advance` for a host. The frame of a request of which nothing has come is all zeros.
+#[no_mangle]
+pub extern "C" fn phayaklit_advance(
+    frame: Frame,
+    arrived: &[u8],
+    from: usize,
+    line: &mut [u8; LINE],
+    payload: &mut [u8; TEXT],
+) -> Advanced
+    ensures { λ r. ⌜ HostAdvances frame (now (arrived .entry)) from (now (line .entry)) (now (payload .entry)) r (now (line .exit)) (now (payload .exit)) ⌝ }
+{
+    let size = arrived.len();
+    if is_ready(frame, size, from) {
+        let r = advance(frame, arrived, from, line, payload);
+        return told(r, size);
+    }
+    refused()
 }
