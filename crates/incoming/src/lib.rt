@@ -1,4 +1,5 @@
 // Requests taken from standard input as they arrive, and answers gathered for standard output.
+ghost use mathlib.Core.Path.{_≡_};
 ghost use Prim.Native.Nat.{_≤_};
 ghost use lib.ListN.{length, take, drop};
 ghost use Rattle.streams.specs.Advancing.{Advances};
@@ -83,7 +84,17 @@ fn advance(
     framing::advance(frame, &arrived[..end], start, line, payload)
 }
 
-// Takes the next request, as soon as all of it has arrived. What is gathered is written before a read. A proved loop has to end, so its turns are counted down, from a number
+// The place `end` of what has arrived, or the list's end where that comes first.
+fn within(arrived: &[u8], end: usize) -> usize
+    ensures { λ r. ⌜ (r ≤ length (now (arrived .entry))) × (take r (now (arrived .entry)) ≡ take end (now (arrived .entry))) ⌝ }
+{
+    if end < arrived.len() {
+        return end;
+    }
+    arrived.len()
+}
+
+// Takes the next request, as soon as all of it has arrived: of the bytes from `start` to `end`, or to the list's end where that comes first, and of those that are read after them. What is gathered is written before a read. A proved loop has to end, so its turns are counted down, from a number
 // that no request uses up.
 pub fn next(
     arrived: &mut [u8; ARRIVED],
@@ -94,12 +105,11 @@ pub fn next(
     gathered: &[u8],
     held: usize,
 ) -> Incoming
-    requires { ⌜ end ≤ 65536 ⌝ }
     ensures { λ r. ⌜ Takes (now (arrived .entry)) start end r (now (arrived .exit)) (now (line .exit)) (now (payload .exit)) ⌝ }
 {
     let mut frame = framing::opened();
     let mut at = start;
-    let mut to = end;
+    let mut to = within(arrived, end);
     let mut unsent = held;
     let mut turns = u64::MAX;
     while turns > 0 {
