@@ -76,7 +76,7 @@ fn see(
     gathered: &[u8; OUT],
     held: usize,
 ) -> Seen
-    requires { ⌜ (Published (now index)) × (end ≤ 65536) ⌝ }
+    requires { ⌜ Published (now index) ⌝ }
     ensures { λ r. ⌜ Sees (blocks (now (index .entry))) room (now (arrived .entry)) start end (now (days .entry)) (now (numbers .entry)) (now (text .entry)) (now (out .entry)) r (now (arrived .exit)) (now (line .exit)) (now (payload .exit)) (now (days .exit)) (now (numbers .exit)) (now (out .exit)) ⌝ }
 {
     let q = incoming::next(arrived, start, end, line, payload, gathered, held);

@@ -1,26 +1,24 @@
 -- `serve::converse` is safe and ends. The invariant: service and blocks are what the calls gave. The measure is the turns that are left. Assumes nothing.
-use Rattle.basis.proofs.Prelude.{_≤_, ⊎-elim, arith, needs}
+use Rattle.basis.proofs.Prelude.{⊎-elim, arith, needs}
 use Rattle.service.specs.Service.{blocks, Given}
 use Rattle.serve.proofs.converse.{Statement.statement, Tie.{InvT-loop, MeasureT-loop, Need-see-requires, Need-carry-requires, Need-sub-turns, Need-loop-less, Need-loop-again, close, spec}}
 
 abbrev Inv-loop : InvT-loop
 Inv-loop index₀ arrived₀ line₀ payload₀ days₀ numbers₀ text₀ out₀ gathered₀ s₀ room₀ start₀ end₀ held₀ turns₀ index arrived line payload days numbers text out gathered s room start end held turns =
-    Given s (blocks index) × (end ≤ 65536)
+    Given s (blocks index)
 
 abbrev μ-loop : MeasureT-loop
 μ-loop index₀ arrived₀ line₀ payload₀ days₀ numbers₀ text₀ out₀ gathered₀ s₀ room₀ start₀ end₀ held₀ turns₀ index arrived line payload days numbers text out gathered s room start end held turns =
     turns
 
 see-requires : Need-see-requires Inv-loop μ-loop
-see-requires c κs =
-    let known = c .before .before .before .before .before .before .before .before .before .before .loop .inv in
-    (known .0 .published, known .1)
+see-requires c κs = c .before .before .before .before .before .before .before .before .before .before .loop .inv .published
 
 carry-requires : Need-carry-requires Inv-loop μ-loop
 carry-requires c κs =
     let seen = c .before .before .before .before .before .before .before .before .before .before .before .before in
     let known = seen .before .before .before .before .before .before .before .before .before .before .before .loop .inv in
-    (known .0, omega (arith, seen .see .ensures .takes .text-in))
+    (known, omega (arith, seen .see .ensures .takes .text-in))
 
 sub-turns : Need-sub-turns Inv-loop μ-loop
 sub-turns c = omega (arith, c .before .before .before .before .before .before .before .before .before .before .before .before .before .before .before .before .before .before .before .loop-test .taken)
@@ -34,7 +32,7 @@ loop-again c =
     let met = c .before .before .before .before .before .before in
     let seen = met .before .before .before in
     let known = seen .before .before .before .before .before .before .before .before .before .before .before .loop .inv in
-    (⊎-elim (λ w. rw (w .3, w .7) (known .0)) (λ w. rw (w .12, w .16) (w .10 .ensures .0)) (met .match .came), seen .see .ensures .takes .end-in)
+    ⊎-elim (λ w. rw (w .3, w .7) known) (λ w. rw (w .12, w .16) (w .10 .ensures .0)) (met .match .came)
 
 pub converse-spec : {M : Type 1} → statement M
 converse-spec = close (spec

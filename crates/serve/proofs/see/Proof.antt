@@ -9,7 +9,7 @@ returns c = sees (c .before .before .next .ensures) _ _ _ _ _ _ _ _ _ _ (λ e. a
 look-requires : Need-look-requires
 look-requires c κs =
     let framed = c .before .before .before .before .before .before .before in
-    (framed .before .before .before .before .before .pre .0, omega (arith, framed .next .ensures .line-in))
+    (framed .before .before .before .before .before .pre, omega (arith, framed .next .ensures .line-in))
 
 returns-2 : Need-returns-2
 returns-2 c =
