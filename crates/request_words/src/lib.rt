@@ -1,7 +1,6 @@
 // The word of a request's line: the table of all of them, with the layout of what follows each.
 ghost use mathlib.Core.Path.{_≡_};
-ghost use Rattle.requests.specs.Words.{begins, headOr, headOf, questionWords, callWords, table};
-ghost use Rattle.request_words.specs.Contracts.{headFrom};
+ghost use Rattle.requests.specs.Words.{begins, headOr, headOf, table};
 use model::Question;
 use requests::AloneWord;
 use requests::Head;
@@ -37,41 +36,25 @@ fn head_or(line: &[u8], word: &[u8], layout: Layout, found: Head) -> Head
     found
 }
 
-// The head of a line that begins with a question's word, or else the one that was found before: the words are tried from the last to the first.
-fn question_head(line: &[u8], found: Head) -> Head
-    ensures { λ r. ⌜ r ≡ headFrom found questionWords (now (line .entry)) ⌝ }
+// The same with three words.
+fn head_or_three(
+    line: &[u8],
+    w1: &[u8],
+    l1: Layout,
+    w2: &[u8],
+    l2: Layout,
+    w3: &[u8],
+    l3: Layout,
+    found: Head,
+) -> Head
+    ensures { λ r. ⌜ r ≡ headOr (now (w1 .entry)) l1 (now (line .entry)) (headOr (now (w2 .entry)) l2 (now (line .entry)) (headOr (now (w3 .entry)) l3 (now (line .entry)) found)) ⌝ }
 {
-    let h = head_or(
-        line,
-        b"day\t",
-        Layout::Number(NumberWord::Ask(Question::Day(0))),
-        found,
-    );
-    let h = head_or(line, b"span\t", Layout::Pair, h);
-    let h = head_or(
-        line,
-        b"cover\t",
-        Layout::Number(NumberWord::Ask(Question::Cover(0))),
-        h,
-    );
-    let h = head_or(line, b"days\t", Layout::Days, h);
-    let h = head_or(line, b"days\n", Layout::Alone(AloneWord::Days), h);
-    head_or(line, b"mask\t", Layout::Mask, h)
+    let h = head_or(line, w3, l3, found);
+    let h = head_or(line, w2, l2, h);
+    head_or(line, w1, l1, h)
 }
 
-// The same of the other calls' words.
-fn call_head(line: &[u8], found: Head) -> Head
-    ensures { λ r. ⌜ r ≡ headFrom found callWords (now (line .entry)) ⌝ }
-{
-    let h = head_or(line, b"enter\t", Layout::Spell(SpellWord::Enter), found);
-    let h = head_or(line, b"amend\t", Layout::Spell(SpellWord::Amend), h);
-    let h = head_or(line, b"strike\t", Layout::Number(NumberWord::Strike), h);
-    let h = head_or(line, b"take-back\n", Layout::Alone(AloneWord::TakeBack), h);
-    let h = head_or(line, b"publish\t", Layout::Number(NumberWord::Publish), h);
-    head_or(line, b"write\n", Layout::Alone(AloneWord::Write), h)
-}
-
-// The head of a line, by the table of all words.
+// The head of a line, by the table of all words: they are tried from the last to the first.
 pub fn head_of(line: &[u8]) -> Head
     ensures { λ r. ⌜ r ≡ headOf table (now (line .entry)) ⌝ }
 {
@@ -79,7 +62,46 @@ pub fn head_of(line: &[u8]) -> Head
         layout: Layout::Unknown,
         at: 0,
     };
-    let h = question_head(line, call_head(line, none));
+    let h = head_or_three(
+        line,
+        b"strike\t",
+        Layout::Number(NumberWord::Strike),
+        b"amend\t",
+        Layout::Spell(SpellWord::Amend),
+        b"enter\t",
+        Layout::Spell(SpellWord::Enter),
+        none,
+    );
+    let h = head_or_three(
+        line,
+        b"write\n",
+        Layout::Alone(AloneWord::Write),
+        b"publish\t",
+        Layout::Number(NumberWord::Publish),
+        b"take-back\n",
+        Layout::Alone(AloneWord::TakeBack),
+        h,
+    );
+    let h = head_or_three(
+        line,
+        b"cover\t",
+        Layout::Number(NumberWord::Ask(Question::Cover(0))),
+        b"span\t",
+        Layout::Pair,
+        b"day\t",
+        Layout::Number(NumberWord::Ask(Question::Day(0))),
+        h,
+    );
+    let h = head_or_three(
+        line,
+        b"mask\t",
+        Layout::Mask,
+        b"days\n",
+        Layout::Alone(AloneWord::Days),
+        b"days\t",
+        Layout::Days,
+        h,
+    );
     let h = head_or(line, b"room\t", Layout::Length(LengthWord::Room), h);
     head_or(line, b"read\t", Layout::Length(LengthWord::Read), h)
 }
