@@ -1,89 +1,62 @@
 -- The days of a line, read one after another into their places. Assumes nothing.
-use Rattle.basis.proofs.Prelude.{_∙_, _≡_, ap, refl, sym, _+_, _-_, _<_, _≤_, suc, ℕ, List, [], _++_, _∷_, append-assoc, append-nil, false, drop, drop-of-length-le, length, length-append, length-set, set, take, take-append-drop, drop-drop, drop-set-lt, length-take-le, set-split, take-all, take-suc-set, add-one, arith}
-use Rattle.requests.{proofs.Names.{Found, found, unreadable, readNumber, Ask, DayList, lastDay, readDays, over}, specs.declared.Request.{the-variants.{Call as RequestCall, Malformed as RequestMalformed}, Request}}
+use Rattle.basis.proofs.Prelude.{_∙_, _≡_, ap, refl, sym, _+_, _-_, _<_, _≤_, suc, ℕ, List, [], _++_, _∷_, append-assoc, append-nil, false, drop, length, length-append, length-set, set, take, drop-set-lt, length-take-le, take-suc-set, add-one, arith}
+use Rattle.buffer.proofs.Over.{own-over, over-is}
+use Rattle.fields.specs.{declared.Field.{Field, the-variants.{Value, Malformed as Unread}}, Answers.fieldOf}
+use Rattle.requests.{proofs.Names.{readNumber, here, past-end, Ask, DayList, lastDay, readDays}, specs.declared.Request.{the-variants.{Call, Malformed}, Request}}
 use Rattle.request_lines.specs.Contracts.{after, ReadsDays}
 use Rattle.model.specs.declared.Question.the-variants.{Days}
 
--- lists that agree from a place on agree from every later one
-agree : (a b : List ℕ) (k n : ℕ) → drop k a ≡ drop k b → k ≤ n → drop n a ≡ drop n b
-agree a b k n e h =
-    let up : k + (n - k) ≡ n = omega arith in
-    (rw up at (sym (drop-drop (n - k) k a))) ∙ ap (drop (n - k)) e ∙ (rw up at (drop-drop (n - k) k b))
+-- the first k places are days already, and no more are read
+unread : (days : List ℕ) (k : ℕ) → k ≤ length days → ReadsDays (after (take k days) (record { days = []; whole = false })) days Malformed days
+unread days k h = record { request = refl; places = rw append-nil (sym (own-over k days h)); sized = refl }
 
--- ---- the last day
-module _ (days : List ℕ) (k : ℕ) (h : k < length days) where
-  pub last-none : (f : Found ℕ) → lastDay f ≡ record { days = []; whole = false } → ReadsDays (after (take k days) (lastDay f)) days RequestMalformed days
-  last-none f e =
-      let all : days ≡ over (take k days ++ []) days
-      = rw (append-nil (take k days), length-take-le k days (omega arith)) (sym (take-append-drop k days)) in
-      record { request = rw e; places = rw e all; sized = refl }
+-- ---- the last day, of a field that is read from the place `at`
+module _ (line : List ℕ) (at : ℕ) (f : Field) (says : fieldOf line f ≡ readNumber 10 (drop at line)) (days : List ℕ) (k : ℕ) (h : k < length days) where
+  pub last-unread : f ≡ Unread → ReadsDays (after (take k days) (lastDay (readNumber 10 (drop at line)))) days Malformed days
+  last-unread e = rw (← says, e) (unread days k (omega arith))
 
-  pub last-one : (f : Found ℕ) (d : ℕ) → f ≡ found d [] → ReadsDays (after (take k days) (lastDay f)) days (RequestCall (Ask Days) (k + 1)) (set days k d)
-  last-one f d e =
-      let long : length (take k days ++ (d ∷ [])) ≡ suc k = omega (arith, length-append (take k days) (d ∷ []), length-take-le k days (omega arith)) in
-      let count : k + 1 ≡ length (take k days ++ (d ∷ [])) = omega arith in
-      record {
-        request = rw e (ap (λ (n : ℕ). RequestCall (Ask Days) n) count);
-        places = rw e (rw long (set-split days k d h ∙ sym (append-assoc (take k days) (d ∷ []) (drop (suc k) days))));
-        sized = length-set days k d;
-      }
+  module _ {d next : ℕ} (e : f ≡ Value d next) where
+    pub last-more : next < length line → ReadsDays (after (take k days) (lastDay (readNumber 10 (drop at line)))) days Malformed days
+    last-more l = rw (← says, e, here line next l) (unread days k (omega arith))
 
--- ---- k days are read, and the line is to be read on from the place `at`
-pub record SoFar (l : DayList) (line entry days : List ℕ) (at k : ℕ) : Type 0 where
-  pub sized : length days ≡ length entry
-  pub upto : k ≤ length entry
-  pub kept : drop k days ≡ drop k entry
-  pub ahead : l ≡ after (take k days) (readDays (length entry - k) (drop at line))
+    pub last-one : length line ≤ next → ReadsDays (after (take k days) (lastDay (readNumber 10 (drop at line)))) days (Call (Ask Days) (k + 1)) (set days k d)
+    last-one l =
+        let count : k + 1 ≡ length (take k days ++ d ∷ []) = omega (arith, length-append (take k days) (d ∷ []), length-take-le k days (omega arith)) in
+        rw (← says, e, past-end line next l)
+        (record {
+          request = rw count;
+          places = over-is (take k days ++ d ∷ []) days (set days k d) (k + 1) (omega (arith, length-set days k d)) (rw (add-one, take-suc-set)) (drop-set-lt (k + 1) days k d (omega arith));
+          sized = length-set days k d;
+        })
 
-more-days : (room d : ℕ) (s rest : List ℕ) → readNumber 9 s ≡ found d rest
-    → readDays (suc room) s ≡ record { days = d ∷ readDays room rest .days; whole = readDays room rest .whole }
-unfolding readDays
-more-days room d s rest e = rw e
+-- ---- k days are read: what is read on from the place `at` of the line is what is read of all of it
+abbrev pub Onward : DayList → List ℕ → List ℕ → List ℕ → ℕ → ℕ → Type 0
+Onward l entry line days at k =
+    (r : Request) (exit : List ℕ) → ReadsDays (after (take k days) (readDays (length days - k) (drop at line))) days r exit → ReadsDays l entry r exit
 
-no-more : (room : ℕ) (s : List ℕ) → readNumber 9 s ≡ unreadable → readDays (suc room) s ≡ lastDay (readNumber 10 s)
-unfolding readDays
-no-more room s e = rw e
+pub onward-start : (line days : List ℕ) (start : ℕ) → Onward (readDays (length days) (drop start line)) days line days start 0
+onward-start line days start r exit q = let all : length days - 0 ≡ length days = omega arith in rw all at q
 
-no-room : (s : List ℕ) → readDays 0 s ≡ record { days = []; whole = false }
-unfolding readDays
-no-room s = refl
+module _ (l : DayList) (entry line days : List ℕ) (at k : ℕ) (on : Onward l entry line days at k) where
+  module _ (h : k < length days) (f : Field) (says : fieldOf line f ≡ readNumber 9 (drop at line)) where
+    pub onward-step : {d next : ℕ} → f ≡ Value d next → Onward l entry line (set days k d) next (k + 1)
+    unfolding readDays
+    onward-step {d} {next} e r exit q =
+        let new = set days k d in
+        let rest = readDays (length new - (k + 1)) (drop next line) in
+        let left : length days - k ≡ suc (length new - (k + 1)) = omega (arith, length-set days k d) in
+        let one : take (k + 1) new ≡ take k days ++ (d ∷ []) = rw (add-one, take-suc-set) in
+        let same : after (take k days) (readDays (length days - k) (drop at line)) ≡ after (take (k + 1) new) rest = rw (left, ← says, e, one, append-assoc) in
+        let long = length-append (take (k + 1) new) (rest .days) in
+        let past = drop-set-lt (length (take (k + 1) new ++ rest .days)) days k d (omega (arith, long, length-take-le (k + 1) new (omega (arith, length-set days k d)))) in
+        on r exit (rw same (record { request = q .request; places = q .places ∙ rw past; sized = q .sized ∙ length-set days k d }))
 
-pub sofar-start : (line entry : List ℕ) (start : ℕ) → SoFar (readDays (length entry) (drop start line)) line entry entry start 0
-sofar-start line entry start =
-    let none : length entry - 0 ≡ length entry = omega arith in
-    record { sized = refl; upto = omega arith; kept = refl; ahead = rw none refl }
+    pub onward-last : f ≡ Unread → (r : Request) (exit : List ℕ) → ReadsDays (after (take k days) (lastDay (readNumber 10 (drop at line)))) days r exit → ReadsDays l entry r exit
+    unfolding readDays
+    onward-last e r exit q =
+        let left : length days - k ≡ suc (length days - (k + 1)) = omega arith in
+        on r exit (rw (left, ← says, e) q)
 
-module _ {l : DayList} {line entry days : List ℕ} {at k : ℕ} (p : SoFar l line entry days at k) (h : k < length entry) where
-  left : length entry - k ≡ suc (length entry - (k + 1))
-  left = omega arith
-
-  pub sofar-step : (d next : ℕ) → readNumber 9 (drop at line) ≡ found d (drop next line) → SoFar l line entry (set days k d) next (k + 1)
-  sofar-step d next e =
-      let rest = readDays (length entry - (k + 1)) (drop next line) in
-      let one : take (k + 1) (set days k d) ≡ take k days ++ (d ∷ []) = rw add-one (take-suc-set days k d (omega (arith, p .sized))) in
-      let now : readDays (length entry - k) (drop at line) ≡ record { days = d ∷ rest .days; whole = rest .whole }
-      = rw left (more-days (length entry - (k + 1)) d (drop at line) (drop next line) e) in
-      let same : take k days ++ (d ∷ rest .days) ≡ take (k + 1) (set days k d) ++ rest .days = rw one (sym (append-assoc (take k days) (d ∷ []) (rest .days))) in
-      record {
-        sized = length-set days k d ∙ p .sized;
-        upto = omega arith;
-        kept = drop-set-lt (k + 1) days k d (omega arith) ∙ agree days entry k (k + 1) (p .kept) (omega arith);
-        ahead = p .ahead ∙ ap (after (take k days)) now ∙ ap (λ (ds : List ℕ). record { days = ds; whole = rest .whole }) same;
-      }
-
-  pub sofar-last : (r : Request) (exit : List ℕ) → readNumber 9 (drop at line) ≡ unreadable
-      → ReadsDays (after (take k days) (lastDay (readNumber 10 (drop at line)))) days r exit → ReadsDays l entry r exit
-  sofar-last r exit e q =
-      let last = lastDay (readNumber 10 (drop at line)) in
-      let now : readDays (length entry - k) (drop at line) ≡ last = rw left (no-more (length entry - (k + 1)) (drop at line) e) in
-      let is : l ≡ after (take k days) last = p .ahead ∙ ap (after (take k days)) now in
-      let long : k ≤ length (take k days ++ last .days) = omega (arith, length-append (take k days) (last .days), length-take-le k days (omega (arith, p .sized))) in
-      rw is (record { request = q .request; places = q .places ∙ ap (λ (t : List ℕ). (take k days ++ last .days) ++ t) (agree days entry k (length (take k days ++ last .days)) (p .kept) long); sized = q .sized ∙ p .sized })
-
-pub sofar-full : {l : DayList} {line entry days : List ℕ} {at k : ℕ} → SoFar l line entry days at k → length days ≤ k → ReadsDays l entry RequestMalformed days
-sofar-full {l} {line} {entry} {days} {at} {k} p h =
-    let none : length entry - k ≡ 0 = omega (arith, p .sized) in
-    let whole : take k days ≡ days = take-all k days h in
-    let is : l ≡ record { days = days; whole = false } = p .ahead ∙ rw (none, no-room (drop at line), whole, append-nil days) in
-    let past : drop (length days) entry ≡ [] = drop-of-length-le entry {i = length days} (omega (arith, p .sized)) in
-    rw is (record { request = refl; places = rw (past, append-nil days); sized = p .sized })
+  pub onward-full : length days ≡ length entry → k ≤ length entry → length days ≤ k → ReadsDays l entry Malformed days
+  unfolding readDays
+  onward-full e u h = let none : length days - k ≡ 0 = omega arith in on Malformed days (rw none (unread days k (omega arith)))

@@ -1,7 +1,6 @@
 -- How many bytes follow a line: only the word `read` has any, the first of the table. Assumes nothing.
-use Rattle.requests.proofs.Names.{String, Found, found, unreadable, readLength, readNumber, readMask, readLine, Ask, Layout, Alone, Number, Pair, MaskFields, DayFields, Length, Unknown, Room, Read, limitOf, Request, table, begins, bytesOf, headOf, Demand, asksCall, asksRoom, asksRead, malformed, asking, ended, DayList, readDays, askDays, askedBy, askedOf, following, requestOf, Announces, Asks, followingIn}
-use Rattle.basis.proofs.Prelude.{_≡_, refl, sym, _<_, _≤_, ℕ, List, [], _∷_, Bool, _&&_, both, cond, false, true, drop, length, arith, le-leb, lt-leb}
-use Rattle.model.specs.declared.Question.the-variants.{Days}
+use Rattle.requests.proofs.{Names.{String, Head, Layout, Alone, Number, Pair, MaskFields, DayFields, Length, Unknown, LengthWord, Room, Read, limitOf, Request, table, begins, bytesOf, headOf, Demand, asksCall, asksRoom, asksRead, malformed, lengthAsks, readDays, askedBy, askedOf, following, requestOf, Announces, Asks, followingIn}, Layouts.by-layout}
+use Rattle.basis.proofs.Prelude.{_≡_, refl, sym, _<_, _≤_, ℕ, List, [], _∷_, Bool, _&&_, both, by-cases, clash, cond, false, true, drop, length, le-leb, lt-leb, not, not-false, not-true, _∙_}
 use Rattle.requests.specs.declared.Layout.the-variants.{Spell}
 
 -- ---- Other words: nothing follows
@@ -18,35 +17,14 @@ silent (Length Room) = true
 silent (Length Read) = false
 silent Unknown = true
 
-none-ended : (a : Demand) (s : List ℕ) → following a ≡ 0 → following (ended a s) ≡ 0
-unfolding following
-none-ended a [] e = e
-none-ended a (b ∷ s) e = refl
-
-none-asking : {A : Type 0} (f : Found A) (k : A → List ℕ → Demand) → ((a : A) (rest : List ℕ) → following (k a rest) ≡ 0) → following (asking f k) ≡ 0
-unfolding following
-none-asking (found a rest) k h = h a rest
-none-asking unreadable k h = refl
-
-none-days : (l : DayList) → following (askDays l) ≡ 0
-unfolding following
-none-days l = go (l .whole)
-  where
-    go : (b : Bool) → following (cond b (asksCall (Ask Days) (l .days)) malformed) ≡ 0
-    go true = refl
-    go false = refl
-
 none-by : (l : Layout) (room : ℕ) (s : List ℕ) → silent l ≡ true → following (askedBy l room s) ≡ 0
-unfolding askedBy silent following
-none-by (Alone w) room s e = none-ended _ s refl
-none-by (Spell w) room s e = none-asking (readLine s) _ (λ x rest. none-ended _ rest refl)
-none-by (Number w) room s e = none-asking (readNumber 10 s) _ (λ n rest. none-ended _ rest refl)
-none-by Pair room s e = none-asking (readNumber 9 s) _ (λ a s1. none-asking (readNumber 10 s1) _ (λ b rest. none-ended _ rest refl))
-none-by MaskFields room s e = none-asking (readNumber 9 s) _ (λ b s1. none-asking (readMask 10 s1) _ (λ k rest. none-ended _ rest refl))
-none-by DayFields room s e = none-days (readDays room s)
-none-by (Length Room) room s e = none-asking (readLength (limitOf Room) 10 s) _ (λ n rest. none-ended _ rest refl)
-none-by (Length Read) room s e = absurd (let z : _≡_ {A = ℕ} 0 1 = cc in omega arith)
-none-by Unknown room s e = refl
+unfolding silent following
+none-by l room s e =
+    by-layout (λ a _. following a ≡ 0) refl (λ _. refl) l room room s (λ _. by-cases (λ a. following a ≡ 0) (readDays room s .whole) (λ _. refl) (λ _. refl)) none-length
+  where
+    none-length : (w : LengthWord) (n : ℕ) → l ≡ Length w → n ≤ limitOf w → following (lengthAsks w n) ≡ 0
+    none-length Room n k h = refl
+    none-length Read n k h = absurd (clash e (rw k refl))
 
 -- ---- The table
 
@@ -55,25 +33,18 @@ allSilent [] = true
 allSilent (row ∷ rows) = silent (row .1) && allSilent rows
 
 silent-head : (rows : List (String × Layout)) (s : List ℕ) → allSilent rows ≡ true → silent (headOf rows s .layout) ≡ true
-unfolding allSilent headOf
-silent-head [] s e = unfold silent in refl
-silent-head (row ∷ rows) s e = go (begins (bytesOf (row .0)) s) (both (silent (row .1)) (allSilent rows) e .0) (silent-head rows s (both (silent (row .1)) (allSilent rows) e .1))
-  where
-    go : (b : Bool) → silent (row .1) ≡ true → silent (headOf rows s .layout) ≡ true → silent (cond b (record { layout = row .1; at = length (bytesOf (row .0)) }) (headOf rows s) .layout) ≡ true
-    go true h k = h
-    go false h k = k
+unfolding allSilent headOf silent
+silent-head [] s e = refl
+silent-head (row ∷ rows) s e =
+    let all = both (silent (row .1)) (allSilent rows) e in
+    by-cases (λ (h : Head). silent (h .layout) ≡ true) (begins (bytesOf (row .0)) s) (λ _. all .0) (λ _. silent-head rows s (all .1))
 
 abbrev readWord : List ℕ
 readWord = bytesOf "read\t"
 
-module _ (rows : List (String × Layout)) (s : List ℕ) where
-  read-not : begins readWord s ≡ false → allSilent rows ≡ true → silent (headOf (("read\t", Length Read) ∷ rows) s .layout) ≡ true
-  unfolding headOf
-  read-not e h = rw e (silent-head rows s h)
-
-  read-first : begins readWord s ≡ true → headOf (("read\t", Length Read) ∷ rows) s ≡ record { layout = Length Read; at = 5 }
-  unfolding headOf
-  read-first e = rw e
+read-head : (rows : List (String × Layout)) (s : List ℕ) → headOf (("read\t", Length Read) ∷ rows) s ≡ cond (begins readWord s) (record { layout = Length Read; at = 5 }) (headOf rows s)
+unfolding headOf
+read-head rows s = refl
 
 -- ---- A line
 
@@ -85,15 +56,17 @@ following-in q (asksRead n) e = rw e
 following-in q malformed e = rw e
 
 module _ (line : List ℕ) where
+  -- one longer than 65,536 bytes
   pub long-none : 65536 < length line → Announces line 0
   unfolding askedOf following
   long-none h room = rw (lt-leb (length line) 65536 h)
 
-  module _ (short : length line ≤ 65536) where
-    pub other-none : begins readWord line ≡ false → Announces line 0
+  -- tried, where it is no longer than that
+  module _ (short : length line ≤ 65536) {b : Bool} (is : b ≡ begins readWord line) where
+    pub other-none : not b ≡ true → Announces line 0
     unfolding askedOf table allSilent silent
-    other-none e room = rw (le-leb (length line) 65536 short) (sym (none-by (headOf table line .layout) room (drop (headOf table line .at) line) (read-not _ line e refl)))
+    other-none e room = rw (le-leb (length line) 65536 short, read-head, sym is ∙ not-true b e) (sym (none-by _ room _ (silent-head _ line refl)))
 
-    pub read-announces : begins readWord line ≡ true → (q : Request) → Asks (Length Read) (drop 5 line) q → Announces line (followingIn q)
+    pub read-announces : not b ≡ false → {q : Request} → Asks (Length Read) (drop 5 line) q → {r : ℕ} → r ≡ followingIn q → Announces line r
     unfolding askedOf table
-    read-announces e q k room = rw (le-leb (length line) 65536 short, read-first _ line e) (following-in q _ (k room))
+    read-announces e {q} k f room = f ∙ rw (le-leb (length line) 65536 short, read-head, sym is ∙ not-false b e) (following-in q _ (k room))

@@ -1,4 +1,5 @@
 pub mod Names
+pub mod Layouts
 pub mod Announced
 pub mod Asking
 pub mod Enough
