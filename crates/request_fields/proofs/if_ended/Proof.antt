@@ -2,4 +2,4 @@
 use Rattle.request_fields.proofs.{Layouts.{ended-more, ended-all}, if_ended.{Statement.statement, Tie.{close, spec}}}
 
 pub if-ended-spec : {M : Type 1} → statement M
-if-ended-spec = close (spec (λ c. ended-more _ _ _ (c .if1 .taken)) (λ c. ended-all _ _ _ (c .if1 .left)))
+if-ended-spec = close (spec (λ c. search ended-more) (λ c. search ended-all))
