@@ -1,3 +1,4 @@
 pub mod Sending
+pub mod Placing
 pub mod Fitting
 pub mod Cases

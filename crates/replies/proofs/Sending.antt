@@ -79,7 +79,3 @@ module _ {a b : List ℕ} {i : ℕ} {t : List ℕ} (p : Put a b i t) where
       let s = room-puts (length w) (bytesText w) h in-list (omega (arith, length-append w (drop i b))) q in
       let r = on (bytesText w) s (omega (arith, length-append w t)) in
       (r, omega (arith, put-place p, put-place r, length-append w t))
-
--- a text that is an answer by itself
-pub text-sends : (w out : List ℕ) {n r : ℕ} {exit : List ℕ} → length out ≡ n → length w ≤ n → Puts (length w) (bytesText w) out n r exit → Sends w out r exit
-text-sends w out {n} e h q = put-sends (rw append-nil at (on-bytes (put-end out n e) w h q .0))

@@ -36,10 +36,10 @@ fn put_listed(out: &mut [u8; OUT], count: u16, comparisons: u16, numbers: &[u16]
     reply_lines::put_bytes(out, k, b"listed\t")
 }
 
-// The numbers of a question of several days, which reports no comparisons, with their count; there is room for an opening before them.
+// The numbers of a question of several days, which reports no comparisons, with their count.
 fn put_dashed(out: &mut [u8; OUT], count: u16, numbers: &[u16]) -> usize
     requires { ⌜ length (now numbers) ≤ 1024 ⌝ }
-    ensures { λ r. ⌜ Sends (dashedText count (now (numbers .entry))) (now (out .entry)) r (now (out .exit)) × (20 ≤ r) ⌝ }
+    ensures { λ r. ⌜ Sends (dashedText count (now (numbers .entry))) (now (out .entry)) r (now (out .exit)) ⌝ }
 {
     let end = decimals::end_before(numbers.len());
     let i = decimals::put_numbers(out, OUT, numbers);
