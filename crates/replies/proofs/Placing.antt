@@ -3,7 +3,7 @@ use Rattle.basis.proofs.Prelude.{_≡_, _*_, _+_, _≤_, ℕ, List, [], _++_, _
 use lib.Dec.{lit≤}
 use Rattle.fields.{specs.{Fields.{byteText, endBefore, numberText, numbersText}, Answers.Puts}, proofs.{Puts.Put, Widths.{decimal-width, numbers-width}}}
 use Rattle.replies.specs.{Replies.{bytesText, dashedText}, Sending.Sends}
-use Rattle.replies.proofs.Sending.{put-end, put-sends, sends-put, on-number, on-byte, on-numbers, on-bytes}
+use Rattle.replies.proofs.Sending.{put-end, put-sends, sends-put, on, on-number, on-numbers, on-bytes}
 
 -- the text t is put from the place i on, and k places or more are left before it
 pub record Placed (a b : List ℕ) (i : ℕ) (t : List ℕ) (k : ℕ) : Type 0 where
@@ -38,7 +38,7 @@ module _ (a b c : List ℕ) (i j : ℕ) (t : List ℕ) (k : ℕ) where
   placed-number n e e′ p q s = let r = on-number (p .put) n e (omega (arith, p .room)) q in record { put = rw s at (r .0); room = omega (arith, p .room, r .1) }
 
   pub placed-byte : (x x′ : ℕ) → Placed a b i t (k + 1) → Puts 1 (byteText x) b i j c → x ≡ x′ → Placed a c j (x′ ∷ t) k
-  placed-byte x x′ p q s = let r = on-byte (p .put) x (omega (arith, p .room)) q in record { put = rw s at (r .0); room = omega (arith, p .room, r .1) }
+  placed-byte x x′ p q s = let r = on (p .put) 1 (byteText x) (λ s. (omega arith, omega arith)) (omega (arith, p .room)) q in record { put = rw s at (r .0); room = omega (arith, p .room, r .1) }
 
   pub placed-bytes : (w : List ℕ) → Placed a b i t (k + length w) → Puts (length w) (bytesText w) b i j c → Placed a c j (w ++ t) k
   placed-bytes w p q = let r = on-bytes (p .put) w (omega (arith, p .room)) q in record { put = r .0; room = omega (arith, p .room, r .1) }

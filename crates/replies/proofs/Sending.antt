@@ -1,7 +1,7 @@
 -- An answer put into a list from its end to its front, field by field. Assumes nothing.
 use Rattle.basis.proofs.Prelude.{_∙_, _≡_, refl, sym, _*_, _+_, _-_, _≤_, ℕ, List, [], _++_, _∷_, append-nil, drop, drop-of-length-le, length, length-append, length-drop, length-take, take, take-append-drop, drop-at, take-at, length-take-le, take-all, min-le-left, arith, le-leb}
 use borrow.Rule.Slice.PartMut.{putMid, midOf, post-is}
-use Rattle.fields.{specs.{Fields.{byteText, numberText, numbersText}, Answers.Puts}, proofs.{Puts.{Put, put-on, put-place, byte-put, number-put, room-puts}, Widths.{decimal-wide, numbers-width, numbers-wide}}}
+use Rattle.fields.{specs.{Fields.{numberText, numbersText}, Answers.Puts}, proofs.{Puts.{Put, put-on, put-place, room-puts}, Widths.{decimal-wide, decimal-width, numbers-width, numbers-wide}}}
 use Rattle.replies.specs.{Replies.bytesText, Sending.Sends}
 
 -- nothing is put yet at a list's end
@@ -47,35 +47,20 @@ module _ (out text : List ℕ) (at : ℕ) (h : length text ≤ at) (k : at ≤ l
       = rw (copied-part part e, post-is (at - length text) at out (omega arith), ← same) in
       record { place = rw (le-leb (length text) at h, le-leb at (length out) k) same; places = rw (le-leb (length text) at h, le-leb at (length out) k) whole }
 
--- ---- one field more before what is put
+-- ---- one field more before what is put: a text f, which takes so much room or less
 module _ {a b : List ℕ} {i : ℕ} {t : List ℕ} (p : Put a b i t) where
-  in-list : i ≤ length b
-  in-list = omega (arith, p .sized, p .inside)
-
-  -- a text f that is put before it
-  on : {c : List ℕ} {j : ℕ} (f : List ℕ → List ℕ) → Put b c j (f (drop i b)) → length t ≤ length (f t) → Put a c j (f t)
-  on f q w =
-      let u = rw (p .written) at q in
-      put-on p u (omega (arith, put-place p, put-place u, p .sized))
+  pub on : (room : ℕ) (f : List ℕ → List ℕ) → ((s : List ℕ) → (length s ≤ length (f s)) × (length (f s) ≤ room + length s)) → room ≤ i
+      → {c : List ℕ} {j : ℕ} → Puts room f b i j c → Put a c j (f t) × (i ≤ j + room)
+  on room f width h q =
+      let u = rw (p .written) at (room-puts room f h (omega (arith, p .sized, p .inside)) (width (drop i b) .1) q) in
+      let r = put-on p u (omega (arith, put-place p, put-place u, p .sized, width t .0)) in
+      (r, omega (arith, put-place p, put-place r, width t .1))
 
   pub on-number : {c : List ℕ} {j : ℕ} (n e : ℕ) → 6 ≤ i → Puts 6 (numberText n e) b i j c → Put a c j (numberText n e t) × (i ≤ j + 6)
-  on-number n e h q =
-      let s = number-put in-list n e h q in
-      (on (numberText n e) (s .0) (omega (arith, decimal-wide n (e ∷ t))), s .1)
-
-  pub on-byte : {c : List ℕ} {j : ℕ} (x : ℕ) → 1 ≤ i → Puts 1 (byteText x) b i j c → Put a c j (x ∷ t) × (i ≡ j + 1)
-  on-byte x h q =
-      let s = byte-put in-list x h q in
-      (on (byteText x) (s .0) (omega arith), s .1)
+  on-number n e h q = on 6 (numberText n e) (λ s. (omega (arith, decimal-wide n (e ∷ s)), omega (arith, decimal-width n (e ∷ s)))) h q
 
   pub on-numbers : {c : List ℕ} {j : ℕ} (ns : List ℕ) → 6 * length ns ≤ i → Puts (6 * length ns) (numbersText ns) b i j c → Put a c j (numbersText ns t) × (i ≤ j + 6 * length ns)
-  on-numbers ns h q =
-      let s = room-puts (6 * length ns) (numbersText ns) h in-list (numbers-width ns (drop i b)) q in
-      let r = on (numbersText ns) s (numbers-wide ns t) in
-      (r, omega (arith, put-place p, put-place r, numbers-width ns t))
+  on-numbers ns h q = on (6 * length ns) (numbersText ns) (λ s. (numbers-wide ns s, numbers-width ns s)) h q
 
-  pub on-bytes : {c : List ℕ} {j : ℕ} (w : List ℕ) → length w ≤ i → Puts (length w) (bytesText w) b i j c → Put a c j (w ++ t) × (i ≡ j + length w)
-  on-bytes w h q =
-      let s = room-puts (length w) (bytesText w) h in-list (omega (arith, length-append w (drop i b))) q in
-      let r = on (bytesText w) s (omega (arith, length-append w t)) in
-      (r, omega (arith, put-place p, put-place r, length-append w t))
+  pub on-bytes : {c : List ℕ} {j : ℕ} (w : List ℕ) → length w ≤ i → Puts (length w) (bytesText w) b i j c → Put a c j (w ++ t) × (i ≤ j + length w)
+  on-bytes w h q = on (length w) (bytesText w) (λ s. (omega (arith, length-append w s), omega (arith, length-append w s))) h q

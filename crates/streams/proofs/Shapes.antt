@@ -17,13 +17,10 @@ line-on k (b ∷ s) t h =
     rw (h .0) (ap (λ (l : List ℕ). cutFrom (inLine l) (s ++ t)) (kept-take 65537 k b) ∙ rw append-assoc at (line-on (k ++ b ∷ []) s t (h .1)))
 
 -- bytes of a text, all that are wanted
-text-on : (line q p t : List ℕ) (n : ℕ) → length p ≡ n
-    → onward (settled line (take 65536 q) n) (λ x. cutFrom x (p ++ t)) ≡ record { line = line; payload = take 65536 (q ++ p) } ∷ cut t
+text-on : (line q p t : List ℕ) → onward (settled line (take 65536 q) (length p)) (λ x. cutFrom x (p ++ t)) ≡ record { line = line; payload = take 65536 (q ++ p) } ∷ cut t
 unfolding cutFrom feed onward settled
-text-on line q [] t zero e = rw append-nil
-text-on line q [] t (suc n) e = absurd (omega arith)
-text-on line q (b ∷ p) t zero e = absurd (omega arith)
-text-on line q (b ∷ p) t (suc n) e = rw (kept-take 65536 q b, text-on line (q ++ b ∷ []) p t n (omega arith), append-assoc)
+text-on line q [] t = rw append-nil
+text-on line q (b ∷ p) t = rw (kept-take 65536 q b, text-on line (q ++ b ∷ []) p t, append-assoc)
 
 -- fewer than are wanted
 text-short : (line q p : List ℕ) (n : ℕ) → length p < n → onward (settled line q n) (λ x. cutFrom x p) ≡ []
@@ -37,7 +34,7 @@ pub cut-request : (l p t : List ℕ) → Plain l → length p ≡ wants (take 65
     → cut (l ++ 10 ∷ (p ++ t)) ≡ record { line = take 65537 (l ++ 10 ∷ []); payload = take 65536 p } ∷ cut t
 unfolding cutFrom feed lineFed onward
 cut-request l p t h e =
-    line-on [] l (10 ∷ (p ++ t)) h ∙ rw (kept-take 65537 l 10) (text-on (take 65537 (l ++ 10 ∷ [])) [] p t _ e)
+    line-on [] l (10 ∷ (p ++ t)) h ∙ rw (kept-take 65537 l 10, ← e) (text-on (take 65537 (l ++ 10 ∷ [])) [] p t)
 
 -- A LINE THAT IS NOT WHOLE is no request
 pub cut-line : (l : List ℕ) → Plain l → cut l ≡ []
