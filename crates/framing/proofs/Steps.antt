@@ -1,6 +1,6 @@
 -- The laws that the code follows: a byte put into its place, a byte of a line, a byte of a text. Assumes nothing.
-use Rattle.basis.proofs.Prelude.{Bool, cond, false, true, _≡_, sym, _∙_, refl, _+_, _-_, _<_, _≤_, suc, ℕ, List, [], _++_, _∷_, drop, drop-of-length-le, getD, length, length-append, set, take, drop-cons, drop-set-lt, drop-drop, length-take-le, take-all, take-append-seam, take-length, take-suc-set, add-one, arith, eq-eqb, ne-eqb}
-use Rattle.streams.specs.{declared.{Frame.Frame, Framed.{Framed, the-variants.{Whole, Part}}}, Stream.{Partial, inLine, inText, kept, wants, settled, lineFed, feed}, Advancing.{Progress, going, done, sentOf, through, next, after, partOf, partialOf, progressOf, Kept, Advances}}
+use Rattle.basis.proofs.Prelude.{Bool, not, not-false, not-true, false, true, _≡_, sym, _∙_, refl, _+_, _-_, _<_, _≤_, suc, ℕ, List, [], _++_, _∷_, drop, drop-of-length-le, getD, length, length-append, set, take, drop-cons, drop-set-lt, drop-drop, length-take-le, take-all, take-append-seam, take-length, take-suc-set, add-one, arith, eq-eqb, ne-eqb}
+use Rattle.streams.specs.{declared.{Advanced.Advanced, Frame.Frame, Framed.{Framed, the-variants.{Whole, Part}}}, Stream.{Partial, inLine, inText, kept, wants, settled, lineFed, feed}, Advancing.{Progress, going, done, sentOf, through, next, after, partOf, partialOf, progressOf, Kept, Advances, ready, advancedOf, refusedFrame, HostAdvances}}
 use Rattle.framing.specs.{declared.Taken.Taken, Contracts.{Puts, PlaceIn, takenOf, TakesLine, TakesText}}
 
 -- ---- A byte put into its place
@@ -90,10 +90,19 @@ module _ (f : Frame) {a line : List ℕ} (payload : List ℕ) {from n start : �
     pub part-goes : t .whole ≡ false → going (inLine (take (t .line) line′)) ≡ next (partialOf f line payload) (drop from a)
     part-goes e = rw e at line-goes
 
--- ---- What a test chooses
+-- ---- What a host is given, by the test b
 
-pub chosen : {A : Type 0} (B : Type 0) {b t : Bool} → b ≡ t → b ≡ true → A → cond t A B
-chosen B e h x = rw (sym e ∙ h) x
+module _ (f : Frame) (a : List ℕ) (from : ℕ) (line payload : List ℕ) {b : Bool} (is : b ≡ ready f (length a) from) where
+  pub host-refused : not b ≡ true → {r : Advanced} → r ≡ refusedFrame → HostAdvances f a from line payload r line payload
+  host-refused h e = rw (sym is ∙ not-true b h) (record { result = e; line-kept = refl; text-kept = refl })
 
-pub not-chosen : (A : Type 0) {B : Type 0} {b t : Bool} → b ≡ t → b ≡ false → B → cond t A B
-not-chosen A e h x = rw (sym e ∙ h) x
+  module _ (h : not b ≡ false) {line′ payload′ : List ℕ} {x : Framed} (d : Advances f a from line payload x line′ payload′) where
+    host-told : (y : Framed) → x ≡ y → HostAdvances f a from line payload (advancedOf y (length a)) line′ payload′
+    host-told y e = rw (sym is ∙ not-false b h) (record { framed = x; advances = d; result = rw e })
+
+    pub host-whole : (n m at : ℕ) → x ≡ Whole n m at → HostAdvances f a from line payload (record { outcome = 1; line = n; payload = m; wanted = 0; next = at }) line′ payload′
+    host-whole n m at e = host-told (Whole n m at) e
+
+    pub host-part : (g : Frame) → x ≡ Part g
+        → HostAdvances f a from line payload (record { outcome = 0; line = g .line; payload = g .payload; wanted = g .wanted; next = length a }) line′ payload′
+    host-part g e = host-told (Part g) e

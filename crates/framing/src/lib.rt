@@ -3,7 +3,7 @@ ghost use mathlib.Core.Path.{_≡_};
 ghost use Prim.Native.Nat.{_≤_};
 ghost use lib.ListN.{length, take};
 ghost use Rattle.streams.specs.Stream.{wants};
-ghost use Rattle.streams.specs.Advancing.{Fits, Advances, ready, advancedOf, refusedFrame, HostAdvances};
+ghost use Rattle.streams.specs.Advancing.{Fits, Advances, ready, refusedFrame, HostAdvances};
 ghost use Rattle.streams.specs.History.{opened};
 ghost use Rattle.framing.specs.Contracts.{Puts, PlaceIn, TakesLine, TakesText};
 use streams::Advanced;
@@ -182,10 +182,22 @@ fn refused() -> Advanced
     }
 }
 
-// What a host is given.
-fn told(r: Framed, size: usize) -> Advanced
-    ensures { λ t. ⌜ t ≡ advancedOf r size ⌝ }
+// `advance` for a host. The frame of a request of which nothing has come is all zeros.
+#[no_mangle]
+pub extern "C" fn phayaklit_advance(
+    frame: Frame,
+    arrived: &[u8],
+    from: usize,
+    line: &mut [u8; LINE],
+    payload: &mut [u8; TEXT],
+) -> Advanced
+    ensures { λ r. ⌜ HostAdvances frame (now (arrived .entry)) from (now (line .entry)) (now (payload .entry)) r (now (line .exit)) (now (payload .exit)) ⌝ }
 {
+    let size = arrived.len();
+    if !is_ready(frame, size, from) {
+        return refused();
+    }
+    let r = advance(frame, arrived, from, line, payload);
     match r {
         Framed::Whole(n, m, at) => Advanced {
             outcome: 1,
@@ -202,23 +214,4 @@ fn told(r: Framed, size: usize) -> Advanced
             next: size,
         },
     }
-}
-
-// `advance` for a host. The frame of a request of which nothing has come is all zeros.
-#[no_mangle]
-pub extern "C" fn phayaklit_advance(
-    frame: Frame,
-    arrived: &[u8],
-    from: usize,
-    line: &mut [u8; LINE],
-    payload: &mut [u8; TEXT],
-) -> Advanced
-    ensures { λ r. ⌜ HostAdvances frame (now (arrived .entry)) from (now (line .entry)) (now (payload .entry)) r (now (line .exit)) (now (payload .exit)) ⌝ }
-{
-    let size = arrived.len();
-    if is_ready(frame, size, from) {
-        let r = advance(frame, arrived, from, line, payload);
-        return told(r, size);
-    }
-    refused()
 }

@@ -1,6 +1,8 @@
 -- `framing::phayaklit_advance` meets its contract: what `advance` answers, in one struct, or a refusal. Assumes nothing.
-use Rattle.basis.proofs.Prelude.{arith, needs}
-use Rattle.framing.proofs.{Steps.{chosen, not-chosen}, phayaklit_advance.{Statement.statement, Tie.{close, spec}}}
+use Rattle.basis.proofs.Prelude.{needs}
+use Rattle.framing.proofs.{Steps.{host-refused, host-whole, host-part}, phayaklit_advance.{Statement.statement, Tie.{close, spec}}}
 
 pub phayaklit-advance-spec : {M : Type 1} → statement M
-phayaklit-advance-spec = close (spec (λ c κs. search needs) (λ c κs. search needs) (λ c κs. search needs) (λ c. search chosen) (λ c κs. search needs) (λ c. search not-chosen))
+phayaklit-advance-spec = close (spec
+    (λ c κs. search needs) (λ c κs. search needs) (λ c. search host-refused)
+    (λ c κs. search needs) (λ c. search needs) (λ c. search needs) (λ c. search host-whole) (λ c. search host-part))
