@@ -1,5 +1,4 @@
 pub mod Shown
-pub mod Bounds
 pub mod Replying
 pub mod Turns
 pub mod Looking

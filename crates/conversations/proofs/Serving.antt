@@ -1,32 +1,19 @@
 -- A request is served by a look, and by what is done where that tells what it wants; and a room that can be lent. Assumes nothing.
-use Rattle.basis.proofs.Prelude.{_∙_, _≡_, sym, _<_, _≤_, min, ℕ, List, decLe, arith, le-leb, lt-leb}
-use native.Mathlib.Nat.{min-eq-left, min-eq-right}
+use Rattle.basis.proofs.Prelude.{_≡_, refl, _≤_, min, ℕ, List, arith, by-cases, leb, leb-false, leb-true}
 use Rattle.service.specs.{declared.Service.Service, Service.{Blocks, Given}}
 use Rattle.requests.specs.declared.Request.{Request}
 use Rattle.conversations.specs.{declared.{Answered.Answered, Looked.the-variants.{Done, Wants}, Wanted.Wanted}, Answering.{Answers, roomOf, Served, askedIn, beside, Looks}}
 
--- ---- the room that counts
-module _ (n : ℕ) where
-  pub room-same : n ≤ 65536 → roomOf n ≡ n
-  unfolding roomOf
-  room-same h = rw (le-leb n 65536 h)
+-- ---- the room that counts: the less of a room and the largest
+pub room-least : (n : ℕ) {r : ℕ} → r ≡ min n 65536 → r ≡ roomOf n
+unfolding roomOf
+room-least n {r} e = by-cases (λ (x : ℕ). r ≡ x) (leb n 65536) (λ t. omega (arith, leb-true)) (λ t. omega (arith, leb-false))
 
-  pub room-largest : 65536 < n → roomOf n ≡ 65536
-  unfolding roomOf
-  room-largest h = rw (lt-leb n 65536 h)
+pub room-same : (n : ℕ) → n ≤ 65536 → roomOf n ≡ n
+room-same n h = omega (arith, room-least n {r = min n 65536} refl)
 
-  -- the less of a room and the largest
-  pub room-least : {r : ℕ} → r ≡ min n 65536 → r ≡ roomOf n
-  room-least e = elim (decLe n 65536) [
-    | yes m ↦ e ∙ min-eq-left m ∙ sym (room-same m)
-    | no m ↦ let h : 65536 < n = omega arith in e ∙ min-eq-right (omega arith) ∙ sym (room-largest h)
-  ]
-
-  pub room-fits : roomOf n ≤ 65536
-  room-fits = elim (decLe n 65536) [
-    | yes m ↦ omega (arith, room-same m)
-    | no m ↦ omega (arith, room-largest (omega arith))
-  ]
+pub room-fits : (n : ℕ) → roomOf n ≤ 65536
+room-fits n = omega (arith, room-least n {r = min n 65536} refl)
 
 -- ---- a request's bytes: a look, and what is done where that tells what is wanted
 module _ {bs : Blocks} {room : ℕ} {line days numbers text out days′ seen put : List ℕ} (payload : List ℕ) where

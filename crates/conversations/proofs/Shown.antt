@@ -1,7 +1,7 @@
 -- What the lists of a call hold beforehand shows in no answer: only their lengths do. Assumes nothing.
-use Rattle.basis.proofs.Prelude.{_∙_, _≡_, ap, refl, sym, ℕ, List, _++_, Bool, cond, false, true, leb, drop, length, take, take-at}
+use Rattle.basis.proofs.Prelude.{_≡_, ap, refl, ℕ, leb, length, take, take-append-seam, by-test}
 use Rattle.refusal.specs.Table.{accepted, shortBuffer}
-use Rattle.model.specs.{declared.Call.Call, Effects.{State, Request, Answer, After, Effect, refused, done, gives, writes, refuse, settle}, Model.{effectOf, stepOf}}
+use Rattle.model.specs.{declared.Call.Call, Effects.{State, Request, Answer, After, Effect, refused, done, gives, writes, refuse, settle}}
 use Rattle.replies.specs.{declared.Shape.{Shape, the-variants.{Ok, Text, Listed, Several, Ticked}}, Replies.{writtenText, listedText, severalText, tickedText, shapeOf, shapeText, callText}}
 
 -- what is shown of an answer: of its lists as many places as it counts
@@ -21,37 +21,19 @@ pub record Same (x y : After) : Type 0 where
   pub state : x .state ≡ y .state
   pub answer : shown (x .answer) ≡ shown (y .answer)
 
-same-cond : (b : Bool) {x y x′ y′ : After} → Same x x′ → Same y y′ → Same (cond b x y) (cond b x′ y′)
-same-cond true s t = s
-same-cond false s t = t
-
-front : (l a b : List ℕ) → take (length l) (l ++ a) ≡ take (length l) (l ++ b)
-front l a b = take-at l a (length l) refl ∙ sym (take-at l b (length l) refl)
-
-module _ (m : State) (c : Call) (ds ns ns′ ts ts′ : List ℕ) (en : length ns ≡ length ns′) (et : length ts ≡ length ts′) where
-  abbrev q : Request
-  q = record { call = c; days = ds; numbers = ns; text = ts }
-
-  abbrev q′ : Request
-  q′ = record { call = c; days = ds; numbers = ns′; text = ts′ }
-
+-- ANY EFFECT: lent lists of the same lengths, it leaves the same state and shows the same answer
+module _ (m : State) (q q′ : Request) (en : length (q .numbers) ≡ length (q′ .numbers)) (et : length (q .text) ≡ length (q′ .text)) where
   same-refuse : (n : ℕ) (m′ : State) → Same (refuse n m′ q) (refuse n m′ q′)
   same-refuse n m′ = record { state = refl; answer = refl }
 
-  same-settle : (e : Effect) → Same (settle e m q) (settle e m q′)
+  pub same-settle : (e : Effect) → Same (settle e m q) (settle e m q′)
   unfolding settle
   same-settle (refused n) = same-refuse n m
   same-settle (done m′) = same-refuse accepted m′
-  same-settle (gives l k t) = rw en (same-cond (leb (length l) (length ns′))
-      (record { state = refl; answer = rw (front l (drop (length l) ns) (drop (length l) ns′)) })
-      (same-refuse shortBuffer m))
-  same-settle (writes t) = rw et (same-cond (leb (length t) (length ts′))
-      (record { state = refl; answer = rw (front t (drop (length t) ts) (drop (length t) ts′)) })
-      (same-refuse shortBuffer m))
-
-  -- ANY CALL: lent lists of the same lengths, it leaves the same state and shows the same answer
-  pub same-step : (d : Call) → Same (stepOf d m q) (stepOf d m q′)
-  same-step d = same-settle (effectOf d ds m)
+  same-settle (gives l k t) = rw en (by-test (leb (length l) (length (q′ .numbers)))
+      (λ e. rw e (record { state = refl; answer = simp take-append-seam })) (λ e. rw e (same-refuse shortBuffer m)))
+  same-settle (writes t) = rw et (by-test (leb (length t) (length (q′ .text)))
+      (λ e. rw e (record { state = refl; answer = simp take-append-seam })) (λ e. rw e (same-refuse shortBuffer m)))
 
 -- what is the same is answered by the same bytes
 same-shape : (w : Shape) (x y : After) → Same x y → shapeText w (x .answer) ≡ shapeText w (y .answer)

@@ -1,50 +1,69 @@
 -- A text put after others in a list. Assumes nothing.
-use Rattle.basis.proofs.Prelude.{_∙_, _≡_, ap, refl, sym, _+_, _-_, _<_, _≤_, ℕ, List, [], _++_, append-assoc, append-nil, Bool, cond, false, true, leb, drop, drop-of-length-le, length, length-append, take, take-append-drop, take-at, take-length, length-take-le, arith, le-leb, leb-true, lt-leb}
+use Rattle.basis.proofs.Prelude.{_≡_, refl, sym, _+_, _-_, _<_, _≤_, ℕ, List, [], _++_, append-assoc, append-nil, cond, leb, drop, drop-at, drop-drop, drop-of-length-le, length, length-append, length-drop, take, take-all, take-append-drop, take-at, take-length, length-take-le, arith, by-cases, by-test, le-leb, leb-true, lt-leb}
 use borrow.Rule.Slice.PartMut.{midOf, putMid, post-is, mid-len}
 use Rattle.gathering.specs.Gathering.{Appends, Leaves, Appended}
 
--- a list copied over one that is no longer
-pub copied-whole : {src part : List ℕ} (list : List ℕ) → length list ≤ length src → part ≡ take (length src) src ++ drop (length src) list → part ≡ src
-copied-whole {src} list few copy = copy ∙ rw (take-length src, drop-of-length-le list {i = length src} few) (append-nil src)
+-- a text that is copied over as many places is put there
+pub copied : (list from : List ℕ) {src part : List ℕ} (n at : ℕ) {end : ℕ} → at ≤ length from → n + (length from - at) ≤ length list
+    → end ≡ n + (length from - at) → src ≡ take (length from - at) (drop at from)
+    → part ≡ take (length src) src ++ drop (length src) (midOf n (end - n) list)
+    → Appends (drop at from) list n end (putMid n (end - n) list part)
+copied list from {src} {part} n at {end} h fits place same copy =
+    let long = length-drop at from in
+    let text : src ≡ drop at from = rw same (take-all (length from - at) (drop at from) (omega arith)) in
+    let few = mid-len n end list (omega arith) in
+    let over = drop-of-length-le (midOf n (end - n) list) {i = length src} (rw text (omega arith)) in
+    let whole : part ≡ drop at from = rw (copy, take-length src, over, append-nil) text in
+    record { place = omega arith; places = rw (whole, post-is n end list (omega arith)) }
 
--- a text that is copied to the places from n to `end` is put there
-pub copied : {list text src part : List ℕ} {n end : ℕ} → end ≡ n + length text → end ≤ length list → src ≡ text
-    → part ≡ take (length src) src ++ drop (length src) (midOf n (end - n) list) → Appends text list n end (putMid n (end - n) list part)
-copied {list} {text} {src} {part} {n} {end} place fits same copy =
-    let long : length src ≡ length text = ap length same in
-    let whole : part ≡ text = copied-whole (midOf n (end - n) list) (omega (arith, mid-len n end list fits)) copy ∙ same in
-    record { place = place; places = rw (whole, post-is n end list (omega arith)) }
+module _ (list : List ℕ) (n : ℕ) (from : List ℕ) (at : ℕ) where
+  -- a text of no bytes is put anywhere, and nothing is written
+  pub none-appended : length from < at → Appended (drop at from) list n n list
+  none-appended h = rw (drop-of-length-le from {i = at} (omega arith)) (by-test (leb (n + 0) (length list))
+      (λ e. rw e (record { place = omega arith; places = sym (take-append-drop n list) }))
+      (λ e. rw e (record { place = refl; places = refl })))
 
--- a text of no bytes is put anywhere, and nothing is written
-pub none-appended : (list : List ℕ) (n : ℕ) (from : List ℕ) (at : ℕ) → length from < at → Appended (drop at from) list n n list
-none-appended list n from at h = rw (drop-of-length-le from {i = at} (omega arith)) (go (leb (n + 0) (length list)))
-  where
-    go : (b : Bool) → cond b (Appends [] list n n list) (Leaves list n n list)
-    go true = record { place = omega arith; places = sym (take-append-drop n list) }
-    go false = record { place = refl; places = refl }
+  -- where there is no room for it nothing is
+  pub full-appended : length list < n → Appended (drop at from) list n n list
+  full-appended h = rw (lt-leb (n + length (drop at from)) (length list) (omega arith)) (record { place = refl; places = refl })
 
--- where there is no room
-pub full-appended : (list : List ℕ) (n : ℕ) (text : List ℕ) → length list < n + length text → Appended text list n n list
-full-appended list n text h = rw (lt-leb (n + length text) (length list) h) (record { place = refl; places = refl })
+  pub short-appended : n ≤ length list → length list - n < length from - at → Appended (drop at from) list n n list
+  short-appended h k =
+      rw (lt-leb (n + length (drop at from)) (length list) (simp length-drop (omega arith))) (record { place = refl; places = refl })
 
--- where there is
-pub room-appended : {text list : List ℕ} {n r : ℕ} {list′ : List ℕ} → Appends text list n r list′ → n + length text ≤ length list → Appended text list n r list′
-room-appended {text} {list} {n} a h = rw (le-leb (n + length text) (length list) h) a
+  -- where there is, it is put
+  pub room-appended : {r : ℕ} {list′ : List ℕ} → n ≤ length list → length from - at ≤ length list - n
+      → Appends (drop at from) list n r list′ → Appended (drop at from) list n r list′
+  room-appended h k a = rw (le-leb (n + length (drop at from)) (length list) (simp length-drop (omega arith))) a
 
--- and there the text is put
-pub appended-room : (text list : List ℕ) (n r : ℕ) (list′ : List ℕ) → Appended text list n r list′ → n + length text ≤ length list → Appends text list n r list′
+module _ {text list : List ℕ} {n r : ℕ} {list′ : List ℕ} (h : n ≤ length list) (a : Appends text list n r list′) where
+  front : length (take n list ++ text) ≡ r
+  front = simp (length-append, length-take-le n list h) (omega (arith, a .place))
+
+  -- WHAT IS GATHERED, then, is what was and the text, and the places after it are as they were
+  pub gathered : take r list′ ≡ take n list ++ text
+  gathered = rw (a .places, ← append-assoc (take n list) text (drop r list)) (take-at (take n list ++ text) (drop r list) r front)
+
+  kept : drop r list′ ≡ drop r list
+  kept = rw (a .places, ← append-assoc (take n list) text (drop r list)) (drop-at (take n list ++ text) (drop r list) r front)
+
+  pub sized : r ≤ length list → length list′ ≡ length list
+  sized k = rw (← take-append-drop r list′, gathered, kept, length-append, front, length-drop) (omega arith)
+
+  -- another text after it: both are put as one
+  pub appends-on : {more list″ : List ℕ} {s : ℕ} → r ≤ length list′ → Appends more list′ r s list″ → Appends (text ++ more) list n s list″
+  appends-on {more} {list″} {s} k b =
+      let back : drop s list′ ≡ drop s list = rw (b .place, ← drop-drop (length more) r list′, ← drop-drop (length more) r list, kept) in
+      let long : s ≡ n + length (text ++ more) = simp length-append (omega (arith, a .place, b .place)) in
+      record { place = long; places = rw (b .places, gathered, back, append-assoc, append-assoc) }
+
+-- where there is room, it is put
+pub appended-room : (text list : List ℕ) (n r : ℕ) (list′ : List ℕ) → Appended text list n r list′ → n + length text ≤ length list
+    → Appends text list n r list′
 appended-room text list n r list′ a h = rw (le-leb (n + length text) (length list) h) at a
 
--- WHAT IS GATHERED, then, is what was and the text
-pub gathered : {text list : List ℕ} {n r : ℕ} {list′ : List ℕ} → n ≤ length list → Appends text list n r list′ → take r list′ ≡ take n list ++ text
-gathered {text} {list} {n} {r} h a =
-    let long : length (take n list ++ text) ≡ r = omega (arith, a .place, length-append (take n list) text, length-take-le n list h) in
-    rw (a .places, ← append-assoc (take n list) text (drop r list)) (take-at (take n list ++ text) (drop r list) r long)
-
--- where more places are taken afterwards, there was room
+-- where more places are taken afterwards, there was
 pub grown : (text list : List ℕ) (n r : ℕ) (list′ : List ℕ) → Appended text list n r list′ → n < r → take r list′ ≡ take n list ++ text
-grown text list n r list′ a h = go (leb (n + length text) (length list)) refl a
-  where
-    go : (b : Bool) → leb (n + length text) (length list) ≡ b → cond b (Appends text list n r list′) (Leaves list n r list′) → take r list′ ≡ take n list ++ text
-    go true e x = gathered (omega (arith, leb-true (n + length text) (length list) e)) x
-    go false e x = absurd (omega (arith, h, x .place))
+grown text list n r list′ a h = by-test (leb (n + length text) (length list))
+    (λ e. gathered (omega (arith, leb-true)) (rw e at a))
+    (λ e. let no = rw e at a in absurd (omega arith))

@@ -40,7 +40,7 @@ fn write_into(spells: [Spell; 1024], count: usize, list: &mut [u8], room: usize,
     if list.len() < room {
         return;
     }
-    let w = register_write::write(spells, count, &mut list[..room]);
+    let w = register_write::write(spells, count, &mut list[0..room]);
     io::write_all(STDOUT_FILENO, b" |");
     next_number(w.refusal as u64);
     next_number(w.length as u64);
@@ -104,14 +104,14 @@ fn after(tail: &[u8]) {
     let w = register_write::write(many(), 1024, &mut text);
     let end = gathering::append(&mut text, w.length, tail, 0);
     if end <= 40000 {
-        show(&text[..end]);
+        show(&text[0..end]);
     }
 }
 
 // Shows a text of 65,536 bytes, and one of a byte more.
 fn long(text: &[u8]) {
     if 65536 <= text.len() {
-        show(&text[..65536]);
+        show(&text[0..65536]);
     }
     show(text);
 }

@@ -23,12 +23,12 @@ const REMARKS: usize = 131072;
 fn say(said: Said) -> bool {
     let mut line = [0u8; LINE];
     let n = repair_lines::put(&mut line, said);
-    output::write(STDERR_FILENO, &line[..n], b"repair: standard error")
+    output::write(STDERR_FILENO, &line[0..n], b"repair: standard error")
 }
 
 // The dropped lines, each with its number, as long as they can be said.
 fn say_dropped(remarks: &[u32], dropped: usize) -> bool
-    requires { ⌜ (dropped ≤ 65536) × (2 * dropped ≤ length (now remarks)) ⌝ }
+    requires { ⌜ 2 * dropped ≤ length (now remarks) ⌝ }
 {
     let mut i = 0;
     while i < dropped {
@@ -51,7 +51,7 @@ fn repair(text: &[u8]) {
         return;
     }
     let n = r.length;
-    if !output::write(STDOUT_FILENO, &out[..n], b"repair: standard output") {
+    if !output::write(STDOUT_FILENO, &out[0..n], b"repair: standard output") {
         return;
     }
     if !say_dropped(&remarks, r.dropped) {
@@ -68,6 +68,6 @@ fn main() {
         b"repair: standard input",
     );
     if let Input::Read(n) = got {
-        repair(&text[..n]);
+        repair(&text[0..n]);
     }
 }

@@ -296,7 +296,7 @@ fn serve_file(path: &[u8]) {
     match got {
         Input::Read(n) => {
             libc::close(fd);
-            serve_text(path, &text[..n]);
+            serve_text(path, &text[0..n]);
         }
         Input::Failed => report(path),
     }

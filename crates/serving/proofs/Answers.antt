@@ -1,11 +1,10 @@
--- An answer gathered, and a request seen and served. Assumes nothing.
+-- An answer gathered, and a request seen. Assumes nothing.
 use Rattle.basis.proofs.Prelude.{_≡_, _<_, ℕ, List, inl, inr, true, ltb, ltb-true, take}
 use Rattle.gathering.{specs.Gathering.Appended, proofs.Gathering.grown}
-use Rattle.service.specs.{declared.Service.Service, Service.Blocks}
-use Rattle.conversations.{specs.{declared.{Answered.Answered, Looked.Looked, Wanted.Wanted}, Answering.{Answers, Looks, askedIn, roomOf}}, proofs.Serving.carried-served}
-use Rattle.serving.specs.{declared.Incoming.Incoming, Serving.{Gathers, Takes, Sees, Finishes}}
+use Rattle.service.specs.Service.{Blocks}
+use Rattle.conversations.specs.{declared.Looked.Looked, Answering.Looks}
+use Rattle.serving.specs.{declared.Incoming.Incoming, Serving.{Gathers, Takes, Sees}}
 
--- ---- Answers gathered
 module _ (answer gathered : List ℕ) (held : ℕ) where
   pub gathers-after : (n : ℕ) (gathered′ : List ℕ) → Appended answer gathered held n gathered′ → held < n
       → Gathers answer gathered held (record { held = n; «open» = true }) gathered′
@@ -16,16 +15,12 @@ module _ (answer gathered : List ℕ) (held : ℕ) where
       → Gathers answer gathered held (record { held = n; «open» = ltb 0 n }) gathered′
   gathers-alone kept n gathered′ a = λ e. inr (grown answer kept 0 n gathered′ a (ltb-true 0 n e))
 
--- ---- A request seen
-module _ {arrived arrived′ line′ payload′ : List ℕ} {start end : ℕ} {q : Incoming} (t : Takes arrived start end q arrived′ line′ payload′)
-    (bs : Blocks) (room : ℕ) (days numbers text out days′ numbers′ out′ : List ℕ) (l : Looked) where
-  pub sees : (q .whole ≡ true → Looks bs room (take (q .line) line′) days numbers text out l days′ numbers′ out′)
-      → Sees bs room arrived start end days numbers text out
-      (record { line = q .line; payload = q .payload; whole = q .whole; start = q .start; end = q .end; held = q .held; looked = l }) arrived′ line′ payload′ days′ numbers′ out′
-  sees looks = record { takes = t; looks = looks }
-
--- ---- and served
-pub finishes : {sv : Service} {bs : Blocks} {room : ℕ} {w : Wanted} (payload : List ℕ) {days numbers text out : List ℕ} {r : Answered} {bs′ : Blocks} {numbers′ text′ out′ : List ℕ}
-    → Answers sv bs (roomOf room) (askedIn w days) payload numbers text out r bs′ numbers′ text′ out′
-    → Finishes sv bs room w payload days numbers text out r bs′ numbers′ text′ out′
-finishes payload a = λ line before places put looks. carried-served payload looks a
+-- a request that is taken, with a look at its line
+pub sees : {arrived arrived′ line′ payload′ : List ℕ} {start end : ℕ} {q : Incoming} {bs : Blocks} {room : ℕ}
+    {days numbers text out days′ numbers′ out′ : List ℕ} {l : Looked}
+    → Takes arrived start end q arrived′ line′ payload′
+    → (q .whole ≡ true → Looks bs room (take (q .line) line′) days numbers text out l days′ numbers′ out′)
+    → Sees bs room arrived start end days numbers text out
+    (record { line = q .line; payload = q .payload; whole = q .whole; start = q .start; end = q .end; held = q .held; looked = l })
+    arrived′ line′ payload′ days′ numbers′ out′
+sees t looks = record { takes = t; looks = looks }

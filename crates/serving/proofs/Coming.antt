@@ -9,7 +9,8 @@ pub record Coming (s arrived line payload : List ℕ) (f : Frame) (at to : ℕ) 
   pub bytes : List ℕ
   pub is : next (partialOf f line payload) (between arrived at to) ≡ next begun (s ++ bytes)
 
-pub comes : {arrived line payload : List ℕ} {f : Frame} {start end : ℕ} → f ≡ opened → end ≤ 65536 → Coming (between arrived start end) arrived line payload f start end
+pub comes : {arrived line payload : List ℕ} {f : Frame} {start end : ℕ} → f ≡ opened → end ≤ 65536
+    → Coming (between arrived start end) arrived line payload f start end
 unfolding partOf
 comes e h = record { end-in = h; bytes = []; is = rw (e, append-nil) }
 
@@ -25,7 +26,8 @@ module _ {s arrived line payload : List ℕ} {f : Frame} {at to : ℕ} (c : Comi
   }
 
   -- it is whole
-  pub is-whole : {n m place held : ℕ} {line′ payload′ : List ℕ} → Advances f (take to arrived) at line payload (Whole n m place) line′ payload′
+  pub is-whole : {n m place held : ℕ} {line′ payload′ : List ℕ}
+      → Advances f (take to arrived) at line payload (Whole n m place) line′ payload′
       → {arrived₀ : List ℕ} {start end : ℕ} → s ≡ between arrived₀ start end
       → Takes arrived₀ start end (record { line = n; payload = m; whole = true; start = place; end = to; held = held }) arrived line′ payload′
   is-whole a e = record {

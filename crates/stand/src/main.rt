@@ -55,6 +55,6 @@ fn main() {
         b"stand: standard input",
     );
     if let Input::Read(n) = got {
-        stand(&text[..n]);
+        stand(&text[0..n]);
     }
 }

@@ -1,4 +1,3 @@
-pub mod Asked
 pub mod Cases
 pub mod Lines
 pub mod Parts

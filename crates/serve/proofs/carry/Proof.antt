@@ -1,15 +1,7 @@
 -- `serve::carry` meets its contract. Assumes nothing.
-use Rattle.basis.proofs.Prelude.{sym, length-take-le, needs}
-use Rattle.serving.proofs.Answers.{finishes}
-use Rattle.serve.proofs.carry.{Statement.statement, Tie.{Need-slice-aggregate-carry, Need-returns, close, spec}}
-
-slice-aggregate-carry : Need-slice-aggregate-carry
-slice-aggregate-carry c =
-    let start = c .before .before .before in
-    sym (length-take-le (start .args .m) (start .args .payload .now) (start .pre .1))
-
-returns : Need-returns
-returns c = (c .carry .ensures .turned .given, finishes _ (c .carry .ensures))
+use Rattle.basis.proofs.Prelude.{sym, length-take-le, arith, needs}
+use Rattle.conversations.proofs.Serving.{carried-served}
+use Rattle.serve.proofs.carry.{Statement.statement, Tie.{close, spec}}
 
 pub carry-spec : {M : Type 1} → statement M
-carry-spec = close (spec slice-aggregate-carry (λ c κs. search needs) returns)
+carry-spec = close (spec (λ c. sym (length-take-le _ _ (omega arith))) (λ c κs. search needs) (λ c. (search, search carried-served)))

@@ -1,7 +1,7 @@
 -- `serve::converse` is safe and ends. The invariant: service and blocks are what the calls gave. The measure is the turns that are left. Assumes nothing.
 use Rattle.basis.proofs.Prelude.{⊎-elim, arith, needs}
 use Rattle.service.specs.Service.{blocks, Given}
-use Rattle.serve.proofs.converse.{Statement.statement, Tie.{InvT-loop, MeasureT-loop, Need-see-requires, Need-carry-requires, Need-sub-turns, Need-loop-less, Need-loop-again, close, spec}}
+use Rattle.serve.proofs.converse.{Statement.statement, Tie.{InvT-loop, MeasureT-loop, Need-loop-again, close, spec}}
 
 abbrev Inv-loop : InvT-loop
 Inv-loop index₀ arrived₀ line₀ payload₀ days₀ numbers₀ text₀ out₀ gathered₀ s₀ room₀ start₀ end₀ held₀ turns₀ index arrived line payload days numbers text out gathered s room start end held turns =
@@ -10,21 +10,6 @@ Inv-loop index₀ arrived₀ line₀ payload₀ days₀ numbers₀ text₀ out�
 abbrev μ-loop : MeasureT-loop
 μ-loop index₀ arrived₀ line₀ payload₀ days₀ numbers₀ text₀ out₀ gathered₀ s₀ room₀ start₀ end₀ held₀ turns₀ index arrived line payload days numbers text out gathered s room start end held turns =
     turns
-
-see-requires : Need-see-requires Inv-loop μ-loop
-see-requires c κs = c .before .before .before .before .before .before .before .before .before .before .loop .inv .published
-
-carry-requires : Need-carry-requires Inv-loop μ-loop
-carry-requires c κs =
-    let seen = c .before .before .before .before .before .before .before .before .before .before .before .before in
-    let known = seen .before .before .before .before .before .before .before .before .before .before .before .loop .inv in
-    (known, omega (arith, seen .see .ensures .takes .text-in))
-
-sub-turns : Need-sub-turns Inv-loop μ-loop
-sub-turns c = omega (arith, c .before .before .before .before .before .before .before .before .before .before .before .before .before .before .before .before .before .before .before .loop-test .taken)
-
-loop-less : Need-loop-less Inv-loop μ-loop
-loop-less c = omega (arith, c .before .before .before .before .before .before .before .before .before .before .before .before .before .before .before .before .before .before .before .loop-test .taken)
 
 -- by either way service and blocks are what the calls gave
 loop-again : Need-loop-again Inv-loop μ-loop
@@ -36,14 +21,14 @@ loop-again c =
 
 pub converse-spec : {M : Type 1} → statement M
 converse-spec = close (spec
-    Inv-loop
-    μ-loop
-    (λ c. search needs)
-    see-requires
+    Inv-loop μ-loop (λ c. search needs)
+    (λ c κs. c .before .before .before .before .before .before .before .before .before .before .loop .inv .published)
     (λ c. search needs) (λ c. search needs) (λ c. search needs)
-    carry-requires
+    (λ c κs.
+    let seen = c .before .before .before .before .before .before .before .before .before .before .before .before in
+    let known = seen .before .before .before .before .before .before .before .before .before .before .before .loop .inv in
+    (known, omega (arith, seen .see .ensures .takes .text-in)))
     (λ c κs. search needs) (λ c. search needs)
-    sub-turns
-    loop-less
-    loop-again
-    (λ c. search needs))
+    (λ c. omega (arith, c .before .before .before .before .before .before .before .before .before .before .before .before .before .before .before .before .before .before .before .loop-test .taken))
+    (λ c. omega (arith, c .before .before .before .before .before .before .before .before .before .before .before .before .before .before .before .before .before .before .before .loop-test .taken))
+    loop-again (λ c. search needs))
