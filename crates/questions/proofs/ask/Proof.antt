@@ -1,6 +1,5 @@
 -- `questions::ask` meets its contract: each question's own postcondition is that of `ask`. Assumes nothing.
-use Rattle.basis.proofs.Prelude.{needs}
-use Rattle.questions.proofs.{Asking.{as-question, as-any-days}, ask.{Statement.statement, Tie.{close, spec}}}
+use Rattle.questions.proofs.{Names.needs, Asking.{as-question, as-any-days}, ask.{Statement.statement, Tie.{close, spec}}}
 
 pub ask-spec : {M : Type 1} → statement M
 ask-spec = close (spec
