@@ -1,16 +1,15 @@
 -- The index built of no rows, and that of a standing list's columns. Assumes nothing.
-pub use Rattle.basis.proofs.Prelude.{sym, not, false, needs, not-true, not-false, _∙_, _≡_, refl, ℕ, List, [], map, Bool, true, drop, length, length-map, take, take-all, take-at, arith, le-leb, _≤_}
+pub use Rattle.basis.proofs.Prelude.{needs, _∙_, _≡_, refl, ℕ, List, [], map, Bool, true, drop, length, length-map, take, take-all, take-at, arith, le-leb, _≤_}
 use Rattle.spell.specs.{declared.Spell.Spell, Listing.Sound}
 use Rattle.stabbing.specs.Index.{rowsAfter}
 use Rattle.stabbing_index.specs.Build.{publishable, Builds}
 use Rattle.row_order.specs.Rows.{arrangedColumn}
 use Rattle.publishing.specs.Lays.{Lays}
-use Rattle.refusal.specs.Table.{accepted, noSuchRule}
-use Rattle.rules.{specs.Rules.{cut, isRule}, proofs.Rules.cut-sound}
+use Rattle.rules.{specs.Rules.cut, proofs.Rules.cut-sound}
 use Rattle.model.{specs.Publishing.publishedOf, proofs.Publishing.{each-cut, distinct-cut, published-length, published-orderly}}
 use Rattle.spell_places.specs.List.{columnOf, LaidOut}
 pub use Rattle.standing.specs.{declared.Standing.Standing, Standing.{Wf, listOf}}
-use Rattle.published_index.{specs.Index.{indexOf, ruleRefusal, indexBy}, proofs.{Rows.rows-ok, Arranged.{Holds, holds, short-rows, column-is}}}
+use Rattle.published_index.{specs.Index.indexOf, proofs.{Rows.rows-ok, Arranged.{Holds, holds, short-rows, column-is}}}
 
 -- the index built of no rows
 pub no-rows : {x entry exit : List ℕ} {r : Bool} → Builds x x x 0 entry r exit → exit ≡ indexOf []
@@ -45,11 +44,3 @@ module _ {st : Standing} (w : Wf st) (rule : ℕ) {n : ℕ} {ns cs fs ls ns′ c
 
   pub indexed : ix′ ≡ indexOf (publishedOf rule (listOf st))
   indexed = b .block ∙ rw (right, column (λ s. s .number) ns (laid .number), column (λ s. s .first) fs (laid .first), column (λ s. s .last) ls (laid .last))
-
--- by whether there is such a rule: 14, and the index stays; or the index is that of the list as the rule publishes it
-module _ (rule : ℕ) (l : List Spell) (ix : List ℕ) {b : Bool} (tested : b ≡ isRule rule) where
-  pub no-rule : not b ≡ true → (noSuchRule ≡ ruleRefusal rule) × (ix ≡ indexBy rule l ix)
-  no-rule z = rw (sym tested ∙ not-true b z) (refl, refl)
-
-  pub by-rule : not b ≡ false → {ix′ : List ℕ} → ix′ ≡ indexOf (publishedOf rule l) → (accepted ≡ ruleRefusal rule) × (ix′ ≡ indexBy rule l ix)
-  by-rule z e = rw (sym tested ∙ not-false b z) (refl, e)

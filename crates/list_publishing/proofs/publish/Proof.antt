@@ -1,5 +1,6 @@
 -- `list_publishing::publish` meets its contract: the rule is tested, and the index laid. Assumes nothing.
-use Rattle.list_publishing.proofs.{Laying.{needs, listOf, no-rule, by-rule}, publish.{Statement.statement, Tie.{close, spec}}}
+use Rattle.published_index.proofs.Ruled.{no-rule, by-rule}
+use Rattle.list_publishing.proofs.{Laying.{needs, listOf}, publish.{Statement.statement, Tie.{close, spec}}}
 
 pub publish-spec : {M : Type 1} → statement M
 publish-spec = close (spec (λ c. search needs)
