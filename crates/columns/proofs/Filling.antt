@@ -1,5 +1,5 @@
 -- The positions, and a list that is filled place by place. Assumes nothing.
-use Rattle.basis.proofs.Prelude.{zero-add, needs, length-map, map-append, ℕ, zero, suc, _+_, _≤_, _<_, arith, add-one, _≡_, refl, ap, _∙_, List, [], _∷_, _++_, map, length, getD, take, drop, set, length-set, drop-cons, set-at, append-snoc, take-at}
+use Rattle.basis.proofs.Prelude.{zero-add, needs, length-map, map-append, ℕ, zero, suc, _+_, _≤_, _<_, arith, add-one, _≡_, refl, ap, sym, _∙_, List, [], _∷_, _++_, map, length, getD, take, drop, set, length-set, drop-cons, set-at, append-snoc, take-at, take-suc}
 use Rattle.orders.proofs.Each.{Each}
 use Rattle.columns.specs.Columns.{positions, filled}
 
@@ -21,27 +21,21 @@ unfolding positions
 positions-more k zero = ap (λ (z : ℕ). z ∷ []) (omega arith)
 positions-more k (suc n) = ap (λ (r : List ℕ). k ∷ r) (positions-more (suc k) n ∙ ap (λ (z : ℕ). positions (suc k) n ++ (z ∷ [])) (omega arith))
 
-pub positions-from : (j k n : ℕ) → j ≤ k → Each (λ p. j ≤ p) (positions k n)
+positions-each : (P : ℕ → Type 0) (k n : ℕ) → ((p : ℕ) → k ≤ p → p < k + n → P p) → Each P (positions k n)
 unfolding positions
-positions-from j k zero h = tt
-positions-from j k (suc n) h = (h, positions-from j (suc k) n (omega arith))
+positions-each P k zero f = tt
+positions-each P k (suc n) f = (f k (omega arith) (omega arith), positions-each P (suc k) n (λ p a b. f p (omega arith) (omega arith)))
 
-positions-to : (k n m : ℕ) → k + n ≤ m → Each (λ p. p < m) (positions k n)
-unfolding positions
-positions-to k zero m h = tt
-positions-to k (suc n) m h = (omega arith, positions-to (suc k) n m (omega arith))
+pub positions-from : (j k n : ℕ) → j ≤ k → Each (λ p. j ≤ p) (positions k n)
+positions-from j k n h = positions-each _ k n (λ p a b. omega arith)
 
 pub positions-below : (n : ℕ) → Each (λ p. p < n) (positions 0 n)
-positions-below n = positions-to 0 n n (omega arith)
+positions-below n = positions-each _ 0 n (λ p a b. omega arith)
 
 -- a list read at its first positions
 pub reads : {A : Type 0} (d : A) (l : List A) (n : ℕ) → n ≤ length l → map (λ i. getD l i d) (positions 0 n) ≡ take n l
-unfolding positions
-reads {A} d l n h = go l 0 n (omega arith)
-  where
-    go : (l : List A) (k n : ℕ) → k + n ≤ length l → map (λ i. getD l i d) (positions k n) ≡ take n (drop k l)
-    go l k zero h = refl
-    go l k (suc n) h = rw (drop-cons l k d (omega arith)) (ap (λ (r : List A). getD l k d ∷ r) (go l (suc k) n (omega arith)))
+reads d l zero h = unfold positions in refl
+reads d l (suc n) h = rw (positions-more 0 n, map-append, zero-add, reads d l n (omega arith)) (sym (take-suc l n d h))
 
 -- ---- A list filled
 
@@ -51,8 +45,7 @@ module _ (f : ℕ → ℕ) where
 
   filled-on : (i : ℕ) (l : List ℕ) → i < length l → set (filled f i l) i (f i) ≡ filled f (i + 1) l
   filled-on i l h = unfold filled in
-      rw (add-one i, drop-cons l i 0 h, positions-more 0 i, map-append f (positions 0 i) ((0 + i) ∷ []), zero-add i, append-snoc (map f (positions 0 i)) (f i) (drop (suc i) l))
-      (set-at (map f (positions 0 i)) (getD l i 0) (drop (suc i) l) (f i) i (front-length i))
+      rw (add-one i, drop-cons l i 0 h, positions-more 0 i, map-append, zero-add, append-snoc) (set-at (map f (positions 0 i)) _ _ _ i (front-length i))
 
   pub filled-take : (n : ℕ) (l : List ℕ) → take n (filled f n l) ≡ map f (positions 0 n)
   filled-take n l = unfold filled in take-at (map f (positions 0 n)) (drop n l) n (front-length n)

@@ -1,33 +1,13 @@
 -- Whether every ticked day is on the calendar, by the lowest and the highest; and the ticked days put one by one into the first places of a
 -- list. Assumes nothing.
-use Rattle.basis.proofs.Prelude.{_≡_, refl, sym, ap, _∙_, ℕ, zero, suc, _+_, _-_, _/_, _≤_, _<_, List, List·Memᴰ, List·Memᴰ·head, List·Memᴰ·tail, List·Memᴰ·cases-cons, [], _∷_, _++_, Bool, true, false, not, _&&_, inl, inr, leb, getD, length, take, drop, set, length-set, length-drop, drop-drop, getD-drop, take-all, arith, decLe, le-leb, lt-leb, not-true, not-false, both}
-use mathlib.Core.Bool.{and-false}
+use Rattle.basis.proofs.Prelude.{_≡_, sym, ap, _∙_, ℕ, zero, suc, _+_, _-_, _/_, _%_, _≤_, _<_, List, [], _∷_, _++_, append-assoc, Bool, true, false, not, _&&_, leb, length, take, drop, set, length-set, drop-drop, drop-set-lt, take-append-drop, take-suc-set, add-one, div-eq-of-lt, arith, eqb-true, le-leb, leb-false, lt-leb, not-true, not-false, both, by-cases, by-eq, by-test}
+use mathlib.Core.Bool.{and-true}
 use Prim.Native.Nat.{_^_}
 use native.Mathlib.Nat.{div-one}
 use lib.{Count.{ones, trailingZeros, leadingZeros, leading-top}, Pow.{shr-shr, shr-lt}}
 use Rattle.buffer.specs.Buffer.{over}
-use Rattle.buffer.proofs.Overlaid as buffer
 use Rattle.calendar.{specs.Calendar.{isDay, daysOk}, proofs.Calendar.dated}
-use Rattle.masks.{specs.{declared.Ticks.the-variants.{All, Off}, Masks.{ticksFrom, ticks}, Answers.{Answer, Room}}, proofs.{Bits.{highest-set, highest, none-from, Next, next, bit-of, of-bit}, Claims.{as-many, in-sheet}}}
-
--- ---- A list of days
-all-on : (l : List ℕ) → ((d : ℕ) → List·Memᴰ d l → (1 ≤ d) × (d ≤ 4000)) → daysOk l ≡ true
-unfolding daysOk
-all-on [] f = refl
-all-on (d ∷ l) f =
-    let here = f d (List·Memᴰ·head refl) in
-    rw (le-leb 1 d (here .0), le-leb d 4000 (here .1), all-on l (λ e m. f e (List·Memᴰ·tail m)))
-
-one-off : (d : ℕ) (l : List ℕ) → List·Memᴰ d l → isDay d ≡ false → daysOk l ≡ false
-unfolding daysOk
-one-off d l (List·Memᴰ·head {x} {xs} e) o = rw (← e, o)
-one-off d l (List·Memᴰ·tail {x} {xs} m) o = rw (one-off d xs m o) (and-false (isDay x))
-
-each-on : (l : List ℕ) (n : ℕ) → daysOk l ≡ true → n < length l → getD l n 0 ≤ 4000
-unfolding daysOk
-each-on [] n e h = absurd (omega arith)
-each-on (d ∷ l) zero e h = dated d (both (isDay d) (daysOk l) e .0) .1
-each-on (d ∷ l) (suc n) e h = each-on l n (both (isDay d) (daysOk l) e .1) (omega arith)
+use Rattle.masks.{specs.{declared.Ticks.the-variants.{All, Off}, Masks.{isSet, ticksFrom, ticks}, Answers.{Answer, Room}}, proofs.{Bits.{highest-set, none-from, Next, next}, Claims.as-many}}
 
 -- ---- The ticked days
 pub zeros-above : (mask : ℕ) → (mask ≡ 0 → ⊥) → mask < 2 ^ 64 → leadingZeros 64 mask ≤ 63
@@ -37,109 +17,81 @@ module _ (base mask : ℕ) where
   pub empty-on : mask ≡ 0 → true ≡ daysOk (ticks base mask)
   empty-on e = unfold daysOk in rw (none-from base mask 64 0 (div-one mask ∙ e))
 
-  module _ (some : mask ≡ 0 → ⊥) (fits : mask < 2 ^ 64) where
-    first : Next base mask 0 64 (trailingZeros 64 mask)
-    first = rw (div-one mask) at (next base mask 64 64 0 (omega arith) (rw (div-one mask) (omega (arith, some))) (rw (div-one mask) fits))
+  -- the bits from i on, of which t is the highest: none of their days is day 0, and it is by t's whether all are on the calendar
+  high-from : (t : ℕ) → isSet mask t ≡ true → mask / 2 ^ suc t ≡ 0 → (n i : ℕ) → i ≤ t → t < i + n → (isSet mask i ≡ true → 1 ≤ base + i)
+      → leb (base + t) 4000 ≡ daysOk (ticksFrom base mask i n)
+  unfolding ticksFrom daysOk
+  high-from t s z zero i l h low = absurd (omega arith)
+  high-from t s z (suc n) i l h low = by-eq i t l
+      (λ e. rw (e, s, none-from base mask n (suc t) z, le-leb 1 (base + t) (rw e at (low (rw e s)))) (sym (and-true _)))
+      (λ g.
+      let ih = high-from t s z n (suc i) g (omega arith) (λ _. omega arith) in
+      by-cases (λ (r : List ℕ). leb (base + t) 4000 ≡ daysOk r) (isSet mask i)
+      (λ y. by-test (leb (base + i) 4000)
+      (λ o. rw (le-leb 1 (base + i) (low y), o) ih)
+      (λ o. rw (le-leb 1 (base + i) (low y), o, lt-leb (base + t) 4000 (omega (arith, leb-false (base + i) 4000 o)))))
+      (λ _. ih))
 
+  module _ (some : mask ≡ 0 → ⊥) (fits : mask < 2 ^ 64) where
     pub low-off : base + trailingZeros 64 mask < 1 → false ≡ daysOk (ticks base mask)
-    low-off h = unfold daysOk in rw (first .is) (rw (lt-leb 1 (base + (0 + trailingZeros 64 mask)) (omega arith)))
+    low-off h = unfold daysOk in rw (next base mask 64 64 0 mask (div-one mask) (omega arith) fits some .is) (rw (lt-leb 1 (base + (0 + trailingZeros 64 mask)) (omega arith)))
 
     pub high-on : 1 ≤ base + trailingZeros 64 mask → leb (base + (63 - leadingZeros 64 mask)) 4000 ≡ daysOk (ticks base mask)
-    high-on l =
+    high-on l = unfold trailingZeros isSet in
         let t = leading-top 64 mask (omega (arith, some)) fits in
         let same : 63 - leadingZeros 64 mask ≡ t .0 = omega (arith, t .1) in
-        elim (decLe (base + t .0) 4000) [
-          | yes h ↦ rw (same, le-leb (base + t .0) 4000 h) (sym (all-on (ticks base mask) (λ d m.
-              let b = bit-of base mask 64 0 d m in (
-                elim (List·Memᴰ·cases-cons (rw (first .is) at m)) [
-                  | inl e ↦ omega arith
-                  | inr r ↦
-                      let a = bit-of base mask (64 - suc (trailingZeros 64 mask)) (suc (0 + trailingZeros 64 mask)) d r in
-                      omega (arith, a .from, a .is)
-                ],
-                omega (arith, b .is, highest mask (t .0) (b .bit) (t .3) (b .set)),
-              ))))
-          | no h ↦
-              let o : 4000 < base + t .0 = omega arith in
-              rw (same, lt-leb (base + t .0) 4000 o)
-              (sym (one-off (base + t .0) (ticks base mask) (of-bit base mask 64 0 (t .0) (omega arith) (omega (arith, t .1)) (highest-set mask (t .0) (t .2) (t .3)))
-              (rw (lt-leb (base + t .0) 4000 o) (and-false (leb 1 (base + t .0))))))
-        ]
+        rw same (high-from (t .0) (highest-set mask (t .0) (t .2) (t .3)) (div-eq-of-lt (t .3)) 64 0 (omega arith) (omega (arith, t .1))
+        (λ e. let one : mask % 2 ≡ 1 = rw (div-one mask) at (eqb-true (mask / 1 % 2) 1 e) in omega (arith, rw one at l)))
 
--- ---- What is still to come of a list begins with d
-module _ (l : List ℕ) (n d : ℕ) (rest : List ℕ) (e : drop n l ≡ d ∷ rest) where
-  coming-in : n < length l
-  coming-in = omega (arith, simp length-drop at (ap length e))
-
-  coming-is : getD l n 0 ≡ d
-  coming-is =
-      let up : n + 0 ≡ n = omega arith in
-      (rw up at (sym (getD-drop n l 0 0))) ∙ rw e
-
-  coming-on : drop (n + 1) l ≡ rest
-  coming-on = sym (drop-drop 1 n l) ∙ rw e
-
--- ---- The first n ticked days are put; those of the bits from i on, of which `left` is left, are still to come
+-- ---- Those of the bits from i on, of which `left` is left, are still to be put, from the place n on
 pub record Ticking (base mask : ℕ) (held days : List ℕ) (left i n : ℕ) : Type 0 where
-  pub room : Room base mask held
-  pub fits : mask < 2 ^ 64
+  pub places : length held ≡ 64
   pub sized : length days ≡ 64
+  pub fits : mask < 2 ^ 64
+  pub behind : n ≤ i
   pub within : i ≤ 64
-  pub upto : n ≤ length (ticks base mask)
   pub shifted : mask / 2 ^ i ≡ left
-  pub ahead : drop n (ticks base mask) ≡ ticksFrom base mask i (64 - i)
-  pub so-far : days ≡ take n (ticks base mask) ++ drop n held
-
--- what a turn knows, which takes the ticked day z bits on
-pub record Turn (base i n z : ℕ) : Type 0 where
-  pub bit : i + z < 64
-  pub place : n < 64
-  pub day : base + (i + z) ≤ 4000
+  pub on : daysOk (ticksFrom base mask i (64 - i)) ≡ true
+  pub ahead : over (ticks base mask) held ≡ take n days ++ over (ticksFrom base mask i (64 - i)) (drop n days)
 
 pub begins : {base mask : ℕ} {held : List ℕ} → Room base mask held → mask < 2 ^ 64 → Ticking base mask held held mask 0 0
 begins r f = search (div-one, arith)
 
+-- the first of some values put into the place n
+put-first : (days rest : List ℕ) (n d : ℕ) → n < length days
+    → take n days ++ over (d ∷ rest) (drop n days) ≡ take (n + 1) (set days n d) ++ over rest (drop (n + 1) (set days n d))
+put-first days rest n d h = let e : n + suc (length rest) ≡ suc n + length rest = omega arith in
+    rw (add-one n, take-suc-set days n d h, drop-set-lt (suc n) days n d (omega arith)) (simp (append-assoc, drop-drop, e))
+
 module _ {base mask : ℕ} {held days : List ℕ} {left i n : ℕ} (t : Ticking base mask held days left i n) where
   -- nothing is left: all are put
   pub ends : left ≡ 0 → days ≡ over (ticks base mask) held
-  ends e =
-      let none = t .ahead ∙ none-from base mask (64 - i) i (t .shifted ∙ e) in
-      let all : n ≡ length (ticks base mask) = omega (arith, t .upto, simp length-drop at (ap length none)) in
-      t .so-far ∙ rw (all, take-all (length (ticks base mask)) (ticks base mask) (omega arith))
+  ends e = sym (t .ahead ∙ rw (none-from base mask (64 - i) i (t .shifted ∙ e)) (take-append-drop n days))
 
   module _ (some : left ≡ 0 → ⊥) where
-    step : Next base mask i (64 - i) (trailingZeros 64 left)
-    step =
-        let f : mask < 2 ^ (64 - i + i) = let z : 64 - i + i ≡ 64 = omega (arith, t .within) in rw z (t .fits) in
-        rw (t .shifted) at (next base mask (64 - i) 64 i (omega arith) (rw (t .shifted) (omega (arith, some))) (shr-lt (64 - i) i f))
-
     abbrev z : ℕ
     z = trailingZeros 64 left
 
-    comes : drop n (ticks base mask) ≡ (base + (i + z)) ∷ ticksFrom base mask (suc (i + z)) (64 - i - suc z)
-    comes = t .ahead ∙ step .is
+    step : Next base mask i (64 - i) z
+    step = let w : 64 - i + i ≡ 64 = omega (arith, t .within) in
+        next base mask _ 64 i left (t .shifted) (omega arith) (rw (t .shifted) at (shr-lt {n = mask} (64 - i) i (rw w (t .fits)))) some
 
-    pub turn : Turn base i n z
-    turn =
-        let inside = coming-in _ n _ _ comes in
-        let day : base + (i + z) ≤ 4000 = rw (coming-is _ n _ _ comes) at (each-on (ticks base mask) n (t .room .on) inside) in
-        let few = in-sheet base mask in
-        let bit = step .within in
-        search arith
+    seen : (isDay (base + (i + z)) ≡ true) × (daysOk (ticksFrom base mask (suc (i + z)) (64 - i - suc z)) ≡ true)
+    seen = unfold daysOk in both _ _ (rw (step .is) at (t .on))
+
+    -- what a turn knows, which takes the ticked day z bits on: the bit, the place and the day
+    pub turn : (i + z < 64) × (n < 64) × (base + (i + z) ≤ 4000)
+    turn = let day = dated (base + (i + z)) (seen .0) in let bit = step .within in omega (arith, t)
 
     pub goes-on : Ticking base mask held (set days n (base + (i + z))) (left / 2 ^ z / 2) (i + z + 1) (n + 1)
     goes-on =
-        let inside = coming-in _ n _ _ comes in
         let known = turn in
         let up : suc (i + z) ≡ i + z + 1 = omega arith in
         let fewer : 64 - i - suc z ≡ 64 - (i + z + 1) = omega arith in
-        let sized = length-set days n (base + (i + z)) ∙ t .sized in
+        let on = rw (up, fewer) at (seen .1) in
         let shifted = sym (shr-shr mask (i + z) 1) ∙ ap (λ x. x / 2) (sym (shr-shr mask i z) ∙ ap (λ x. x / 2 ^ z) (t .shifted)) in
-        let ahead = rw (up, fewer) at (coming-on _ n _ _ comes) in
-        let day = sym (coming-is _ n _ _ comes) in
-        let so-far : set days n (base + (i + z)) ≡ take (n + 1) (ticks base mask) ++ drop (n + 1) held =
-        rw (t .so-far) (buffer.filled held (ticks base mask) n 0 (base + (i + z)) day (omega (arith, t .room .places)) inside) in
-        search arith
+        let ahead = (rw (step .is, up, fewer) at (t .ahead)) ∙ put-first days (ticksFrom base mask (i + z + 1) (64 - (i + z + 1))) n (base + (i + z)) (omega arith) in
+        search (length-set, arith)
 
 -- ---- The answer
 

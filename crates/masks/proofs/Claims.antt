@@ -18,11 +18,11 @@ module _ (base mask : ℕ) where
 
   -- STRICTLY RISING: each is above the one before
   pub rises : (k : ℕ) → suc k < length (ticks base mask) → getD (ticks base mask) k 0 < getD (ticks base mask) (suc k) 0
-  rises = rises-from base mask 64 0
+  rises k = rises-from base mask 64 0 0 (suc k) (omega arith)
 
   -- THE DAYS are base + i for each bit i that is set, and no others
   pub only-set : (d : ℕ) → List·Memᴰ d (ticks base mask) → (i : ℕ) × (i < 64) × (isSet mask i ≡ true) × (d ≡ base + i)
-  only-set d m = let b = bit-of base mask 64 0 d m in (b .bit, b .below, b .set, b .is)
+  only-set d = bit-of base mask 64 64 0 d (omega arith)
 
   pub every-set : (i : ℕ) → i < 64 → isSet mask i ≡ true → List·Memᴰ (base + i) (ticks base mask)
   every-set i h s = of-bit base mask 64 0 i (omega arith) h s

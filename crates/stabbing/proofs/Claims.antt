@@ -1,11 +1,12 @@
--- What the crate is for: the listing and the comparisons, shown once for any two days h and l, and cited for day, span and cover; and the
--- links that publish stores. Assumes nothing.
+-- What the crate is for: the listing and the comparisons, shown once for any two days h and l, those of day, span and cover among them; and
+-- the links that publish stores. Assumes nothing.
 use Rattle.basis.proofs.Prelude.{_∙_, _≡_, ap, _*_, _<_, _≤_, zero-le, ℕ, List, [], length}
 use Rattle.stabbing.specs.{Tree.{count, keep, dayAt, fitsAt, start, formula}, Walk.walk, Index.Built, Stored.{Sorted, latest, spanStart}}
 use Rattle.stabbing.proofs.{Marks.keep-skip, Walk.{start-is, right, formula-le}, Starts.{start-span, cover-latest}, Listing.{Lists, lists}, StoredLinks.{StoredLinks, stored-links}}
 
 module _ (fs ls : List ℕ) (sorted : Sorted fs ls) where
-  -- what the walk from the start of "first ≤ h, last ≥ l" finds
+  -- what the walk from the start of "first ≤ h, last ≥ l" finds: h and l are d and d for DAY d, b and a for SPAN a to b, and the row's
+  -- first and last day for COVER of a row
   pub record Walked (h l : ℕ) : Type 0 where
     -- LISTING: the rows that fit, all of them and no other, each once and in the order; none where there is no start
     pub listing : walk fs ls l (start fs ls h l) .list ≡ keep (fitsAt fs ls h l) (length fs)
@@ -18,23 +19,13 @@ module _ (fs ls : List ℕ) (sorted : Sorted fs ls) where
 
   pub walked : (h l : ℕ) → Walked h l
   walked h l = let i = start-is fs ls sorted h l in let r = right fs ls sorted h l in unfold formula count keep in record {
-    listing = r .list;
-    listed = rw (r .list) (lists (fitsAt fs ls h l) (length fs));
-    unlisted = λ e. r .list ∙ keep-skip (fitsAt fs ls h l) 0 (length fs) zero-le (λ p _ k. i .miss p (rw e zero-le) k);
-    comparisons = r .comparisons;
-    few = rw (r .comparisons) (formula-le fs ls (start fs ls h l) (walk fs ls l (start fs ls h l) .list));
-    none = λ e. r .comparisons ∙ ap (formula fs ls (start fs ls h l)) e;
+    listing = r .0;
+    listed = rw (r .0) (lists (fitsAt fs ls h l) (length fs));
+    unlisted = λ e. r .0 ∙ keep-skip (fitsAt fs ls h l) 0 (length fs) zero-le (λ p _ k. i .miss p (rw e zero-le) k);
+    comparisons = r .1;
+    few = rw (r .1) (formula-le fs ls (start fs ls h l) (walk fs ls l (start fs ls h l) .list));
+    none = λ e. r .1 ∙ ap (formula fs ls (start fs ls h l)) e;
   }
-
-  -- DAY d, SPAN a to b, COVER of the row p
-  pub day-walked : (d : ℕ) → Walked d d
-  day-walked d = walked d d
-
-  pub span-walked : (a b : ℕ) → Walked b a
-  span-walked a b = walked b a
-
-  pub cover-walked : (p : ℕ) → Walked (dayAt fs p) (dayAt ls p)
-  cover-walked p = walked (dayAt fs p) (dayAt ls p)
 
   -- THE STARTS, by what is stored: a day's own; of a span, the latest by its last day if it begins in the span, else that of
   -- its first day; of a cover, the head of the row's chain, which is the latest by the row's first day

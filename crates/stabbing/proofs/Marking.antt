@@ -1,5 +1,5 @@
 -- The words of the columns of links, by position: the definition's mark, or none. Assumes nothing.
-use Rattle.basis.proofs.Prelude.{_≡_, _<_, _≤_, suc, zero-le, ℕ, List, false, ltb, length, arith, le-ltb, lt-ltb, ltb-true, by-test}
+use Rattle.basis.proofs.Prelude.{_≡_, _<_, _≤_, suc, zero-le, ℕ, List, _&&_, false, ltb, length, arith, le-ltb, lt-ltb, ltb-true, both, by-cases}
 use Rattle.stabbing.specs.{Tree.{head, parent, leftSibling, lastChild, next}, Index.{rowLink, headLink}, Contracts.Head}
 use Rattle.stabbing.proofs.Links.{parent-is, child-is, left-is, next-le}
 
@@ -23,13 +23,8 @@ module _ (fs ls : List ℕ) where
     row-past h = rw (le-ltb p (length fs) h)
 
   -- every link is the mark of a row
-  row-small : (link : ℕ → ℕ) → ((v : ℕ) → v < length fs → link v ≤ length fs) → (p : ℕ) → rowLink fs ls link p ≤ length fs
-  row-small link f p = by-test (ltb p (length fs)) (λ e. rw e (f p (ltb-true p (length fs) e))) (λ e. rw e zero-le)
-
   head-small : (link : ℕ → ℕ) → ((v : ℕ) → v < length fs → link v ≤ length fs) → (p : ℕ) → headLink fs ls link p ≤ length fs
-  head-small link f p = by-test (ltb p (length fs))
-      (λ e. rw e (by-test (head fs ls p) (λ h. rw h (f p (ltb-true p (length fs) e))) (λ h. rw h zero-le)))
-      (λ e. rw e zero-le)
+  head-small link f p = by-cases (λ x. x ≤ length fs) (ltb p (length fs) && head fs ls p) (λ e. f p (ltb-true p (length fs) (both _ _ e .0))) (λ _. zero-le)
 
   pub parent-small : (p : ℕ) → headLink fs ls (parent fs ls) p ≤ length fs
   parent-small = head-small (parent fs ls) (λ v h. omega (arith, parent-is fs ls v .within))
@@ -41,4 +36,4 @@ module _ (fs ls : List ℕ) where
   child-small = unfold lastChild in head-small (lastChild fs ls) (λ v h. child-is fs ls (suc v) (length fs) .within)
 
   pub next-small : (p : ℕ) → rowLink fs ls (next fs ls) p ≤ length fs
-  next-small = row-small (next fs ls) (λ v h. omega (arith, next-le fs ls v))
+  next-small p = by-cases (λ x. x ≤ length fs) (ltb p (length fs)) (λ e. omega (arith, next-le fs ls p, ltb-true p (length fs) e)) (λ _. zero-le)

@@ -1,14 +1,11 @@
 -- The walk lists what lasts to l, falling, and its comparisons are the formula's. Assumes nothing.
-use Rattle.basis.proofs.Prelude.{_∙_, _≡_, ap, refl, sym, _*_, _+_, _<_, _≤_, suc, zero, zero-le, ℕ, List, [], _++_, _∷_, append-assoc, append-nil, Bool, _&&_, false, true, leb, length, le-refl, arith, eq-eqb, le-leb, leb-false, leb-true, ne-eqb, both, by-eq, by-mark, by-test, untrue}
+use Rattle.basis.proofs.Prelude.{_∙_, _≡_, ap, refl, sym, _*_, _+_, _<_, _≤_, suc, zero, zero-le, ℕ, List, [], _++_, _∷_, append-assoc, append-nil, Bool, _&&_, false, true, leb, length, le-refl, arith, eq-eqb, le-leb, leb-false, leb-true, ne-eqb, both, by-mark, by-test, untrue}
 use Rattle.stabbing.specs.{Tree.{below, keep, count, one, some, dayAt, head, next, parent, child, leftSibling, lastChild, fitsAt, start, onPath, hasNext, hasLeft, hasChild, formula}, Walk.{Progress, nothing, push, tick, compare, chain, descend, climb, walk}, Stored.Sorted, Contracts.{Head, bottom, Stretch}}
-use Rattle.stabbing.proofs.{Marks.{Below, below-is, keep-hit, keep-miss, keep-skip, keep-ext, count-last, count-le}, Links.{bottom-is, parent-is, path-under, own, child-stretch, left-stretch, c-head, c-under, c-over, c-child, c-left, next-some, next-bottom, chain-up, Top, top, barren, left-is}}
+use Rattle.stabbing.proofs.{Marks.{Found, below-hit, below-is, below-miss, keep-hit, keep-miss, keep-skip, keep-ext, count-last, count-le}, Links.{bottom-is, parent-is, path-under, own, child-stretch, last-is, c-child, next-none, next-some, chain-up, days-rise, top, barren, left-is}}
 
 module _ (fs ls : List ℕ) (l : ℕ) where
   abbrev pub reach : ℕ → Bool
   reach p = leb l (dayAt ls p)
-
-  pub compare-none : (m : ℕ) (go : ℕ → Progress → Progress) (s : Progress) → m ≡ 0 → compare fs ls l m go s ≡ s
-  compare-none m go s e = unfold compare in rw e
 
   pub compare-yes : (m p : ℕ) (go : ℕ → Progress → Progress) (s : Progress) → m ≡ suc p → reach p ≡ true → compare fs ls l m go s ≡ go p (tick s)
   compare-yes m p go s e r = unfold compare in rw e (rw (r, compare))
@@ -17,34 +14,23 @@ module _ (fs ls : List ℕ) (l : ℕ) where
   compare-no m p go s e r = unfold compare in rw e (rw (r, compare))
 
   pub climb-none : (f : ℕ) (s : Progress) → climb fs ls l f 0 s ≡ s
-  unfolding climb
-  climb-none zero s = refl
-  climb-none (suc f) s = refl
+  climb-none f s = unfold climb in by-mark f (λ z. rw z) (λ p z. rw z)
 
 module _ (fs ls : List ℕ) (sorted : Sorted fs ls) (l : ℕ) (on : ℕ → Bool) where
-  abbrev pub next? : ℕ → Bool
-  next? = hasNext fs ls
-
-  abbrev pub left? : ℕ → Bool
-  left? = hasLeft fs ls
-
-  abbrev pub child? : ℕ → Bool
-  child? = hasChild fs ls on
-
   -- what lasts to l below k, and the comparisons due for it
   abbrev pub upto : ℕ → List ℕ
   upto k = keep (reach fs ls l) k
 
   pub due : ℕ → ℕ
-  due k = count next? (upto k) + count left? (upto k) + count child? (upto k)
+  due k = count (hasNext fs ls) (upto k) + count (hasLeft fs ls) (upto k) + count (hasChild fs ls on) (upto k)
 
   -- from hi down to lo, s has become s′: all that lasts to l is listed, and all but e of the comparisons due, and e′ more, are made
   pub record Went (hi : ℕ) (s : Progress) (lo : ℕ) (s′ : Progress) (e e′ : ℕ) : Type 0 where
     pub list : upto lo ++ s′ .list ≡ upto hi ++ s .list
     pub comparisons : due lo + s′ .comparisons + e ≡ due hi + s .comparisons + e′
 
-  pub due-hit : (p : ℕ) → reach fs ls l p ≡ true → due (suc p) ≡ due p + one (next? p) + (one (left? p) + one (child? p))
-  due-hit p e = unfold due in rw (keep-hit (reach fs ls l) p e) (omega (arith, count-last next? (upto p) p, count-last left? (upto p) p, count-last child? (upto p) p))
+  pub due-hit : (p : ℕ) → reach fs ls l p ≡ true → due (suc p) ≡ due p + one (hasNext fs ls p) + (one (hasLeft fs ls p) + one (hasChild fs ls on p))
+  due-hit p e = unfold due in rw (keep-hit (reach fs ls l) p e) (omega (arith, count-last (hasNext fs ls) (upto p) p, count-last (hasLeft fs ls) (upto p) p, count-last (hasChild fs ls on) (upto p) p))
 
   pub due-miss : (p : ℕ) → reach fs ls l p ≡ false → due (suc p) ≡ due p
   due-miss p e = unfold due in rw (keep-miss (reach fs ls l) p e)
@@ -54,38 +40,34 @@ module _ (fs ls : List ℕ) (sorted : Sorted fs ls) (l : ℕ) (on : ℕ → Bool
 
   -- nothing lasts to l from lo up to hi
   skip : (lo hi : ℕ) → lo ≤ hi → ((x : ℕ) → lo ≤ x → x < hi → l ≤ dayAt ls x → ⊥) → (upto hi ≡ upto lo) × (due hi ≡ due lo)
-  skip lo hi h f = unfold due in let e : upto hi ≡ upto lo = keep-skip (reach fs ls l) lo hi h (λ x a b t. f x a b (leb-true _ _ t)) in (e, rw e)
+  skip lo hi h f = unfold due in let e : upto hi ≡ upto lo = keep-skip _ lo hi h (λ x a b t. f x a b (leb-true _ _ t)) in (e, rw e)
 
   -- the bottom of a chain
-  bottom-went : (p : ℕ) (s : Progress) → next fs ls p ≡ 0 → reach fs ls l p ≡ true → Went (suc p) s p (push p s) (one (left? p) + one (child? p)) 0
-  bottom-went p s nx e = let k : one (next? p) ≡ 0 = rw nx in record { list = upto-hit p (s .list) e; comparisons = omega (arith, due-hit p e) }
+  bottom-went : (p : ℕ) (s : Progress) → next fs ls p ≡ 0 → reach fs ls l p ≡ true → Went (suc p) s p (push p s) (one (hasLeft fs ls p) + one (hasChild fs ls on p)) 0
+  bottom-went p s nx e = let k : one (hasNext fs ls p) ≡ 0 = rw nx in let d = due-hit p e in search (upto-hit, arith)
 
-  -- the chain from p down to its bottom lo; what is due for p as a head is left open
-  chain-went : (lo p : ℕ) (s : Progress) → p < length fs → lo ≤ p → next fs ls lo ≡ 0 → ((x : ℕ) → lo ≤ x → x < p → head fs ls x ≡ false)
-      → reach fs ls l p ≡ true → Went (suc p) s lo (chain fs ls l p s) (one (left? p) + one (child? p)) 0
-  unfolding chain
-  chain-went lo zero s h g nx f e = let z : lo ≡ 0 = omega arith in rw z (bottom-went 0 s (rw z at nx) e)
-  chain-went lo (suc p) s h g nx f e = by-eq lo (suc p) g
-      (λ z. rw (z, compare-none fs ls l _ (λ _. chain fs ls l p) (push (suc p) s) (rw z at nx)) (bottom-went (suc p) s (rw z at nx) e))
-      (λ lt.
-      let np = f p (omega arith) (le-refl _) in
-      let nx′ = next-some fs ls p (omega arith) np in
-      let k : one (next? (suc p)) ≡ 1 = rw nx′ in
+  -- the chain from v down to its bottom; what is due for v as a head is left open
+  pub chain-of : (v : ℕ) (s : Progress) → v < length fs → reach fs ls l v ≡ true
+      → Went (suc v) s (bottom fs ls v) (chain fs ls l v s) (one (hasLeft fs ls v) + one (hasChild fs ls on v)) 0
+  unfolding chain compare
+  chain-of zero s h e = unfold below next in bottom-went 0 s refl e
+  chain-of (suc p) s h e = by-test (head fs ls p)
+      (λ hp. let nx = next-none fs ls p hp h in rw (below-hit (head fs ls) p hp, nx) (bottom-went (suc p) s nx e))
+      (λ np.
+      let nx = next-some fs ls p (omega arith) np in
+      let k : one (hasNext fs ls (suc p)) ≡ 1 = rw nx in
       let due₁ = due-hit (suc p) e in
-      by-test (reach fs ls l p)
+      let new = upto-hit (suc p) (s .list) e in
+      rw (below-miss (head fs ls) p np, nx) (by-test (reach fs ls l p)
       (λ r.
-      let ih = chain-went lo p (tick (push (suc p) s)) (omega arith) (omega arith) nx (λ x a b. f x a (omega arith)) r in
-      let none : one (left? p) + one (child? p) ≡ 0 = rw np in
-      rw (compare-yes fs ls l _ p (λ _. chain fs ls l p) (push (suc p) s) nx′ r) (record { list = ih .list ∙ upto-hit (suc p) (s .list) e; comparisons = omega (arith, ih .comparisons) }))
+      let ih = chain-of p (tick (push (suc p) s)) (omega arith) r in
+      let none : one (hasLeft fs ls p) + one (hasChild fs ls on p) ≡ 0 = rw np in
+      rw (r, compare) (record { list = ih .list ∙ new; comparisons = omega arith }))
       (λ r.
-      let d = skip lo (suc p) (omega arith) (λ x a b t. omega (arith, leb-false l (dayAt ls p) r, chain-up fs ls sorted lo p (omega arith) (λ y a′ b′. f y a′ (omega arith)) x a (omega arith))) in
-      rw (compare-no fs ls l _ p (λ _. chain fs ls l p) (push (suc p) s) nx′ r) (record { list = rw (← d .0) (upto-hit (suc p) (s .list) e); comparisons = omega (arith, d .1) })))
-
-  -- a head's whole chain
-  pub chain-of : (v : ℕ) (s : Progress) → Head fs ls v → v < length fs → reach fs ls l v ≡ true
-      → Went (suc v) s (bottom fs ls v) (chain fs ls l v s) (one (left? v) + one (child? v)) 0
-  chain-of v s hv h e = chain-went (bottom fs ls v) v s h (bottom-is fs ls v .within) (next-bottom fs ls v h)
-      (λ x a b. untrue (head fs ls x) (bottom-is fs ls v .miss x a b)) e
+      let i = bottom-is fs ls p in
+      let d = skip (bottom fs ls p) (suc p) (omega arith) (λ x a b t. omega (arith, leb-false l (dayAt ls p) r,
+      chain-up fs ls sorted x p (omega arith) (omega arith) (λ y a′ b′. untrue (head fs ls y) (i .miss y (omega arith) b′)))) in
+      rw (r, compare) (record { list = rw (← d .0) new; comparisons = omega arith }))))
 
   -- what `descend f` does, as the fuel f is enough for the stretch
   abbrev pub Descends : ℕ → Type 0
@@ -95,29 +77,26 @@ module _ (fs ls : List ℕ) (sorted : Sorted fs ls) (l : ℕ) (on : ℕ → Bool
   -- a comparison with the last child of a stretch, and what follows
   pub compare-went : (f : ℕ) → Descends f → (m v : ℕ) (s : Progress) → Stretch fs ls m v → ((x : ℕ) → m ≤ x → x < v → Head fs ls x → on x ≡ false) → v ≤ m + f
       → Went (bottom fs ls v) s m (compare fs ls l (child fs ls m v) (descend fs ls l f) s) 0 (one (some (child fs ls m v)))
-  compare-went f ih m v s r off h = by-mark (child fs ls m v)
-      (λ z.
-      let d = skip m (bottom fs ls v) (r .base) (barren fs ls sorted m v r l (λ c e. absurd (omega arith))) in
-      rw (compare-none fs ls l _ (descend fs ls l f) s z, z) (record { list = rw (d .0); comparisons = omega (arith, d .1) }))
-      (λ c z. by-test (reach fs ls l c)
+  compare-went f ih m v s r off h = unfold compare in by-mark (child fs ls m v)
+      (λ z. let d = none (λ c e. absurd (omega arith)) in rw z (record { list = rw (d .0); comparisons = omega arith }))
+      (λ c z. rw z (by-test (reach fs ls l c)
+      (λ e. let w = ih m v c (tick s) r off h z e in rw (e, compare) (record { list = w .list; comparisons = omega arith }))
       (λ e.
-      let w = ih m v c (tick s) r off h z e in
-      rw (compare-yes fs ls l _ c (descend fs ls l f) s z e, z) (record { list = w .list; comparisons = omega (arith, w .comparisons) }))
-      (λ e.
-      let d = skip m (bottom fs ls v) (r .base) (barren fs ls sorted m v r l (λ c′ e′. let q : c ≡ c′ = omega arith in rw q at (leb-false l (dayAt ls c) e))) in
-      rw (compare-no fs ls l _ c (descend fs ls l f) s z e, z) (record { list = rw (d .0); comparisons = omega (arith, d .1) })))
+      let d = none (λ c′ e′. let q : c ≡ c′ = omega arith in rw q at (leb-false l (dayAt ls c) e)) in
+      rw (e, compare) (record { list = rw (d .0); comparisons = omega arith }))))
+    where
+      none : ((c : ℕ) → child fs ls m v ≡ suc c → dayAt ls c < l) → (upto (bottom fs ls v) ≡ upto m) × (due (bottom fs ls v) ≡ due m)
+      none g = skip m (bottom fs ls v) (r .base) (barren fs ls sorted m v r l g)
 
   pub descend-went : (f : ℕ) → Descends f
   unfolding descend
-  descend-went zero m v c s r off h e t = absurd (omega (arith, c-over fs ls m v r c e, c-under fs ls m v r c e))
-  descend-went (suc f) m v c s r off h e t = let over = c-over fs ls m v r c e in
-      let under = c-under fs ls m v r c e in
-      let hc = c-head fs ls m v r c e in
+  descend-went zero m v c s r off h e t = absurd (omega (arith, last-is fs ls m v c e))
+  descend-went (suc f) m v c s r off h e t = let k = last-is fs ls m v c e in
       let s₁ : Progress = compare fs ls l (lastChild fs ls c) (descend fs ls l f) s in
       let w₁ = rw (← c-child fs ls m v r c e) at (compare-went f (descend-went f) (suc c) v s (child-stretch fs ls m v r c e) (λ x a b. off x (omega arith) b) (omega arith)) in
-      let w₂ = rw (hc, off c over under hc) at (chain-of c s₁ hc (omega (arith, r .inside)) t) in
-      let w₃ = rw (← c-left fs ls m v r c e) at (compare-went f (descend-went f) m c (chain fs ls l c s₁) (left-stretch fs ls m v r c e) (λ x a b. off x a (omega arith)) (omega arith)) in
-      record { list = w₃ .list ∙ w₂ .list ∙ w₁ .list; comparisons = omega (arith, w₁ .comparisons, w₂ .comparisons, w₃ .comparisons) }
+      let w₂ = rw (k .is, off c (k .over) (k .under) (k .is)) at (chain-of c s₁ (omega (arith, r .inside)) t) in
+      let w₃ = rw (← left-is fs ls c, k .of) at (compare-went f (descend-went f) (parent fs ls c) c (chain fs ls l c s₁) (own fs ls c (k .is) (omega (arith, r .inside))) (λ x a b. off x (omega arith) (omega arith)) (omega arith)) in
+      record { list = w₃ .list ∙ w₂ .list ∙ w₁ .list; comparisons = omega arith }
 
   -- the path upward from the mark m, where `on` is that path
   climb-went : (f m : ℕ) (s : Progress) → m ≤ f → m ≤ length fs → ((v : ℕ) → m ≡ suc v → Head fs ls v × (reach fs ls l v ≡ true))
@@ -127,71 +106,50 @@ module _ (fs ls : List ℕ) (sorted : Sorted fs ls) (l : ℕ) (on : ℕ → Bool
   climb-went (suc f) zero s b h top path = record { list = refl; comparisons = refl }
   climb-went (suc f) (suc v) s b h top path = let q = top v refl in
       let s₁ : Progress = chain fs ls l v s in
-      let w₁ = rw (q .0, rw (eq-eqb v v refl) at (path v (le-refl (suc v)))) at (chain-of v s (q .0) h (q .1)) in
+      let w₁ = rw (q .0, rw (eq-eqb v v refl) at (path v (le-refl (suc v)))) at (chain-of v s h (q .1)) in
       let path′ : (x : ℕ) → x < v → on x ≡ onPath fs ls f (parent fs ls v) x = λ x lt. rw (ne-eqb x v (λ z. omega arith)) at (path x (omega arith)) in
       let w₂ = rw (← left-is fs ls v) at (compare-went (length fs) (descend-went (length fs)) (parent fs ls v) v s₁ (own fs ls v (q .0) h) (λ x a b _. path′ x b ∙ path-under fs ls f _ x a) (omega arith)) in
       let i = parent-is fs ls v in
       let w₃ = climb-went f (parent fs ls v) (compare fs ls l (leftSibling fs ls v) (descend fs ls l (length fs)) s₁) (omega (arith, i .within)) (omega (arith, i .within))
       (λ u z. (i .hit u z .0, le-leb l (dayAt ls u) (omega (arith, i .hit u z .1, leb-true l (dayAt ls v) (q .1))))) (λ x lt. path′ x (omega (arith, i .within))) in
-      record { list = w₃ .list ∙ w₂ .list ∙ w₁ .list; comparisons = omega (arith, w₁ .comparisons, w₂ .comparisons, w₃ .comparisons) }
+      record { list = w₃ .list ∙ w₂ .list ∙ w₁ .list; comparisons = omega arith }
 
-module _ (fs ls : List ℕ) (sorted : Sorted fs ls) where
-  pub days-rise : (x v : ℕ) → x ≤ v → v < length fs → dayAt fs x ≤ dayAt fs v
-  days-rise x zero h k = let z : x ≡ 0 = omega arith in rw z (le-refl _)
-  days-rise x (suc v) h k = by-eq x (suc v) h (λ z. rw z (le-refl _)) (λ lt. omega (arith, days-rise x v (omega arith) (omega arith), sorted .rise v k))
+module _ (fs ls : List ℕ) (sorted : Sorted fs ls) (h l : ℕ) where
+  pub fits-of : (p : ℕ) → fitsAt fs ls h l p ≡ true → (dayAt fs p ≤ h) × (l ≤ dayAt ls p)
+  fits-of p e = unfold fitsAt in let q = both (leb (dayAt fs p) h) (leb l (dayAt ls p)) e in (leb-true _ _ (q .0), leb-true _ _ (q .1))
 
-  module _ (h l : ℕ) where
-    pub fits-of : (p : ℕ) → fitsAt fs ls h l p ≡ true → (dayAt fs p ≤ h) × (l ≤ dayAt ls p)
-    fits-of p e = unfold fitsAt in let q = both (leb (dayAt fs p) h) (leb l (dayAt ls p)) e in (leb-true _ _ (q .0), leb-true _ _ (q .1))
+  pub of-fits : (p : ℕ) → dayAt fs p ≤ h → l ≤ dayAt ls p → fitsAt fs ls h l p ≡ true
+  of-fits p a b = unfold fitsAt in rw (le-leb _ _ a, le-leb _ _ b)
 
-    pub of-fits : (p : ℕ) → dayAt fs p ≤ h → l ≤ dayAt ls p → fitsAt fs ls h l p ≡ true
-    of-fits p a b = unfold fitsAt in rw (le-leb _ _ a, le-leb _ _ b)
+  -- what the start is: a head that fits, and no position from it on fits
+  pub start-is : Found (λ v. Head fs ls v × (dayAt fs v ≤ h) × (l ≤ dayAt ls v)) (λ x. fitsAt fs ls h l x ≡ true → ⊥) (length fs) (start fs ls h l)
+  unfolding start
+  start-is = let i = below-is (λ p. head fs ls p && fitsAt fs ls h l p) (length fs) in record {
+    within = i .within;
+    hit = λ v e. let q = both (head fs ls v) (fitsAt fs ls h l v) (i .hit v e) in let r = fits-of v (q .1) in (q .0, r .0, r .1);
+    miss = λ x a b e.
+        let y = top fs ls sorted x b in
+        let r = fits-of x e in
+        i .miss (y .at) (omega arith) (y .inside) (rw (y .is) (of-fits (y .at) (omega arith) (omega arith)));
+  }
 
-    reach-fits : (p : ℕ) → dayAt fs p ≤ h → reach fs ls l p ≡ fitsAt fs ls h l p
-    reach-fits p a = unfold fitsAt in rw (le-leb (dayAt fs p) h a)
+  -- THE LISTING and THE LOOKS
+  pub right : (walk fs ls l (start fs ls h l) .list ≡ keep (fitsAt fs ls h l) (length fs))
+      × (walk fs ls l (start fs ls h l) .comparisons ≡ formula fs ls (start fs ls h l) (walk fs ls l (start fs ls h l) .list))
+  right = unfold walk formula due count keep fitsAt in let m : ℕ = start fs ls h l in let i = start-is in
+      let w = climb-went fs ls sorted l (onPath fs ls (length fs) m) (length fs) m nothing (i .within) (i .within) (λ v z. let q = i .hit v z in (q .0, le-leb l (dayAt ls v) (q .2))) (λ x _. refl) in
+      let a : walk fs ls l m .list ≡ keep (reach fs ls l) m = w .list ∙ append-nil (keep (reach fs ls l) m) in
+      let b = keep-ext (reach fs ls l) (fitsAt fs ls h l) m (λ p k. by-mark m (λ z. absurd (omega arith)) (λ v z.
+      rw (le-leb (dayAt fs p) h (omega (arith, days-rise fs ls sorted p v (omega arith) (omega (arith, i .within)), i .hit v z .1))))) in
+      (a ∙ b ∙ sym (keep-skip (fitsAt fs ls h l) m (length fs) (i .within) (i .miss)), rw a (omega (arith, w .comparisons)))
 
-    -- what the start is: a head that fits, and no position from it on fits
-    pub record Start (m : ℕ) : Type 0 where
-      pub within : m ≤ length fs
-      pub hit : (v : ℕ) → m ≡ suc v → Head fs ls v × (dayAt fs v ≤ h) × (l ≤ dayAt ls v)
-      pub miss : (x : ℕ) → m ≤ x → x < length fs → fitsAt fs ls h l x ≡ true → ⊥
+  -- THE THEOREMS, for any two days
+  pub listing : walk fs ls l (start fs ls h l) .list ≡ keep (fitsAt fs ls h l) (length fs)
+  listing = right .0
 
-    pub start-is : Start (start fs ls h l)
-    unfolding start
-    start-is = let i = below-is (λ p. head fs ls p && fitsAt fs ls h l p) (length fs) in record {
-      within = i .within;
-      hit = λ v e. let q = both (head fs ls v) (fitsAt fs ls h l v) (i .hit v e) in let r = fits-of v (q .1) in (q .0, r .0, r .1);
-      miss = λ x a b e.
-          let q = top fs ls sorted x b in
-          let y : Top fs ls sorted x (q .0) = q .1 in
-          let r = fits-of x e in
-          i .miss (q .0) (omega (arith, y .above)) (y .inside) (rw (y .is) (of-fits (q .0) (rw (y .first) at (r .0)) (omega (arith, y .last))));
-    }
-
-    -- THE LISTING and THE LOOKS
-    pub record Right (m : ℕ) (w : Progress) : Type 0 where
-      pub list : w .list ≡ keep (fitsAt fs ls h l) (length fs)
-      pub comparisons : w .comparisons ≡ formula fs ls m (w .list)
-
-    pub walk-right : (m : ℕ) → Start m → Right m (walk fs ls l m)
-    walk-right m i = unfold walk formula due count keep in
-        let w = climb-went fs ls sorted l (onPath fs ls (length fs) m) (length fs) m nothing (i .within) (i .within) (λ v z. let q = i .hit v z in (q .0, le-leb l (dayAt ls v) (q .2))) (λ x _. refl) in
-        let a : walk fs ls l m .list ≡ keep (reach fs ls l) m = w .list ∙ append-nil (keep (reach fs ls l) m) in
-        let b = keep-ext (reach fs ls l) (fitsAt fs ls h l) m (λ p k. by-mark m (λ z. absurd (omega arith)) (λ v z.
-        reach-fits p (omega (arith, days-rise p v (omega arith) (omega (arith, i .within)), i .hit v z .1)))) in
-        record { list = a ∙ b ∙ sym (keep-skip (fitsAt fs ls h l) m (length fs) (i .within) (i .miss)); comparisons = rw a (omega (arith, w .comparisons)) }
+  pub comparisons-formula : walk fs ls l (start fs ls h l) .comparisons ≡ formula fs ls (start fs ls h l) (keep (fitsAt fs ls h l) (length fs))
+  comparisons-formula = right .1 ∙ ap (formula fs ls (start fs ls h l)) listing
 
 -- never more than three comparisons for each spell listed
 pub formula-le : (fs ls : List ℕ) (m : ℕ) (ps : List ℕ) → formula fs ls m ps ≤ 3 * length ps
 formula-le fs ls m ps = unfold formula in omega (arith, count-le (hasNext fs ls) ps, count-le (hasLeft fs ls) ps, count-le (hasChild fs ls (onPath fs ls (length fs) m)) ps)
-
--- THE THEOREMS, for any two days
-module _ (fs ls : List ℕ) (sorted : Sorted fs ls) (h l : ℕ) where
-  pub right : Right fs ls sorted h l (start fs ls h l) (walk fs ls l (start fs ls h l))
-  right = walk-right fs ls sorted h l (start fs ls h l) (start-is fs ls sorted h l)
-
-  pub listing : walk fs ls l (start fs ls h l) .list ≡ keep (fitsAt fs ls h l) (length fs)
-  listing = right .list
-
-  pub comparisons-formula : walk fs ls l (start fs ls h l) .comparisons ≡ formula fs ls (start fs ls h l) (keep (fitsAt fs ls h l) (length fs))
-  comparisons-formula = right .comparisons ∙ ap (formula fs ls (start fs ls h l)) listing

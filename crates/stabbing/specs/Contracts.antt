@@ -27,13 +27,13 @@ module _ (fs ls : List ℕ) where
   abbrev pub bottom : ℕ → ℕ
   bottom v = below (head fs ls) v
 
-  -- The stretch of positions from the mark m up to the head v, both of the tree: m is v's parent or lies on the way to it,
-  -- every head of the stretch ends before v does, and has its parent in the stretch or at m.
+  -- The stretch of positions from the mark m up to the head v, both of the tree: m is v's parent or lies on the way from it to v, so
+  -- that every head of the stretch ends before v does; and each has its parent in the stretch or at m.
   pub record Stretch (m v : ℕ) : Type 0 where
     pub top : Head v
     pub inside : v < length fs
     pub base : m ≤ bottom v
-    pub low : (x : ℕ) → m ≤ x → x < v → Head x → dayAt ls x < dayAt ls v
+    pub low : parent fs ls v ≤ m
     pub deep : (x : ℕ) → m ≤ x → x < v → Head x → m ≤ parent fs ls x
 
   -- where the stretch of a last child w ends: at the first later head that lasts longer
