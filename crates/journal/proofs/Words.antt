@@ -2,29 +2,16 @@
 use Rattle.basis.proofs.Prelude.{_∙_, _≡_, ap, refl, sym, _+_, _<_, _≤_, suc, ℕ, List, _++_, Bool, cond, false, not, true, eqb, drop, getD, length, length-append, length-drop, length-set, set, drop-drop, getD-drop, add-zero, add-one, add-two, arith, le-leb, lt-leb, by-test}
 use mir.Val.{Val, boolByte}
 use denote.Laws.{Is}
-use Rattle.spell.specs.declared.Spell.{Spell}
-use Rattle.packing.{specs.{Blocks.put, Words.{spellWords, spellOf}}, proofs.{Blocks.put-sets, Words.{spell-back, spell-held, spell-long, spell-reads}}}
+use Rattle.packing.{specs.{Blocks.put, Words.{spellWords, spellOf}}, proofs.{Blocks.put-sets, Words.{spell-back, spell-held, spell-long}}}
 use Rattle.journal.specs.{declared.Undo.Undo, Journal.blankEntry, Words.{entryWords, entryOf}}
 use Rattle.journal.proofs.Undo.{the-row as entry-row}
 
 pub entry-long : (e : Undo) → length (entryWords e) ≡ 9
 entry-long e = unfold entryWords in ap (λ (n : ℕ). suc (suc n)) (spell-long (e .spell))
 
--- the entry of a number, a word for a spell that stood or none, and a spell
-abbrev read : ℕ → ℕ → Spell → Undo
-read k stood s = record { number = k; stood = not (eqb stood 0); spell = s }
-
--- the words after an entry's own are not read
-pub entry-reads : (e : Undo) (r : List ℕ) → entryOf (entryWords e ++ r) ≡ entryOf (entryWords e)
-entry-reads e r = unfold entryOf in
-    rw (le-leb 9 (length (entryWords e ++ r)) (omega (arith, length-append (entryWords e) r, entry-long e)), le-leb 9 (length (entryWords e)) (omega (arith, entry-long e)))
-    (unfold entryWords in ap (read (e .number) (cond (e .stood) 1 0)) (spell-reads (e .spell) r))
-
 pub entry-back : (e : Undo) → spellOf (spellWords (e .spell)) ≡ e .spell → entryOf (entryWords e) ≡ e
-unfolding entryOf
-entry-back e h =
-    rw (le-leb 9 (length (entryWords e)) (omega (arith, entry-long e)))
-    (unfold entryWords in rw h (by-test (e .stood) (λ s. rw s) (λ s. rw s)))
+entry-back e h = unfold entryOf entryWords in
+    rw (le-leb 9 (length (entryWords e)) (omega (arith, entry-long e)), h) (by-test (e .stood) (λ s. rw s) (λ s. rw s))
 
 -- what the checker knows of every entry that a program holds: its spell's urgency has its type's width, so that the entry reads back
 pub entry-held : (e : Undo) (vs : List Val) → Is entry-row e vs → entryOf (entryWords e) ≡ e

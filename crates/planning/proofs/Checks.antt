@@ -1,43 +1,45 @@
--- The plans of an entry and of an amend, as the code has them by its checks. Assumes nothing.
-use Rattle.basis.proofs.Prelude.{_∙_, _≡_, ap, sym, ℕ, List, Bool, true, false, cond, eqb, eqb-true, leb, ltb, by-test, eq-eqb, ne-eqb}
-use Rattle.planning.proofs.{Names.{Val, Is, accepted, duplicateNumber, unknownNumber, full, Spell, spell-row, refusalOf, Sound, orElse, sameOf, enterCheck, amendCheck, Plan, noPlan, planEnter, planAmend}, Held.sound}
+-- What the checker knows of every spell that a program holds, and the plans of an entry and of an amend, as the code has them by its checks. Assumes nothing.
+use Rattle.basis.proofs.Prelude.{_∙_, _≡_, ap, sym, ℕ, List, Bool, true, false, cond, eqb, eqb-true, leb, ltb, arith, by-test, eq-eqb, ne-eqb}
+use Rattle.planning.proofs.Names.{Val, Is, accepted, duplicateNumber, unknownNumber, full, Urgency, Grade, Reading, HeldUrgency, Spell, spell-row, urgency-row, refusalOf, Sound, orElse, enterCheck, amendCheck, Plan, noPlan}
 
--- where both checks accept, so does the first
-own-passes : (n m : ℕ) → orElse n m ≡ accepted → n ≡ accepted
-own-passes n m h = by-test (eqb n accepted) (λ e. eqb-true n accepted e) (λ e. rw e at h)
+-- its numbers are 16 bits wide, and its reading is a 32-bit float
+held : (u : Urgency) (vs : List Val) → Is urgency-row u vs → HeldUrgency u
+held (Grade g) vs p = tt
+held (Reading x) vs p = rw (p .1 .1 .1 .1 .0 .1) tt
+
+-- so a spell that passes the checks is sound
+sound : (s : Spell) (vs : List Val) → Is spell-row s vs → refusalOf s ≡ accepted → Sound s
+sound s vs p e = let number = p .1 .1 .0 in let name = p .1 .1 .1 .0 in
+    let urgency = held (s .urgency) _ (p .1 .1 .1 .1 .1 .1 .0) in search arith
 
 -- a plan that is refused takes no spell
 pub untaken : {s : Spell} {x : Plan} {d z : ℕ} → x ≡ noPlan d z → (z ≡ accepted → ⊥) → x .refusal ≡ accepted → Sound s
 untaken is differs e = absurd (differs (sym (ap (λ (x : Plan). x .refusal) is) ∙ e))
 
 -- and one that is not, a sound one
-pub taken : (s : Spell) (vs : List Val) {all own : ℕ} (later : ℕ) → Is spell-row s vs → all ≡ orElse own later → own ≡ refusalOf s → all ≡ accepted → Sound s
-taken s vs later known ea eo done = sound s vs known (own-passes (refusalOf s) later (rw (← eo, ← ea) done))
+pub taken : (s : Spell) (vs : List Val) {z own : ℕ} (later : ℕ) → Is spell-row s vs → z ≡ orElse own later → own ≡ refusalOf s → z ≡ accepted → Sound s
+taken s vs later known e is done = let passes : orElse (refusalOf s) later ≡ accepted = rw (← is, ← e) done in
+    sound s vs known (by-test (eqb (refusalOf s) accepted) (eqb-true (refusalOf s) accepted) (λ y. rw y at passes))
 
-module _ (s : Spell) (p n d : ℕ) {all own later taken most : ℕ} (ea : all ≡ orElse own later) (eo : own ≡ refusalOf s)
-    (el : later ≡ orElse taken most) (et : taken ≡ cond (ltb p n) duplicateNumber accepted) (em : most ≡ cond (leb 1024 n) full accepted) where
-  entered : all ≡ enterCheck s p n
-  entered = rw (ea, el, eo, et, em)
+-- the number z of the checks
+pub entered : (s : Spell) (p n : ℕ) {z own later taken most : ℕ} → z ≡ orElse own later → own ≡ refusalOf s → later ≡ orElse taken most
+    → taken ≡ cond (ltb p n) duplicateNumber accepted → most ≡ cond (leb 1024 n) full accepted → z ≡ enterCheck s p n
+entered s p n e own later taken most = rw (e, later, own, taken, most)
 
-  pub enter-refused : {x : Plan} → x ≡ noPlan d all → (all ≡ accepted → ⊥) → x ≡ planEnter s p n d
-  enter-refused is differs = is ∙ rw (← entered, ne-eqb _ _ differs)
+pub amended : (s : Spell) (p n : ℕ) {z own later : ℕ} → z ≡ orElse own later → own ≡ refusalOf s → later ≡ cond (leb n p) unknownNumber accepted → z ≡ amendCheck s p n
+amended s p n e own later = rw (e, later, own)
 
-  pub enter-passes : all ≡ accepted
-      → record { refusal = accepted; out = 1024; puts = true; spell = s; notes = true; entry = record { number = s .number; stood = false; spell = s }; depth = d } ≡ planEnter s p n d
-  enter-passes done = rw (eq-eqb _ _ (sym entered ∙ done))
+-- the plan by it, and by a further test t
+module _ {x : Plan} {z : ℕ} (w : ℕ) (y : Plan) (e : z ≡ w) where
+  pub refused : {d : ℕ} → x ≡ noPlan d z → (z ≡ accepted → ⊥) → x ≡ cond (eqb w accepted) y (noPlan d w)
+  refused is differs = is ∙ rw (← e, ne-eqb _ _ differs)
 
-module _ (s : Spell) (p : ℕ) (old : Spell) (n d : ℕ) {all own later : ℕ} (ea : all ≡ orElse own later) (eo : own ≡ refusalOf s)
-    (el : later ≡ cond (leb n p) unknownNumber accepted) where
-  amended : all ≡ amendCheck s p n
-  amended = rw (ea, el, eo)
+  pub passed : (u : Plan) → z ≡ accepted → x ≡ y → x ≡ cond (eqb w accepted) y u
+  passed u done is = is ∙ rw (← e, eq-eqb _ _ done)
 
-  pub amend-refused : {x : Plan} → x ≡ noPlan d all → (all ≡ accepted → ⊥) → x ≡ planAmend s p old n d
-  amend-refused is differs = is ∙ rw (← amended, ne-eqb _ _ differs)
+module _ {x : Plan} {b : Bool} (t : Bool) (y : Plan) (e : b ≡ t) where
+  pub same : (u : Plan) → b ≡ true → x ≡ y → x ≡ cond t y u
+  same u h is = is ∙ rw (← e, h)
 
-  module _ (done : all ≡ accepted) {b : Bool} (eb : b ≡ sameOf old s) where
-    pub amend-idles : {x : Plan} → b ≡ true → x ≡ noPlan d accepted → x ≡ planAmend s p old n d
-    amend-idles same is = is ∙ rw (eq-eqb _ _ (sym amended ∙ done), sym eb ∙ same)
-
-    pub amend-passes : b ≡ false
-        → record { refusal = accepted; out = p; puts = true; spell = s; notes = true; entry = record { number = s .number; stood = true; spell = old }; depth = d } ≡ planAmend s p old n d
-    amend-passes other = rw (eq-eqb _ _ (sym amended ∙ done), sym eb ∙ other)
+  pub other : b ≡ false → x ≡ cond t y x
+  other h = rw (← e, h)

@@ -1,6 +1,6 @@
 -- A plan is what the account says of its call, on the list l of n spells where its number stands at p; its checks are those of the account,
 -- in their order. Assumes nothing.
-use Rattle.basis.proofs.Prelude.{_∙_, _≡_, ap, refl, sym, _-_, _<_, _≤_, suc, ℕ, List, _∷_, false, true, leb, ltb, drop, getD, length, length-append, length-drop, length-take, take, arith, eq-eqb, le-leb, leb-false, leb-true, lt-leb, ltb-false, ltb-true, ne-eqb, by-test}
+use Rattle.basis.proofs.Prelude.{_∙_, _≡_, ap, refl, sym, _-_, _<_, _≤_, suc, ℕ, List, _∷_, false, true, leb, ltb, drop, getD, length, length-append, length-drop, length-take, take, arith, eq-eqb, le-leb, leb-false, leb-true, lt-leb, ltb-false, ltb-true, ne-eqb, by-cases, by-test, cond}
 use Rattle.refusal.specs.Table.{accepted, unknownNumber, noHistory}
 use Rattle.spell.specs.{declared.Spell.Spell, Blank.blank, Listing.stands, Same.sameOf}
 use Rattle.model.{specs.Edits.{insert, remove, replace, idle, enterRefusal, amendRefusal}, proofs.Checks.{enters, amends}}
@@ -16,9 +16,6 @@ module _ (l : List Spell) (k : ℕ) {n p : ℕ} (long : length l ≡ n) (at-inde
 
   place-in : stands l k ≡ true → p < n
   place-in h = ltb-true p n (sym stands-is ∙ h)
-
-  place-out : stands l k ≡ false → n ≤ p
-  place-out h = ltb-false p n (sym stands-is ∙ h)
 
 -- ---- Enter and amend of the spell s, as the code checks it
 
@@ -88,7 +85,7 @@ module _ (l : List Spell) (s : Spell) {n p : ℕ} (long : length l ≡ n) (few :
 
 module _ (l : List Spell) (k : ℕ) {n p : ℕ} (long : length l ≡ n) (at : p ≡ standsAt k l) (d : ℕ) where
   pub strike-leaves : stands l k ≡ false → planStrike k p (getD l p blank) n d ≡ noPlan d unknownNumber
-  strike-leaves h = rw (le-leb n p (place-out l k long at h))
+  strike-leaves h = rw (le-leb n p (ltb-false p n (sym (stands-is l k long at) ∙ h)))
 
   pub strike-makes : stands l k ≡ true → Makes (planStrike k p (getD l p blank) n d) l (remove k l) (replacing k l) d
   strike-makes h =
@@ -103,12 +100,9 @@ back-leaves e p none = rw none
 pub back-undoes : (l : List Spell) (e : Undo) {p : ℕ} (d : ℕ) → p ≡ standsAt (e .number) l → (d ≡ 0 → ⊥) → (e .stood ≡ true → length (remove (e .number) l) < 1024)
     → Undoes (planBack e p d) l (undo e l) d
 back-undoes l e {p} d at some room = unfold undo in
-    rw (ne-eqb d 0 some) (record {
-      done = refl;
-      list = rw (removed-is (e .number) l at) (by-test (e .stood) (λ s. rw s (put-in (e .spell) _ (room s))) (λ s. rw s));
-      notes = refl;
-      depth = refl;
-    })
+    let list : putting (e .stood) (e .spell) (without p l) ≡ cond (e .stood) (insert (e .spell) (remove (e .number) l)) (remove (e .number) l)
+    = rw (removed-is (e .number) l at) (by-test (e .stood) (λ s. rw s (put-in (e .spell) _ (room s))) (λ s. rw s)) in
+    rw (ne-eqb d 0 some) (search)
 
 -- ---- The depth
 
@@ -116,5 +110,4 @@ back-undoes l e {p} d at some room = unfold undo in
 pub deeper-noted : (e : Undo) (es : List Undo) → length es ≤ 64 → deeperBy (length es) true ≡ length (noted e es)
 deeper-noted e es few =
     let many = length-take 64 (e ∷ es) in
-    by-test (leb 64 (length es))
-    (λ h. rw h (omega (arith, leb-true 64 (length es) h))) (λ h. rw h (omega (arith, leb-false 64 (length es) h)))
+    by-cases (λ r. r ≡ length (noted e es)) (leb 64 (length es)) (λ h. omega (arith, leb-true 64 (length es) h)) (λ h. omega (arith, leb-false 64 (length es) h))

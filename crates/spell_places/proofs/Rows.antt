@@ -23,25 +23,17 @@ module _ (f : Spell → ℕ) (a : List Spell) (before : List ℕ) where
   filled-none = record { long = refl; so-far = refl }
 
   pub filled-more : (c : List ℕ) (i : ℕ) {v : ℕ} → v ≡ f (getD a i blank) → i < length a → i < length before → Filled f a before c i → Filled f a before (set c i v) (i + 1)
-  filled-more c i is ha hb e = record {
-    long = length-set c i _ ∙ e .long;
-    so-far = rw (e .so-far, map-take f i a, map-take f (i + 1) a)
-        (buffer.filled before (map f a) i (f blank) _ (is ∙ sym (List·getD-map f a i blank)) hb (rw length-map ha));
-  }
+  filled-more c i {v} is ha hb e = let so-far : set c i v ≡ map f (take (i + 1) a) ++ drop (i + 1) before = rw (e .so-far, map-take f i a, map-take f (i + 1) a)
+      (buffer.filled before (map f a) i (f blank) v (is ∙ sym (List·getD-map f a i blank)) hb (rw length-map ha)) in search length-set
 
 -- the column of the first n, in a field of the spells as a rule publishes them, is that of their list
 laid : (rule n : ℕ) (a : List Spell) (few : n ≤ length a) (f : Spell → ℕ) {before c : List ℕ} {i : ℕ} → i ≡ n
     → Filled (λ s. f (cut rule s)) a before c i → c ≡ columnOf f (map (cut rule) (take n a)) before
 laid rule n a few f done e = rw (map-map f (cut rule) (take n a), length-map, length-take-le n a few, ← done) (e .so-far)
 
--- the columns of the first n spells as a rule publishes them
-pub laid-out : (rule n : ℕ) (a : List Spell) {i : ℕ} {numbers candidates firsts lasts numbers′ candidates′ firsts′ lasts′ : List ℕ} → n ≤ length a → i ≡ n
+-- the columns of the first n spells, which are those that a count names, as a rule publishes them
+pub laid-out : (rule n count : ℕ) (a : List Spell) {i : ℕ} {numbers candidates firsts lasts numbers′ candidates′ firsts′ lasts′ : List ℕ} → n ≤ length a → take n a ≡ take count a → i ≡ n
     → Filled (λ s. s .number) a numbers numbers′ i → Filled (λ s. s .candidate) a candidates candidates′ i → Filled (λ s. s .first) a firsts firsts′ i → Filled (lastOf rule) a lasts lasts′ i
-    → LaidOut (map (cut rule) (take n a)) n numbers candidates firsts lasts numbers′ candidates′ firsts′ lasts′
-laid-out rule n a few all number candidate first last = record {
-  count = sym (length-map (take n a) (cut rule) ∙ length-take-le n a few);
-  number = laid rule n a few (λ s. s .number) all number;
-  candidate = laid rule n a few (λ s. s .candidate) all candidate;
-  first = laid rule n a few (λ s. s .first) all first;
-  last = laid rule n a few (λ s. s .last) all last;
-}
+    → LaidOut (map (cut rule) (take count a)) n numbers candidates firsts lasts numbers′ candidates′ firsts′ lasts′
+laid-out rule n count a few named all number candidate first last =
+    let many = sym (length-map (take n a) (cut rule) ∙ length-take-le n a few) in rw (← named) (search laid)

@@ -1,120 +1,67 @@
 -- What the builder lays is the block of the definition: column by column, and then the whole. Assumes nothing.
-use Rattle.stabbing_index.proofs.{Names.{lt-ltb, ltb-false, not, not-true, not-false, needs, Linked, Chained, _≢_, _∙_, _≡_, ap, refl, sym, _+_, _-_, _<_, _≤_, suc, zero, ℕ, List, [], _++_, _∷_, append-assoc, Bool, false, true, ltb, getD, length, length-append, length-set, set, take, getD-take, length-take-le, take-all, take-suc-set, arith, le-leb, lt-leb, by-test, dayAt, parent, child, lastChild, next, start, latest, capacity, dayCount, firstColumn, lastColumn, parentColumn, leftColumn, childColumn, nextColumn, startTable, latestTable, bucketTable, rowCount, indexLength, rowsOk, column, lastOf, headLink, rowLink, laid, blockOf, row-past, left-small, child-small, next-small, column-length, column-only, Columns, ColumnsOf, Holding, Dayed, DaysAsks, Extends, nameWords, MarksIn, markWords, beside, linkWords, dayWords, RowsOf}, Laying.{laid-more, laid-over, column-ext}, Links.{holding-same, unlinked, unchained}}
+use Rattle.stabbing_index.proofs.{Names.{length-take, List·getD-eq-default, ltb, not, not-true, not-false, needs, Linked, Chained, _&&_, _≢_, _∙_, _≡_, ap, refl, sym, _+_, _-_, _<_, _≤_, suc, zero, ℕ, List, [], _++_, _∷_, append-assoc, Bool, false, true, getD, getD-take, length, length-set, set, take, length-take-le, take-all, arith, le-leb, lt-leb, lt-ltb, by-mark, by-test, clash, dayAt, head, parent, child, lastChild, leftSibling, next, start, latest, capacity, dayCount, firstColumn, lastColumn, parentColumn, leftColumn, childColumn, nextColumn, startTable, latestTable, bucketTable, rowCount, indexLength, rowsOk, column, lastOf, headLink, rowLink, laid, blockOf, child-is, parent-is, head-past, row-past, left-small, child-small, next-small, column-length, column-at, column-only, Columns, ColumnsOf, Grown, Dayed, DaysAsks, Extends, nameWords, markWords, beside, linkWords, dayWords, RowsOf}, Laying.{laid-more, laid-word, laid-column, grown-all, naming}, DayTables.undayed, Links.{unlinked, unchained}}
 use Rattle.stabbing_index.specs.Build.{Builds}
-use Rattle.stabbing.proofs.Block.{rows-sorted, rows-days}
+use Rattle.stabbing.proofs.Block.{rows-sorted}
+
+-- ---- words of the rows
+pub row-none : (xs : List ℕ) (n k : ℕ) → n ≤ k → 0 ≡ dayAt (take n xs) k
+row-none xs n k h = sym (List·getD-eq-default (take n xs) 0 {n = k} (omega (arith, length-take n xs)))
 
 -- the last day of the row with the mark m, by the column
-pub last-some : (ys : List ℕ) (m : ℕ) → m ≢ 0 → getD ys (m - 1) 0 ≡ lastOf ys m
-last-some ys zero h = absurd (h refl)
-last-some ys (suc p) h = let z : suc p - 1 ≡ p = omega arith in rw z
+pub last-some : (ys : List ℕ) {m r : ℕ} → m ≢ 0 → r ≡ m → getD ys (r - 1) 0 ≡ lastOf ys m
+last-some ys {m} h e = by-mark m (λ z. absurd (h z)) (λ p z. let y : m - 1 ≡ p = omega arith in rw (e, y, z))
 
-same-last : {xs ys fs ls : List ℕ} {n : ℕ} (m : ℕ) → Columns xs ys fs ls n → m ≤ n → lastOf ys m ≡ lastOf ls m
+pub last-none : (ys : List ℕ) {m r : ℕ} → m ≢ 0 → r ≡ m → length ys ≤ r - 1 → 0 ≡ lastOf ys m
+last-none ys {r = r} h e g = sym (List·getD-eq-default ys 0 {n = r - 1} g) ∙ last-some ys h e
+
+same-last : {xs ys fs ls : List ℕ} {n : ℕ} (m : ℕ) → Columns xs ys fs ls n → m ≤ length fs → lastOf ys m ≡ lastOf ls m
 same-last zero q h = refl
-same-last (suc p) q h = q .lasts p h
+same-last (suc p) q h = q .lasts p (omega (arith, q .count))
 
--- the same words: a list and the column that it is; 0 after a list
-laid-column : {e x ws : List ℕ} {a : ℕ} (n : ℕ) (f : ℕ → ℕ) → length ws ≡ n → ((p : ℕ) → p < n → getD ws p 0 ≡ f p) → Extends e a (a + length ws) ws x → Extends e a (a + n) (column n f) x
-laid-column {ws = ws} n f s w i = rw (s, column-only n f ws s w) at i
-
-padded : (xs : List ℕ) (m p : ℕ) → getD (xs ++ column m (λ _. 0)) p 0 ≡ getD xs p 0
-unfolding column
-padded [] zero p = refl
-padded [] (suc m) zero = refl
-padded [] (suc m) (suc p) = padded [] m p
-padded (x ∷ xs) m zero = refl
-padded (x ∷ xs) m (suc p) = padded xs m p
-
--- ---- a column of the rows
-pub taken : (n : ℕ) (xs : List ℕ) → n ≤ length xs → n ≡ length (take n xs)
-taken n xs h = sym (length-take-le n xs h)
-
-pub rows-fit : (a n : ℕ) {m : ℕ} (xs : List ℕ) → n ≤ 1024 → n ≤ length xs → a + 1024 ≤ m → a + length (take n xs) ≤ m
-rows-fit a n xs h g k = omega (arith, taken n xs g)
-
-pub rows-laid : {e m x : List ℕ} {a : ℕ} (xs : List ℕ) (n : ℕ) → n ≤ 1024 → n ≤ length xs → Extends e a (a + length (take n xs)) (take n xs) m
-    → Extends m (a + n) (a + n + (1024 - n)) (column (1024 - n) (λ _. 0)) x → Extends e a (a + 1024) (column capacity (dayAt (take n xs))) x
-rows-laid {a = a} xs n h g i j = let l : length (take n xs) ≡ n = length-take-le n xs g in
-    let t : a + n + (1024 - n) ≡ a + 1024 = omega arith in
-    let ws : List ℕ = take n xs ++ column (1024 - n) (λ _. 0) in
-    let s : length ws ≡ 1024 = length-append (take n xs) (column (1024 - n) (λ _. 0)) ∙ omega (arith, column-length (1024 - n) (λ _. 0)) in
-    rw (t, column-only capacity (dayAt (take n xs)) ws s (λ p _. padded (take n xs) (1024 - n) p)) at (laid-more (rw l at i) j)
-
--- ---- the columns of links
-module _ {xs ys fs ls : List ℕ} {n : ℕ} (q : Columns xs ys fs ls n) where
-  -- a column of marks, and the last days beside it
-  module _ {ws : List ℕ} {f : ℕ → ℕ} (w : Holding ws f) (small : (p : ℕ) → f p ≤ length fs) where
-    marked : MarksIn ws
-    marked = record { small = λ p g. omega (arith, w .words p, small p, q .count, q .few) }
-
-    marks-laid : {e x : List ℕ} {a b : ℕ} → Extends e a b (markWords ys ws) x → Extends e a b (beside ls f) x
-    marks-laid i = rw (
-      column-ext capacity (λ p. lastOf ys (getD ws p 0)) (λ p. lastOf ls (f p)) (λ p _. ap (lastOf ys) (w .words p) ∙ same-last (f p) q (omega (arith, small p, q .count))),
-      column-only capacity f ws (w .size) (λ p _. w .words p),
-    ) at i
+-- a column of marks, and the last days beside it
+marks-laid : {xs ys fs ls e x : List ℕ} (ws : List ℕ) {n a b : ℕ} {f : ℕ → ℕ} → Columns xs ys fs ls n → length ws ≡ capacity → ((p : ℕ) → getD ws p 0 ≡ f p) → ((p : ℕ) → f p ≤ length fs)
+    → Extends e a b (markWords ys ws) x → Extends e a b (beside ls f) x
+marks-laid {ys = ys} {ls = ls} ws {f = f} q s w small i = let g : ℕ → ℕ = λ p. lastOf ys (getD ws p 0) in rw (
+  column-only capacity (λ p. lastOf ls (f p)) (column capacity g) (column-length capacity g) (λ p h. column-at capacity g p h ∙ rw (w p) (same-last (f p) q (small p))),
+  column-only capacity f ws s (λ p _. w p),
+) at i
 
 -- ---- the links and the tables by day, one column after another
 pub days-laid : {fs ls ss bs : List ℕ} → Dayed fs ls ss bs dayCount → {e m x : List ℕ} → Extends e startTable (startTable + length ss) ss m → Extends m latestTable (latestTable + length bs) bs x → Extends e startTable bucketTable (dayWords fs ls) x
 unfolding dayWords
-days-laid {fs} {ls} q i j = laid-more (laid-column dayCount (λ d. start fs ls d d) (q .starts .size) (q .starts .words) i) (laid-column dayCount (latest fs ls) (q .begun .size) (q .begun .words) j)
+days-laid {fs} {ls} q i j = laid-more (laid-column dayCount (λ d. start fs ls d d) (q .starts .size) (q .starts .done) i) (laid-column dayCount (latest fs ls) (q .begun .size) (q .begun .done) j)
 
 -- ---- what the passes ask of rows that can be published, and what `link` found of them
 module _ (xs ys : List ℕ) (n : ℕ) (rows : RowsOf xs ys n) where
   pub columns-of : ColumnsOf xs ys n
-  columns-of = record {
-    count = rows .count;
-    few = rows .few;
-    sorted = rows-sorted (take n xs) (take n ys) (rows .in-order);
-    firsts = λ p h. sym (getD-take n xs p 0 h);
-    lasts = λ p h. sym (getD-take n ys p 0 h);
-  }
+  columns-of = let sorted = rows-sorted (take n xs) (take n ys) (rows .in-order) in search getD-take
 
-  abbrev fs : List ℕ
-  fs = take n xs
+  pub days-asked : {ps qs cs : List ℕ} → Linked (take n xs) (take n ys) ps qs cs n → DaysAsks xs ys n ps
+  days-asked found = let columns = columns-of in search
 
-  abbrev ls : List ℕ
-  ls = take n ys
+module _ {xs ys fs ls ps qs cs : List ℕ} {n : ℕ} (q : Columns xs ys fs ls n) (found : Linked fs ls ps qs cs n) where
+  -- every child has a head for its parent, so the column of the children is that of the heads' last children
+  last-children : (v : ℕ) → getD cs v 0 ≡ headLink fs ls (lastChild fs ls) v
+  last-children v = unfold lastChild in found .children v ∙ by-test (ltb v (length fs) && head fs ls v) (λ e. rw (e, q .count))
+      (λ e. rw e (by-mark (child fs ls (suc v) n) (λ z. z) (λ b z. let c = child-is fs ls (suc v) n in let p = parent-is fs ls b in
+      let t : ltb v (length fs) && head fs ls v ≡ true = rw (lt-ltb v (length fs) (omega (arith, c .within, c .hit b z .1, p .within, q .count)), p .hit v (c .hit b z .1) .0) in absurd (clash t e))))
 
-  module _ {ps qs cs : List ℕ} (found : Linked fs ls ps qs cs n) where
-    -- the links of all heads
-    links : Linked fs ls ps qs cs (length fs)
-    links = rw (rows .count) found
-
-    pub left-marks : MarksIn qs
-    left-marks = marked columns-of (links .lefts) (left-small fs ls)
-
-    pub child-marks : MarksIn cs
-    child-marks = unfold lastChild in marked columns-of (links .children) (child-small fs ls)
-
-    pub days-asked : DaysAsks xs ys n ps
-    days-asked = record {
-      columns = columns-of;
-      begins = λ p h. rows-days fs ls (rows .in-order) p (omega (arith, rows .count)) .0;
-      forward = λ p h. rows-days fs ls (rows .in-order) p (omega (arith, rows .count)) .1;
-      parents = λ v h hv. found .parents .words v ∙ rw (lt-ltb v n h, hv);
-    }
-
-    module _ {ns : List ℕ} (chains : Chained fs ls ns n) where
-      nexts : Holding ns (rowLink fs ls (next fs ls))
-      nexts = holding-same (chains .nexts) (λ v. by-test (ltb v (suc n)) (λ e. rw e) (λ e. rw e (sym (row-past fs ls (next fs ls) v (omega (arith, rows .count, ltb-false v (suc n) e))))))
-
-      pub next-marks : MarksIn ns
-      next-marks = marked columns-of nexts (next-small fs ls)
-
-      pub tree-laid : {e₀ e₁ e₂ e₃ e₄ e₅ : List ℕ} → Extends e₀ parentColumn (parentColumn + length ps) ps e₁ → Extends e₁ leftColumn childColumn (markWords ys qs) e₂ → Extends e₂ childColumn nextColumn (markWords ys cs) e₃
-          → Extends e₃ nextColumn startTable (markWords ys ns) e₄ → Extends e₄ startTable bucketTable (dayWords fs ls) e₅ → Extends e₀ parentColumn bucketTable (linkWords fs ls ++ dayWords fs ls) e₅
-      tree-laid parents left child chain days = unfold linkWords lastChild in laid-more (laid-more (laid-more (laid-more
-          (laid-column capacity (headLink fs ls (parent fs ls)) (links .parents .size) (λ p _. links .parents .words p) parents)
-          (marks-laid columns-of (links .lefts) (left-small fs ls) left))
-          (marks-laid columns-of (links .children) (child-small fs ls) child))
-          (marks-laid columns-of nexts (next-small fs ls) chain))
-          days
+  pub tree-laid : {ns e₀ e₁ e₂ e₃ e₄ e₅ : List ℕ} → Chained fs ls ns n → Extends e₀ parentColumn (parentColumn + length ps) ps e₁ → Extends e₁ leftColumn childColumn (markWords ys qs) e₂
+      → Extends e₂ childColumn nextColumn (markWords ys cs) e₃ → Extends e₃ nextColumn startTable (markWords ys ns) e₄ → Extends e₄ startTable bucketTable (dayWords fs ls) e₅
+      → Extends e₀ parentColumn bucketTable (linkWords fs ls ++ dayWords fs ls) e₅
+  tree-laid {ns} chains parents left child chain days = unfold linkWords in
+      let past : (link : ℕ → ℕ) (v : ℕ) → n ≤ v → headLink fs ls link v ≡ 0 = λ link v h. head-past fs ls link v (rw (q .count) h) in
+      laid-more (laid-more (laid-more (laid-more
+      (laid-column capacity (headLink fs ls (parent fs ls)) (found .parents .size) (λ p _. grown-all (found .parents) (past (parent fs ls)) p) parents)
+      (marks-laid qs q (found .lefts .size) (grown-all (found .lefts) (past (leftSibling fs ls))) (left-small fs ls) left))
+      (marks-laid cs q (found .size) last-children (child-small fs ls) child))
+      (marks-laid ns q (chains .size) (grown-all chains (λ v h. row-past fs ls (next fs ls) v (omega (arith, q .count)))) (next-small fs ls) chain))
+      days
 
 -- ---- the whole block
 -- the count in the word after them all
 counted : {e x ws : List ℕ} {size : ℕ} (v : ℕ) → Extends e 0 size ws x → length e ≡ size + 1 → set x size v ≡ ws ++ (v ∷ [])
-counted {x = x} {size = size} v i h = sym (take-all (suc size) (set x size v) (omega (arith, length-set x size v, i .size)))
-    ∙ take-suc-set x size v (omega (arith, i .size))
-    ∙ ap (λ (l : List ℕ). l ++ (v ∷ [])) (i .front)
+counted {x = x} {size = size} v i h = sym (take-all (suc size) (set x size v) (omega (arith, length-set x size v, i .size))) ∙ laid-word i v (omega arith) .front
 
 whole : (ns fs ls : List ℕ) (n : ℕ) → length fs ≡ n → column capacity (dayAt ns) ++ column capacity (dayAt fs) ++ column capacity (dayAt ls) ++ (linkWords fs ls ++ dayWords fs ls) ++ nameWords ns n ++ (n ∷ []) ≡ blockOf ns fs ls
 whole ns fs ls n e = unfold blockOf laid linkWords dayWords in rw (sym e) (simp append-assoc)
@@ -143,4 +90,4 @@ rows-of xs ys {n} h {b} t z l = record { few = h; count = length-take-le n xs (o
 
 pub ruleset tests = (out-of-order, built, rows-of, lt-leb, needs)
 
-pub ruleset steps = (last-some, laid-over, taken, rows-fit, rows-laid, unlinked, unchained, columns-of, left-marks, child-marks, next-marks, days-laid, days-asked, tree-laid, filled, needs)
+pub ruleset steps = (undayed, unlinked, unchained, columns-of, days-laid, days-asked, tree-laid, filled, naming)

@@ -37,17 +37,18 @@ headAt xs n k = eqb (suc k) n || not (eqb (getD xs k 0) (getD xs (suc k) 0))
 abbrev pub lastsTo : List ℕ → List ℕ → ℕ → ℕ → Bool
 lastsTo fs ls l b = head fs ls b && leb l (dayAt ls b)
 
--- no head between the mark m and the position a lasts longer than that of m
-pub record Over (fs ls : List ℕ) (m a : ℕ) : Type 0 where
+-- no head between the mark m and the position a lasts longer than that of m, and k is the last child before a of m
+pub record Under (fs ls : List ℕ) (m k a : ℕ) : Type 0 where
   pub within : m ≤ a
   pub long : (v : ℕ) → m ≡ suc v → (x : ℕ) → v < x → x < a → Head fs ls x → dayAt ls x ≤ dayAt ls v
+  pub last : k ≡ child fs ls m a
 
--- m is the mark of a head, and the column ps holds the parents of the heads below it
+-- m is the mark of a head, and the column ps holds the parents below it
 pub record ClimbAt (xs ys fs ls : List ℕ) (n : ℕ) (ps : List ℕ) (m : ℕ) : Type 0 where
   pub columns : Columns xs ys fs ls n
   pub within : m ≤ n
   pub at-head : (v : ℕ) → m ≡ suc v → Head fs ls v
-  pub parents : (v : ℕ) → v < m → Head fs ls v → getD ps v 0 ≡ parent fs ls v
+  pub parents : (v : ℕ) → v < m → getD ps v 0 ≡ headLink fs ls (parent fs ls) v
 
 abbrev pub ClimbAsks : List ℕ → List ℕ → ℕ → List ℕ → ℕ → Type 0
 ClimbAsks xs ys n ps m = ClimbAt xs ys (take n xs) (take n ys) n ps m
@@ -55,7 +56,7 @@ ClimbAsks xs ys n ps m = ClimbAt xs ys (take n xs) (take n ys) n ps m
 -- where the way ends; and of a position a that the way begins under, k becomes the last child before a of where it ends
 pub record Climbed (fs ls : List ℕ) (l m k : ℕ) (w : Way) : Type 0 where
   pub parent : w .parent ≡ below (lastsTo fs ls l) m
-  pub left : (a : ℕ) → Over fs ls m a → k ≡ child fs ls m a → w .left ≡ child fs ls (w .parent) a
+  pub left : (a : ℕ) → Under fs ls m k a → w .left ≡ child fs ls (w .parent) a
   pub low : w .parent ≤ m
   pub left-low : w .left ≤ max m k
 
@@ -64,27 +65,25 @@ ClimbGives xs ys n l m k w = Climbed (take n xs) (take n ys) l m k w
 
 -- ---- The links
 
--- the column ws holds what f gives of each position
-pub record Holding (ws : List ℕ) (f : ℕ → ℕ) : Type 0 where
-  pub size : length ws ≡ capacity
-  pub words : (v : ℕ) → getD ws v 0 ≡ f v
-
--- a link of the heads below k, none of other positions
-abbrev pub linksTo : List ℕ → List ℕ → (ℕ → ℕ) → ℕ → ℕ → ℕ
-linksTo fs ls link k v = cond (ltb v k && head fs ls v) (link v) 0
+-- a column of n words: the first k are those of g, and the others 0
+pub record Grown (n : ℕ) (ws : List ℕ) (g : ℕ → ℕ) (k : ℕ) : Type 0 where
+  pub size : length ws ≡ n
+  pub done : (v : ℕ) → v < k → getD ws v 0 ≡ g v
+  pub rest : (v : ℕ) → k ≤ v → getD ws v 0 ≡ 0
 
 -- the columns ps, qs and cs hold the links of the heads below k: parents, left siblings, and of the children those below k
 pub record Linked (fs ls ps qs cs : List ℕ) (k : ℕ) : Type 0 where
-  pub parents : Holding ps (linksTo fs ls (parent fs ls) k)
-  pub lefts : Holding qs (linksTo fs ls (leftSibling fs ls) k)
-  pub children : Holding cs (linksTo fs ls (λ v. child fs ls (suc v) k) k)
+  pub parents : Grown capacity ps (headLink fs ls (parent fs ls)) k
+  pub lefts : Grown capacity qs (headLink fs ls (leftSibling fs ls)) k
+  pub size : length cs ≡ capacity
+  pub children : (v : ℕ) → getD cs v 0 ≡ child fs ls (suc v) k
 
 abbrev pub LinkedOf : List ℕ → List ℕ → ℕ → List ℕ → List ℕ → List ℕ → ℕ → Type 0
 LinkedOf xs ys n ps qs cs k = Linked (take n xs) (take n ys) ps qs cs k
 
 -- the column ns holds the links of the chains, up to the position k
-pub record Chained (fs ls ns : List ℕ) (k : ℕ) : Type 0 where
-  pub nexts : Holding ns (λ v. cond (ltb v (suc k)) (rowLink fs ls (next fs ls) v) 0)
+abbrev pub Chained : List ℕ → List ℕ → List ℕ → ℕ → Type 0
+Chained fs ls ns k = Grown capacity ns (rowLink fs ls (next fs ls)) (k + 1)
 
 abbrev pub ChainedOf : List ℕ → List ℕ → ℕ → List ℕ → ℕ → Type 0
 ChainedOf xs ys n ns k = Chained (take n xs) (take n ys) ns k
@@ -103,9 +102,10 @@ HeadAsks xs ys n k prev ps qs cs = HeadAt xs ys (take n xs) (take n ys) n k prev
 
 -- ---- The tables by day
 
--- m rows at least begin by day d
+-- m rows at least, of n, begin by day d
 pub record AdvanceAt (xs ys fs ls : List ℕ) (n d m : ℕ) : Type 0 where
   pub columns : Columns xs ys fs ls n
+  pub within : m ≤ n
   pub below : m ≤ latest fs ls d
 
 abbrev pub AdvanceAsks : List ℕ → List ℕ → ℕ → ℕ → ℕ → Type 0
@@ -114,12 +114,11 @@ AdvanceAsks xs ys n d m = AdvanceAt xs ys (take n xs) (take n ys) n d m
 abbrev pub latestIn : List ℕ → List ℕ → ℕ → ℕ → ℕ
 latestIn xs ys n d = latest (take n xs) (take n ys) d
 
--- rows with their parents
+-- rows that can be published, with their parents
 pub record DaysAt (xs ys fs ls : List ℕ) (n : ℕ) (ps : List ℕ) : Type 0 where
   pub columns : Columns xs ys fs ls n
-  pub begins : (p : ℕ) → p < n → 1 ≤ dayAt fs p
-  pub forward : (p : ℕ) → p < n → dayAt fs p ≤ dayAt ls p
-  pub parents : (v : ℕ) → v < n → Head fs ls v → getD ps v 0 ≡ parent fs ls v
+  pub in-order : rowsOk fs ls ≡ true
+  pub parents : (v : ℕ) → v < n → getD ps v 0 ≡ headLink fs ls (parent fs ls) v
 
 abbrev pub DaysAsks : List ℕ → List ℕ → ℕ → List ℕ → Type 0
 DaysAsks xs ys n ps = DaysAt xs ys (take n xs) (take n ys) n ps
@@ -128,6 +127,8 @@ DaysAsks xs ys n ps = DaysAt xs ys (take n xs) (take n ys) n ps
 pub record DayAt (xs ys fs ls : List ℕ) (n : ℕ) (ps : List ℕ) (d m e s : ℕ) : Type 0 where
   pub rows : DaysAt xs ys fs ls n ps
   pub in-calendar : d < 4000
+  pub e-in : e ≤ n
+  pub s-in : s ≤ n
   pub m-is : m ≡ latest fs ls d
   pub e-is : e ≡ latest fs ls (d + 1)
   pub s-is : s ≡ start fs ls d d
@@ -138,15 +139,10 @@ DayAsks xs ys n ps d m e s = DayAt xs ys (take n xs) (take n ys) n ps d m e s
 abbrev pub startIn : List ℕ → List ℕ → ℕ → ℕ → ℕ
 startIn xs ys n d = start (take n xs) (take n ys) d d
 
--- the first d words of a table by day are those of f
-pub record Tabled (ws : List ℕ) (f : ℕ → ℕ) (d : ℕ) : Type 0 where
-  pub size : length ws ≡ dayCount
-  pub words : (x : ℕ) → x < d → getD ws x 0 ≡ f x
-
 -- the tables ss and bs hold the start and the latest of every day below d
 pub record Dayed (fs ls ss bs : List ℕ) (d : ℕ) : Type 0 where
-  pub starts : Tabled ss (λ x. start fs ls x x) d
-  pub begun : Tabled bs (latest fs ls) d
+  pub starts : Grown dayCount ss (λ x. start fs ls x x) d
+  pub begun : Grown dayCount bs (latest fs ls) d
 
 abbrev pub DayedOf : List ℕ → List ℕ → ℕ → List ℕ → List ℕ → ℕ → Type 0
 DayedOf xs ys n ss bs d = Dayed (take n xs) (take n ys) ss bs d
@@ -176,17 +172,16 @@ lowerWord number n j = cond (ltb j n) (inBucket number (bucketOf (getD number j 
 abbrev pub nameWords : List ℕ → ℕ → List ℕ
 nameWords number n = column bucketCount (λ b. inBucket number b n) ++ column capacity (lowerWord number n)
 
--- the words of a column are marks of rows
-pub record MarksIn (marks : List ℕ) : Type 0 where
-  pub small : (p : ℕ) → p < capacity → getD marks p 0 ≤ capacity
+-- the columns bs and ws hold the words of the first k of n rows with the numbers ns: for each bucket the latest, and the one before each
+pub record Named (ns bs ws : List ℕ) (n k : ℕ) : Type 0 where
+  pub within : k ≤ n
+  pub size : length bs ≡ bucketCount
+  pub buckets : (b : ℕ) → b < bucketCount → getD bs b 0 ≡ inBucket ns b k
+  pub lowers : Grown capacity ws (lowerWord ns n) k
 
 -- marks, and the last days of the rows that they name
 abbrev pub markWords : List ℕ → List ℕ → List ℕ
 markWords last marks = marks ++ column capacity (λ p. lastOf last (getD marks p 0))
-
--- as many words as `size` says, from `base` on, are 0
-pub record Zeros (index : List ℕ) (base size : ℕ) : Type 0 where
-  pub at : (j : ℕ) → j < size → getD index (base + j) 0 ≡ 0
 
 -- marks by position, with the last days beside them
 abbrev pub beside : List ℕ → (ℕ → ℕ) → List ℕ

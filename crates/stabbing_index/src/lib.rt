@@ -18,12 +18,12 @@ use stabbing_words::to_usize;
 ghost use mathlib.Core.Path.{_≡_};
 ghost use mathlib.Core.Bool.{_&&_};
 ghost use mathlib.Core.List.{_++_};
-ghost use Prim.Native.Nat.{suc, _+_, _≤_, _<_};
+ghost use Prim.Native.Nat.{_+_, _≤_, _<_};
 ghost use lib.ListN.{length, take};
 ghost use Rattle.stabbing.specs.Tree.{dayAt};
 ghost use Rattle.stabbing.specs.Index.{capacity, dayCount, parentColumn, startTable, bucketTable, rowCount, indexLength, lastOf, rowOk, mayFollow, rowsOk, column, blockOf};
 ghost use Rattle.stabbing_index.specs.Build.{Builds};
-ghost use Rattle.stabbing_index.specs.Contracts.{headAt, ColumnsOf, ClimbAsks, ClimbGives, HeadAsks, LinkedOf, ChainedOf, AdvanceAsks, latestIn, DaysAsks, DayAsks, startIn, DayedOf, Extends, nameWords, MarksIn, markWords, Zeros, linkWords, dayWords, RowsOf};
+ghost use Rattle.stabbing_index.specs.Contracts.{headAt, ColumnsOf, ClimbAsks, ClimbGives, HeadAsks, LinkedOf, ChainedOf, AdvanceAsks, latestIn, DaysAsks, DayAsks, startIn, DayedOf, Extends, nameWords, Named, markWords, linkWords, dayWords, RowsOf};
 
 // ---- rows that can be published
 
@@ -88,10 +88,7 @@ fn is_head(first: &[u16; 1024], n: usize, k: usize) -> bool
     if k + 1 == n {
         return true;
     }
-    if first[k] == first[k + 1] {
-        return false;
-    }
-    true
+    first[k] != first[k + 1]
 }
 
 // From the mark m upward to the nearest that lasts to l; the head passed last, or `left` where none is passed.
@@ -134,7 +131,7 @@ fn link_head(
     child: &mut [u16; 1024],
 )
     requires { ⌜ HeadAsks (now first) (now last) n k prev (now parent) (now left) (now child) ⌝ }
-    ensures { λ _. ⌜ LinkedOf (now (first .entry)) (now (last .entry)) n (now (parent .exit)) (now (left .exit)) (now (child .exit)) (suc k) ⌝ }
+    ensures { λ _. ⌜ LinkedOf (now (first .entry)) (now (last .entry)) n (now (parent .exit)) (now (left .exit)) (now (child .exit)) (k + 1) ⌝ }
 {
     let w = climb(first, last, n, parent, last[k], prev, 0);
     let up = w.parent;
@@ -183,6 +180,7 @@ fn link(
 fn advance(first: &[u16; 1024], last: &[u16; 1024], n: usize, d: usize, m: usize) -> usize
     requires { ⌜ AdvanceAsks (now first) (now last) n d m ⌝ }
     ensures { λ r. ⌜ r ≡ latestIn (now (first .entry)) (now (last .entry)) n d ⌝ }
+    ensures { λ r. ⌜ r ≤ n ⌝ }
 {
     if n <= m {
         return m;
@@ -206,6 +204,7 @@ fn start_after(
 ) -> usize
     requires { ⌜ DayAsks (now first) (now last) n (now parent) d m e s ⌝ }
     ensures { λ r. ⌜ r ≡ startIn (now (first .entry)) (now (last .entry)) n (d + 1) ⌝ }
+    ensures { λ r. ⌜ r ≤ n ⌝ }
 {
     if m != e {
         return e;
@@ -214,7 +213,7 @@ fn start_after(
     w.parent
 }
 
-// The start and the latest of every day, day after day.
+// The start and the latest of every day, day after day, over tables of 0. No spell begins on day 0.
 fn day_tables(
     first: &[u16; 1024],
     last: &[u16; 1024],
@@ -224,12 +223,9 @@ fn day_tables(
     begun: &mut [u16; 4001],
 )
     requires { ⌜ DaysAsks (now first) (now last) n (now parent) ⌝ }
-    requires { ⌜ length (now start) ≡ dayCount ⌝ }
-    requires { ⌜ length (now begun) ≡ dayCount ⌝ }
+    requires { ⌜ DayedOf (now first) (now last) n (now start) (now begun) 0 ⌝ }
     ensures { λ _. ⌜ DayedOf (now (first .entry)) (now (last .entry)) n (now (start .exit)) (now (begun .exit)) dayCount ⌝ }
 {
-    start[0] = 0;
-    begun[0] = 0;
     let mut d = 0;
     let mut m = 0;
     let mut s = 0;
@@ -257,52 +253,53 @@ fn lay(index: &mut [u16], base: usize, values: &[u16])
     }
 }
 
-// As many words of 0 as `size` says, from `base` on.
-fn clear(index: &mut [u16], base: usize, size: usize)
-    requires { ⌜ base + size ≤ length (now index) ⌝ }
-    ensures { λ _. ⌜ Extends (now (index .entry)) base (base + size) (column size (λ _. 0)) (now (index .exit)) ⌝ }
-    ensures { λ _. ⌜ Zeros (now (index .exit)) base size ⌝ }
+// A row's word in its column, 0 past n rows.
+fn row_word(values: &[u16; 1024], n: usize, k: usize) -> u16
+    requires { ⌜ k < 1024 ⌝ }
+    ensures { λ r. ⌜ r ≡ dayAt (take n (now (values .entry))) k ⌝ }
+{
+    if n <= k {
+        return 0;
+    }
+    values[k]
+}
+
+// A column of the rows, 0 past them.
+fn lay_rows(index: &mut [u16], base: usize, values: &[u16; 1024], n: usize)
+    requires { ⌜ base + 1024 ≤ length (now index) ⌝ }
+    ensures { λ _. ⌜ Extends (now (index .entry)) base (base + 1024) (column capacity (dayAt (take n (now (values .entry))))) (now (index .exit)) ⌝ }
 {
     let mut k = 0;
-    while k < size {
-        index[base + k] = 0;
+    while k < 1024 {
+        index[base + k] = row_word(values, n, k);
         k += 1;
     }
 }
 
-// A column of the rows, 0 past them.
-fn lay_rows(index: &mut [u16], base: usize, values: &[u16], n: usize)
-    requires { ⌜ n ≤ 1024 ⌝ }
-    requires { ⌜ n ≤ length (now values) ⌝ }
-    requires { ⌜ base + 1024 ≤ length (now index) ⌝ }
-    ensures { λ _. ⌜ Extends (now (index .entry)) base (base + 1024) (column capacity (dayAt (take n (now (values .entry))))) (now (index .exit)) ⌝ }
-{
-    lay(index, base, &values[..n]);
-    clear(index, base + n, 1024 - n);
-}
-
 // The last day of the row with the mark m; 0 where it names none.
-fn last_of(last: &[u16; 1024], m: usize) -> u16
-    requires { ⌜ m ≤ 1024 ⌝ }
+fn last_of(last: &[u16], m: u16) -> u16
     ensures { λ r. ⌜ r ≡ lastOf (now (last .entry)) m ⌝ }
 {
     if m == 0 {
         return 0;
     }
-    last[m - 1]
+    let p = to_usize(m) - 1;
+    if p >= last.len() {
+        return 0;
+    }
+    last[p]
 }
 
 // A column of marks, and beside it the last days of the rows that they name.
 fn lay_marks(index: &mut [u16], base: usize, marks: &[u16; 1024], last: &[u16; 1024])
     requires { ⌜ base + 2048 ≤ length (now index) ⌝ }
-    requires { ⌜ MarksIn (now marks) ⌝ }
     ensures { λ _. ⌜ Extends (now (index .entry)) base (base + 2048) (markWords (now (last .entry)) (now (marks .entry))) (now (index .exit)) ⌝ }
 {
     lay(index, base, marks);
     let beside = base + 1024;
     let mut k = 0;
     while k < 1024 {
-        index[beside + k] = last_of(last, to_usize(marks[k]));
+        index[beside + k] = last_of(last, marks[k]);
         k += 1;
     }
 }
@@ -354,24 +351,25 @@ fn lay_tree(index: &mut [u16], first: &[u16; 1024], last: &[u16; 1024], n: usize
 
 // ---- the buckets of the spell numbers
 
-// Every row into the bucket of its number, in the order: it leads to the row that was the latest there, and the bucket to it.
-fn name_rows(index: &mut [u16], number: &[u16; 1024], n: usize)
+// Every row into the bucket of its number, in the order, over columns of 0: it leads to the row that was the latest there, and the bucket to it.
+fn name_rows(
+    number: &[u16; 1024],
+    n: usize,
+    bucket: &mut [u16; 2039],
+    lower: &mut [u16; 1024],
+)
     requires { ⌜ n ≤ 1024 ⌝ }
-    requires { ⌜ Zeros (now index) bucketTable 3063 ⌝ }
-    requires { ⌜ length (now index) ≡ indexLength ⌝ }
-    ensures { λ _. ⌜ Extends (now (index .entry)) bucketTable rowCount (nameWords (take n (now (number .entry))) n) (now (index .exit)) ⌝ }
+    requires { ⌜ Named (take n (now number)) (now bucket) (now lower) n 0 ⌝ }
+    ensures { λ _. ⌜ Named (take n (now (number .entry))) (now (bucket .exit)) (now (lower .exit)) n n ⌝ }
 {
     let mut k = 0;
     while k < n {
-        let bucket = BUCKET + to_usize(number[k]) % BUCKETS;
-        index[LOWER + k] = index[bucket];
-        index[bucket] = (k + 1) as u16;
+        let b = to_usize(number[k]) % BUCKETS;
+        lower[k] = bucket[b];
+        bucket[b] = (k + 1) as u16;
         k += 1;
     }
 }
-
-// The words of the buckets, 2,039, and of the column of the rows before, 1,024.
-const NAMES: usize = 3063;
 
 // The buckets and the column of the rows before.
 fn lay_names(index: &mut [u16], number: &[u16; 1024], n: usize)
@@ -379,8 +377,11 @@ fn lay_names(index: &mut [u16], number: &[u16; 1024], n: usize)
     requires { ⌜ length (now index) ≡ indexLength ⌝ }
     ensures { λ _. ⌜ Extends (now (index .entry)) bucketTable rowCount (nameWords (take n (now (number .entry))) n) (now (index .exit)) ⌝ }
 {
-    clear(index, BUCKET, NAMES);
-    name_rows(index, number, n);
+    let mut bucket = [0u16; 2039];
+    let mut lower = [0u16; 1024];
+    name_rows(number, n, &mut bucket, &mut lower);
+    lay(index, BUCKET, &bucket);
+    lay(index, LOWER, &lower);
 }
 
 // ---- the whole index

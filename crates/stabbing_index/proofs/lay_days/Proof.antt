@@ -3,5 +3,5 @@ use Rattle.stabbing_index.proofs.{Names.{needs}, Assembling.steps, lay_
 
 pub lay-days-spec : {M : Type 1} → statement M
 lay-days-spec = close (spec
-    (λ c. search needs) (λ c. search needs) (λ c. search needs) (λ c. search needs) (λ c. search needs) (λ c. search needs)
+    (λ c κs. (search needs, search steps)) (λ c. search needs) (λ c. search needs) (λ c. search needs) (λ c. search needs) (λ c. search needs)
     (λ c. search steps))
