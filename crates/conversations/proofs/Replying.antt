@@ -3,7 +3,6 @@
 use Rattle.basis.proofs.Prelude.{_≡_, ap, refl, _*_, _≤_, ℕ, List, Bool, drop, length, length-append, length-replicate, arith}
 use Rattle.spell.specs.{declared.Spell.Spell, Listing.Good}
 use Rattle.register.{specs.Text.writeAll, proofs.Texts.written-width}
-use Rattle.masks.proofs.Claims.{in-sheet}
 use Rattle.model.{specs.{declared.Call.Call, Questions.listed, Effects.{After, gave}, Model.{State, Request, Answer, effectOf, step}}, proofs.{Bridge.comparisons-le, Effects.every, Filter.listed-few}}
 use Rattle.service.{specs.{declared.{Service.Service, Stepped.Stepped}, Service.{Blocks, Given, Met}}, proofs.Represented.{stateOf, stands}}
 use Rattle.outcomes.specs.Outcomes.{asking, answerOf}
@@ -15,15 +14,14 @@ use Rattle.conversations.proofs.Shown.{Same, same-settle, same-call}
 fits-step : (m : State) (q : Request) → Good (m .standing) → length (m .published) ≤ 1024 → Fits (step m q .answer)
 fits-step m q standing published =
     let w = writeAll (m .standing) in
-    every (λ (x : After). Fits (x .answer)) m q
-    (record {
+    every (λ (x : After). Fits (x .answer)) m q (q .call) (record {
       refusing = λ n _. omega arith;
       asked = λ h l. listed-fits _ _ 0 (comparisons-le h l (m .published)) (omega arith);
-      several = listed-fits _ 0 0 (omega arith) (omega arith);
-      masked = λ b k. listed-fits _ 0 _ (omega arith) (in-sheet b k);
+      several = λ ds n. listed-fits _ 0 n (omega arith);
+      written = omega (arith, written-width (m .standing) standing, length-append w (drop (length w) (q .text)));
+      changed = λ _ l p. omega arith;
+      published = λ rule _. omega arith;
     })
-    (omega (arith, written-width (m .standing) standing, length-append w (drop (length w) (q .text))))
-    (λ m′. omega arith)
   where
     listed-fits : (t : Spell → Bool) (c n : ℕ) → c ≤ 3 * length (listed t (m .published)) → n ≤ 64
         → Fits (gave (listed t (m .published)) c n m q .answer)

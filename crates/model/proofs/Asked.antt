@@ -1,6 +1,6 @@
 -- The questions, each in one place: what an accepted one lists, and what its line in document 01 says of a spell that is listed. Assumes nothing.
 use Rattle.basis.proofs.Prelude.{_≡_, refl, _≤_, ℕ, List, List·Memᴰ, _++_, Bool, true, _↔_, ⊎-elim, drop, length, arith, _∙_, ap, sym, List·Memᴰ·cases-cons, List·Memᴰ·head, List·Memᴰ·not-nil, List·Memᴰ·tail, [], _∷_, map, _&&_, _||_, false, false≢true, leb, length-map, le-leb, leb-true, both, either, by-cases, by-test}
-use Rattle.model.proofs.{Names.{accepted, isDay, Spell, listedBefore, orderedBy, distinct, ticks, Ask, onDay, onSpan, covers, onAny, filter, listed, comparisonsOf, Effect, gives, settle, several, ask, effectOf, stepOf, Question, reaches, State, After, Request, Answer}, Effects.{cover-does, several-does}, Claims.{listed-exactly, listed-ordered, listed-once}, Edits.one-spell}
+use Rattle.model.proofs.{Names.{accepted, offCalendar, reversed, isDay, Spell, listedBefore, orderedBy, distinct, ticks, Ask, onDay, onSpan, covers, onAny, filter, listed, comparisonsOf, Effect, gives, settle, several, ask, effectOf, stepOf, Question, reaches, State, After, Request, Answer}, Effects.{checked, cover-does, several-does}, Claims.{listed-exactly, listed-ordered}, Filter.filter-distinct, Edits.one-spell}
 use Rattle.model.specs.declared.Question.the-variants.{Day, Span, Cover, Days, Mask}
 
 -- ---- The answer of a question
@@ -19,34 +19,31 @@ module _ (m : State) (q : Request) where
   Accepted P e = settle e m q .answer .refusal ≡ accepted → P (settle e m q .answer)
 
   lists : (t : Spell → Bool) (c n : ℕ) → Accepted (Lists t c n) (gives (listed t (m .published)) c n)
-  lists t c n = unfold settle in by-test (leb (length (listed t (m .published))) (length (q .numbers)))
-      (λ e. rw e (λ _. record { count = refl; numbers = refl; comparisons = refl; ticked = refl; text = refl }))
-      (λ e. rw e (λ r. absurd (omega arith)))
+  lists t c n = unfold settle in by-cases (λ (x : After). x .answer .refusal ≡ accepted → Lists t c n (x .answer))
+      (leb (length (listed t (m .published))) (length (q .numbers))) (λ _ _. search) (λ _ r. absurd (omega arith))
 
   -- AN ACCEPTED DAY lists the spells with first ≤ d ≤ last, its looks by the formula
   pub day-lists : (d : ℕ) → stepOf (Ask (Day d)) m q .answer .refusal ≡ accepted
       → Lists (onDay d) (comparisonsOf d d (m .published)) 0 (stepOf (Ask (Day d)) m q .answer)
-  day-lists d = unfold effectOf ask settle in by-test (isDay d) (λ e. rw e (lists _ _ 0)) (λ e. rw e (λ r. absurd (omega arith)))
+  day-lists d = unfold effectOf ask settle in
+      checked (Accepted (Lists (onDay d) _ 0)) (λ n bad r. absurd (bad r)) (isDay d) offCalendar (omega arith) (lists _ _ 0)
 
   -- AN ACCEPTED SPAN lists the spells with first ≤ b and last ≥ a, its looks by the formula
   pub span-lists : (a b : ℕ) → stepOf (Ask (Span a b)) m q .answer .refusal ≡ accepted
       → Lists (onSpan a b) (comparisonsOf b a (m .published)) 0 (stepOf (Ask (Span a b)) m q .answer)
-  span-lists a b = unfold effectOf ask settle in by-test (isDay a && isDay b)
-      (λ e. by-test (leb a b) (λ f. rw (e, f) (lists _ _ 0)) (λ f. rw (e, f) (λ r. absurd (omega arith))))
-      (λ e. rw e (λ r. absurd (omega arith)))
+  span-lists a b = unfold effectOf ask settle in
+      let behind = checked (Accepted (Lists (onSpan a b) (comparisonsOf b a (m .published)) 0)) (λ n bad r. absurd (bad r)) in
+      behind (isDay a && isDay b) offCalendar _ (omega arith) (behind (leb a b) reversed _ (omega arith) (lists _ _ 0))
 
   -- the cover of a published spell x with the number k
-  pub record Covers (k : ℕ) (a : Answer) : Type 0 where
-    pub of : Spell
-    pub published : List·Memᴰ of (m .published)
-    pub number : of .number ≡ k
-    pub lists : Lists (covers of) (comparisonsOf (of .first) (of .last) (m .published)) 0 a
+  abbrev pub Covers : ℕ → Answer → Type 0
+  Covers k a =
+      (x : Spell) × List·Memᴰ x (m .published) × (x .number ≡ k) × Lists (covers x) (comparisonsOf (x .first) (x .last) (m .published)) 0 a
 
   -- AN ACCEPTED COVER lists the spells with first ≤ the first and last ≥ the last of a published spell of that number
   pub cover-lists : (k : ℕ) → stepOf (Ask (Cover k)) m q .answer .refusal ≡ accepted → Covers k (stepOf (Ask (Cover k)) m q .answer)
-  cover-lists k = unfold effectOf ask settle in
-      cover-does (Accepted (Covers k)) (λ n bad r. absurd (bad r)) (m .published) k (m .published)
-      (λ x i e r. record { of = x; published = i; number = e; lists = lists (covers x) _ 0 r })
+  cover-lists k = unfold effectOf ask settle in cover-does (Accepted (Covers k)) (m .published) k (m .published)
+      (λ _ r. absurd (omega arith)) (λ x i e r. (x, i, e, lists (covers x) _ 0 r))
 
   several-lists : (ds : List ℕ) (n : ℕ) → Accepted (Lists (onAny ds) 0 n) (several ds n (m .published))
   several-lists ds n = unfold settle in several-does (Accepted (Lists (onAny ds) 0 n)) (λ k bad r. absurd (bad r)) _ ds n (lists _ 0 n)
@@ -85,48 +82,33 @@ pub record Answered (m : State) (q : Request) (w : Question) (a : Answer) : Type
   pub numbers : a .numbers ≡ map (λ (s : Spell). s .number) spells ++ drop (a .count) (q .numbers)
 
 reaching : (h l : ℕ) (x : Spell) → (reaches h l x ≡ true) ↔ ((x .first ≤ h) × (l ≤ x .last))
-reaching h l x = (
-  λ e. let p = both _ (leb l (x .last)) e in (leb-true (x .first) h (p .0), leb-true l (x .last) (p .1)),
-  λ f. rw (le-leb (x .first) h (f .0), le-leb l (x .last) (f .1)),
-)
-
-on-any : (ds : List ℕ) (x : Spell) → onAny ds x ≡ true → Contains ds x
-unfolding onAny
-on-any [] x e = absurd (false≢true e)
-on-any (d ∷ ds) x e = ⊎-elim
-    (λ f. let r = reaching d d x .0 f in (d, List·Memᴰ·head refl, r .0, r .1))
-    (λ f. let r = on-any ds x f in (r .0, List·Memᴰ·tail (r .1), r .2, r .3)) (either (onDay d x) (onAny ds x) e)
-
-any-on : (ds : List ℕ) (x : Spell) (d : ℕ) → List·Memᴰ d ds → (x .first ≤ d) × (d ≤ x .last) → onAny ds x ≡ true
-unfolding onAny
-any-on ds x d (List·Memᴰ·head {x = e} {xs = es} s) f = rw (rw s at (reaching d d x .1 f))
-any-on ds x d (List·Memᴰ·tail {x = e} {xs = es} j) f = by-test (onDay e x) (λ h. rw h) (λ h. rw h (any-on es x d j f))
+reaching h l x = (λ e. let p = both (leb (x .first) h) (leb l (x .last)) e in search leb-true, λ f. search le-leb)
 
 on-days : (ds : List ℕ) (x : Spell) → (onAny ds x ≡ true) ↔ Contains ds x
-on-days ds x = (on-any ds x, λ f. any-on ds x (f .0) (f .1) (f .2, f .3))
+unfolding onAny
+on-days [] x = (λ e. absurd (false≢true e), λ f. absurd (List·Memᴰ·not-nil (f .1)))
+on-days (d ∷ ds) x =
+    let on = on-days ds x in
+    (λ e. ⊎-elim (λ f. let r = reaching d d x .0 f in (d, List·Memᴰ·head refl, r .0, r .1))
+    (λ f. let r = on .0 f in (r .0, List·Memᴰ·tail (r .1), r .2, r .3)) (either (onDay d x) (onAny ds x) e),
+    λ f. ⊎-elim (λ s. rw (reaching d d x .1 (rw s at (f .2), rw s at (f .3))))
+    (λ i. by-test (onDay d x) (λ h. rw h) (λ h. rw h (on .1 (f .0, i, f .2, f .3)))) (List·Memᴰ·cases-cons (f .1)))
 
 module _ (m : State) (unique : distinct (m .published) ≡ true) (sorted : orderedBy listedBefore (m .published) ≡ true) (q : Request) where
   answered : (w : Question) (t : Spell → Bool) {c n : ℕ} {a : Answer} → ((x : Spell) → (t x ≡ true) ↔ Fits w (q .days) (m .published) x)
       → Lists m q t c n a → Answered m q w a
-  answered w t is l = record {
-    spells = filter t (m .published);
-    exactly = λ x. let e = listed-exactly t (m .published) x in (λ i. (e .0 i .0, is x .0 (e .0 i .1)), λ i. e .1 (i .0, is x .1 (i .1)));
-    once = listed-once t (m .published) unique;
-    in-order = listed-ordered t (m .published) sorted;
-    count = l .count ∙ length-map (filter t (m .published)) (λ (s : Spell). s .number);
-    numbers = l .numbers;
-  }
+  answered w t is l =
+      let exactly : (x : Spell) → _ = λ x. simp is at (listed-exactly t (m .published) x) in
+      let count = l .count ∙ length-map (filter t (m .published)) (λ (s : Spell). s .number) in
+      search (filter-distinct t (m .published) unique, listed-ordered t (m .published) sorted)
 
   pub answers : (w : Question) → stepOf (Ask w) m q .answer .refusal ≡ accepted → Answered m q w (stepOf (Ask w) m q .answer)
   answers (Day d) r = answered (Day d) (onDay d) (reaching d d) (day-lists m q d r)
   answers (Span a b) r = answered (Span a b) (onSpan a b) (reaching b a) (span-lists m q a b r)
   answers (Cover k) r =
-      let c = cover-lists m q k r in
-      answered (Cover k) (covers (c .of)) (λ x. (
-        λ e. let r = reaching (c .of .first) (c .of .last) x .0 e in (c .of, c .published, c .number, r .0, r .1),
-        λ f.
-            let same = one-spell (m .published) unique (f .0) (c .of) (f .1) (c .published) (f .2 ∙ sym (c .number)) in
-            reaching (c .of .first) (c .of .last) x .1 (rw same at (f .3), rw same at (f .4)),
-      )) (c .lists)
+      let (y, there, number, lists) = cover-lists m q k r in let on = reaching (y .first) (y .last) in
+      answered (Cover k) (covers y) (λ x. (λ e. let s = on x .0 e in (y, there, number, s .0, s .1), λ f.
+      let same = one-spell (m .published) unique (f .0) y (f .1) there (f .2 ∙ sym number) in
+      on x .1 (rw same at (f .3), rw same at (f .4)))) lists
   answers Days r = answered Days (onAny (q .days)) (on-days (q .days)) (days-lists m q r)
   answers (Mask b k) r = answered (Mask b k) (onAny (ticks b k)) (on-days (ticks b k)) (mask-lists m q b k r)

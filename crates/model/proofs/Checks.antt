@@ -26,7 +26,7 @@ module _ (l : List Spell) (s : Spell) where
   enters h = unfold enterRefusal in
       let p = both-pass (refusalOf s) _ h in
       let q = past (stands l (s .number)) 5 _ (p .1) in
-      record { passes = p .0; free = q .0; room = leb-false 1024 (length l) (past (leb 1024 (length l)) 7 accepted (q .1) .0) }
+      search (leb-false, past (leb 1024 (length l)) 7 accepted (q .1))
 
   pub enter-accepted : enterRefusal l s ≡ accepted ↔ Enters
   unfolding enterRefusal
@@ -38,9 +38,7 @@ module _ (l : List Spell) (s : Spell) where
     pub there : stands l (s .number) ≡ true
 
   pub amends : amendRefusal l s ≡ accepted → Amends
-  amends h = unfold amendRefusal in
-      let p = both-pass (refusalOf s) _ h in
-      record { passes = p .0; there = needed (stands l (s .number)) 6 0 (p .1) .0 }
+  amends h = unfold amendRefusal in let p = both-pass (refusalOf s) _ h in search (needed (stands l (s .number)) 6 0 (p .1))
 
   pub amend-accepted : amendRefusal l s ≡ accepted ↔ Amends
   unfolding amendRefusal

@@ -1,6 +1,7 @@
 -- What the edits do, each claim one of every state. Assumes nothing.
 use Rattle.basis.proofs.Prelude.{_∙_, _≡_, ap, refl, sym, _≤_, ℕ, List, List·Memᴰ, _++_, _∷_, false, true, _↔_, _⊎_, inl, inr, drop, length, take, eqb, eqb-false, by-test}
-use Rattle.model.proofs.{Names.{accepted, duplicateNumber, unknownNumber, full, isRule, Spell, refusalOf, earlierOf, stands, distinct, writeAll, Enter, Amend, Strike, TakeBack, Publish, Write, Ask, insert, remove, replace, idle, enterRefusal, amendRefusal, strikeRefusal, remember, onDay, listed, publishedOf, withStanding, withPublished, After, Effect, refuse, settle, over, become, edit, effectOf, stepOf, Passes, State, Request}, Checks.{stops, passes, Enters, enter-accepted, Amends, amend-accepted, strike-accepted}, Edits.{in-insert, in-remove, idle-stands}, Effects.become-does, Rules.{back-takes, write-writes}, Asked.day-lists}
+use Rattle.model.proofs.{Names.{accepted, duplicateNumber, unknownNumber, full, isRule, Spell, refusalOf, earlierOf, stands, distinct, writeAll, Enter, Amend, Strike, TakeBack, Publish, Write, Ask, insert, remove, replace, idle, enterRefusal, amendRefusal, strikeRefusal, remember, onDay, listed, publishedOf, withStanding, withPublished, After, Effect, refuse, settle, over, become, edit, effectOf, stepOf, Passes, State, Request}, Checks.{stops, passes, Enters, enter-accepted, Amends, amend-accepted, strike-accepted}, Edits.{in-insert, in-remove, idle-stands}, Effects.become-does, Claims.{back-takes, write-writes}, Asked.day-lists}
+use mathlib.Core.Logic.{⊎-map}
 use Rattle.model.specs.declared.Question.the-variants.{Day}
 
 module _ (m : State) (q : Request) where
@@ -9,19 +10,13 @@ module _ (m : State) (q : Request) where
   become-answer : (n : ℕ) (l : List Spell) (p : List (List Spell)) → settle (become n l p m) m q .answer .refusal ≡ n
   become-answer n l p = unfold settle in become-does (λ e. settle e m q .answer .refusal ≡ n) m n l p (λ e. sym e) (λ _. refl)
 
-  -- EACH answers with the first of its checks that refuses it: those of `Edits.antt`, in their order
-  pub enter-answer : (s : Spell) → stepOf (Enter s) m q .answer .refusal ≡ enterRefusal (m .standing) s
-  enter-answer s = unfold effectOf in become-answer _ _ _
-
+  -- AN AMEND answers with the first of its checks that refuses it, as the others do: those of `Edits.antt`, in their order
   pub amend-answer : (s : Spell) → stepOf (Amend s) m q .answer .refusal ≡ amendRefusal (m .standing) s
   amend-answer s = unfold effectOf in by-test (idle (m .standing) s) (λ e. rw e (become-answer _ _ _)) (λ e. rw e (become-answer _ _ _))
 
-  pub strike-answer : (k : ℕ) → stepOf (Strike k) m q .answer .refusal ≡ strikeRefusal (m .standing) k
-  strike-answer k = unfold effectOf in become-answer _ _ _
-
   -- ENTER is accepted exactly where the spell passes the checks 1 to 5, its number does not stand and less than 1,024 stand
   pub enter-when : (s : Spell) → stepOf (Enter s) m q .answer .refusal ≡ accepted ↔ Enters (m .standing) s
-  enter-when s = rw (enter-answer s) (enter-accepted (m .standing) s)
+  enter-when s = unfold effectOf in rw (become-answer (enterRefusal (m .standing) s) _ _) (enter-accepted (m .standing) s)
 
   -- AMEND exactly where the spell passes and its number stands
   pub amend-when : (s : Spell) → stepOf (Amend s) m q .answer .refusal ≡ accepted ↔ Amends (m .standing) s
@@ -29,7 +24,7 @@ module _ (m : State) (q : Request) where
 
   -- STRIKE exactly where the number stands
   pub strike-when : (k : ℕ) → stepOf (Strike k) m q .answer .refusal ≡ accepted ↔ (stands (m .standing) k ≡ true)
-  strike-when k = rw (strike-answer k) (strike-accepted (m .standing) k)
+  strike-when k = unfold effectOf in rw (become-answer (strikeRefusal (m .standing) k) _ _) (strike-accepted (m .standing) k)
 
   -- the checks 1 to 5 of an amend come before the other
 
@@ -69,20 +64,15 @@ module _ (m : State) (q : Request) where
     -- AMEND by another spell than the standing one puts it in the place of that of its number, and keeps the others
     pub amend-replaces : (s : Spell) → idle (m .standing) s ≡ false → stepOf (Amend s) m q .answer .refusal ≡ accepted
         → Edited (λ x. (x ≡ s) ⊎ (List·Memᴰ x (m .standing) × (x .number ≡ s .number → ⊥))) (stepOf (Amend s) m q .state)
-    amend-replaces s real = unfold effectOf in
-        let less = remove (s .number) (m .standing) in
-        rw real (edited (amendRefusal (m .standing) s) (replace s (m .standing)) (λ x.
-        let put = in-insert earlierOf s less x in
-        let kept = in-remove (s .number) (m .standing) unique x in (
-          λ i. elim (put .0 i) [ inl e ↦ inl e | inr j ↦ inr (kept .0 j) ],
-          λ i. put .1 (elim i [ inl e ↦ inl e | inr j ↦ inr (kept .1 j) ]),
-        )))
+    amend-replaces s real = unfold effectOf in rw real (edited (amendRefusal (m .standing) s) (replace s (m .standing)) (λ x.
+        let put = in-insert earlierOf s (remove (s .number) (m .standing)) x in
+        let kept = in-remove (s .number) (m .standing) unique x in
+        (λ i. ⊎-map (λ e. e) (kept .0) (put .0 i), λ i. put .1 (⊎-map (λ e. e) (kept .1) i))))
 
   -- AN IDLE AMEND, by a spell that equals the standing one in all fields, answers 0 and leaves the whole state as it is
   pub idle-keeps : (s : Spell) → Passes s → idle (m .standing) s ≡ true → stepOf (Amend s) m q ≡ refuse accepted m q
   idle-keeps s fine same = unfold effectOf settle in
-      let n : amendRefusal (m .standing) s ≡ accepted = amend-accepted (m .standing) s .1 (record { passes = fine; there = idle-stands (m .standing) s same }) in
-      rw (same, n)
+      rw (same, amend-accepted (m .standing) s .1 (record { passes = fine; there = idle-stands (m .standing) s same }))
 
   -- A TAKE BACK after an accepted edit gives the former standing list, and leaves the published list
   pub edit-taken-back : {In : Spell → Type 0} {x : State} → Edited In x → (r : Request)
@@ -96,19 +86,14 @@ module _ (m : State) (p e : Request) (rule : ℕ) (known : isRule rule ≡ true)
   abbrev amended : After
   amended = stepOf (Amend s) (stepOf (Publish rule) m p .state) e
 
-  amended-is : amended .answer .refusal ≡ accepted
-      → amended .state
-      ≡ withStanding (replace s (m .standing)) (remember (m .standing) (m .past)) (withPublished (publishedOf rule (m .standing)) m)
-  amended-is = unfold effectOf settle in rw (known, real) (by-test (eqb (amendRefusal (m .standing) s) accepted)
-      (λ a. rw a (λ _. refl)) (λ a. rw a (λ r. absurd (eqb-false (amendRefusal (m .standing) s) accepted a r))))
-
   -- WRITING gives the amended list, and a DAY still asks the list as it was published
   pub amended-unpublished : amended .answer .refusal ≡ accepted → (q : Request) (d : ℕ)
       → (stepOf Write (amended .state) q .answer .refusal ≡ accepted
       → stepOf Write (amended .state) q .answer .text ≡ over (writeAll (replace s (m .standing))) (q .text))
       × (stepOf (Ask (Day d)) (amended .state) q .answer .refusal ≡ accepted
       → stepOf (Ask (Day d)) (amended .state) q .answer .numbers ≡ over (listed (onDay d) (publishedOf rule (m .standing))) (q .numbers))
-  amended-unpublished r q d = rw (amended-is r) (
-    λ h. let w = write-writes _ q h in rw (w .length) at (w .text),
-    λ h. let a = day-lists _ q d h in rw (a .count) at (a .numbers),
-  )
+  amended-unpublished r q d = unfold effectOf settle in
+      let fine : amendRefusal (m .standing) s ≡ accepted = sym (amend-answer (withPublished (publishedOf rule (m .standing)) m) e s) ∙ rw known at r in
+      rw (known, real, fine) (
+      λ h. let w = write-writes _ q h in rw (w .length) at (w .text),
+      λ h. let a = day-lists _ q d h in rw (a .count) at (a .numbers))

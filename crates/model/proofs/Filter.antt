@@ -1,6 +1,6 @@
 -- The spells of a list that pass a test: exactly those, in the order, each number once. Assumes nothing.
-use Rattle.basis.proofs.Prelude.{_∙_, _≡_, ap, refl, _≤_, suc, ℕ, List, List·Memᴰ, List·Memᴰ·cases-cons, List·Memᴰ·head, List·Memᴰ·not-nil, List·Memᴰ·tail, [], _∷_, Bool, false, true, ⊎-elim, eqb, length, length-map, arith, by-cases, by-test}
-use Rattle.model.proofs.Names.{Spell, orderedBy, stands, distinct, Each, OrderlyBy, StrictOrder, neither, alone, ordered-tail, ordered-first, ordered-cons, filter, listed}
+use Rattle.basis.proofs.Prelude.{_∙_, _≡_, ap, refl, _≤_, suc, ℕ, List, List·Memᴰ, List·Memᴰ·cases-cons, List·Memᴰ·head, List·Memᴰ·not-nil, List·Memᴰ·tail, [], _∷_, Bool, false, true, ⊎-elim, length, length-map, arith, by-cases, by-test}
+use Rattle.model.proofs.Names.{Spell, orderedBy, stands, distinct, Each, OrderlyBy, StrictOrder, alone, none-stands, stands-none, ordered-tail, ordered-first, ordered-cons, filter, listed}
 
 module _ (t : Spell → Bool) where
   -- ---- In the filtered list are the spells of the list that pass
@@ -49,21 +49,14 @@ module _ (t : Spell → Bool) where
 
   -- ---- Unique numbers stay unique
 
-  filter-stands : (l : List Spell) (k : ℕ) → stands l k ≡ false → stands (filter t l) k ≡ false
-  unfolding filter stands
-  filter-stands [] k h = refl
-  filter-stands (y ∷ l) k h =
-      let p = neither (eqb (y .number) k) (stands l k) h in
-      let on = filter-stands l k (p .1) in
-      by-cases (λ r. stands r k ≡ false) (t y) (λ _. rw (p .0) on) (λ _. on)
-
   pub filter-distinct : (l : List Spell) → distinct l ≡ true → distinct (filter t l) ≡ true
   unfolding filter distinct
   filter-distinct [] h = refl
   filter-distinct (y ∷ l) h =
       let p = alone y l h in
       let on = filter-distinct l (p .1) in
-      by-cases (λ r. distinct r ≡ true) (t y) (λ _. rw (filter-stands l (y .number) (p .0)) on) (λ _. on)
+      let gone = none-stands (filter t l) (y .number) (λ x i. stands-none l _ (p .0) x (filter-in l x i .0)) in
+      by-cases (λ r. distinct r ≡ true) (t y) (λ _. rw gone on) (λ _. on)
 
   -- ---- So a list that can stand can stand without the others
 

@@ -1,9 +1,7 @@
-pub mod Rules
 pub mod Effects
 pub mod Filter
 pub mod Bridge
 pub mod Claims
-pub mod Masks
 pub mod Checks
 pub mod Edits
 pub mod Publishing

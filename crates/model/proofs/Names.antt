@@ -13,7 +13,7 @@ pub use Rattle.register.{proofs.Claims.{list-again, text-again}, specs.Text.{Re
 unfoldable pub use Rattle.register.specs.Text.{readText}
 pub use Rattle.rules.{proofs.Rules.{as-entered, cut-passes, cut-sound}, specs.Rules.{cut, isRule}}
 unfoldable pub use Rattle.rules.specs.Rules.{lastOf}
-pub use Rattle.spell.{proofs.{Entered.{needed, past}, Equal.same-equal, Listing.{alone, neither}, Order.{StrictOrder, answer-order, asym, each-map, each-member, ordered-cons, ordered-first, ordered-tail, text-order}}, specs.{Entry.refusalOf, Listing.{Good, HeldUrgency, Orderly, OrderlyBy, Sound}, Same.sameUrgency, declared.{Spell.Spell, Urgency.{Urgency, the-variants.{Grade, Reading}}}}}
+pub use Rattle.spell.{proofs.{Entered.{needed, past, same-equal}, Listing.{alone, listed-stands, neither, none-stands, stands-none}, Order.{StrictOrder, answer-order, asym, each-map, each-member, ordered-cons, ordered-first, ordered-tail, text-order}}, specs.{Blank.blank, Entry.refusalOf, Listing.{Good, HeldUrgency, Orderly, OrderlyBy, Sound}, Same.sameUrgency, declared.{Spell.Spell, Urgency.{Urgency, the-variants.{Grade, Reading}}}}}
 unfoldable pub use Rattle.spell.specs.{Listing.{Each, distinct, stands}, Order.{earlierOf, listedBefore, orderedBy}, Same.sameOf}
 pub use Rattle.stabbing.proofs.{Marks.{keep-hit, keep-miss}, Walk.formula-le}
 unfoldable pub use Rattle.stabbing.specs.Tree.{below, child, count, fitsAt, formula, head, keep, lastChild, leftSibling, onPath, parent, start}

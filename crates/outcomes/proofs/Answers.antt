@@ -3,7 +3,7 @@ use Rattle.basis.proofs.Prelude.{_≡_, refl, ℕ, List, leb, eqb, length, by-t
 use Rattle.refusal.specs.Table.{accepted}
 use Rattle.register.specs.{declared.Written.Written, Answers.Writes}
 use Rattle.stabbing.specs.Answer as rows
-use Rattle.model.{specs.Effects.{State, Request, Answer, refused, done, gives, writes, settle}, proofs.Masks.ticking}
+use Rattle.model.{specs.Effects.{State, Request, Answer, refused, gives, writes, settle}, proofs.Claims.ticking}
 use Rattle.outcomes.specs.{declared.Outcome.Outcome, Outcomes.{toldOf, foundOf, wroteOf, tickingOf, answerOf}}
 
 -- what a question over the rows found, beside a list lent for a text
@@ -11,13 +11,9 @@ abbrev pub told : rows.Reported → List ℕ → Answer
 told o text = answerOf (foundOf (o .result)) (o .out) text
 
 module _ (m : State) (q : Request) where
-  -- A REFUSAL, and no more
+  -- A REFUSAL, and no more; where the number is 0, an acceptance
   pub refused-told : (n : ℕ) → answerOf (toldOf n) (q .numbers) (q .text) ≡ settle (refused n) m q .answer
   refused-told n = unfold settle in refl
-
-  -- ACCEPTED, and no more
-  pub done-told : (m′ : State) → answerOf (toldOf accepted) (q .numbers) (q .text) ≡ settle (done m′) m q .answer
-  done-told m′ = unfold settle in refl
 
   -- SPELL NUMBERS with their looks, or 11
   pub give-told : (ns : List ℕ) (c : ℕ) → told (rows.give ns c (q .numbers)) (q .text) ≡ settle (gives ns c 0) m q .answer

@@ -1,5 +1,5 @@
 -- What the rules do to a spell: rule 1 nothing, rule 2 cuts a reading within its own days. Assumes nothing.
-use Rattle.basis.proofs.Prelude.{_≡_, refl, _+_, _≤_, ℕ, leb, eqb, arith, le-leb, le-ltb, leb-false, by-cases, by-test}
+use Rattle.basis.proofs.Prelude.{_≡_, refl, _≤_, ℕ, eqb, arith, le-leb, le-ltb, by-cases}
 use Rattle.spell.{specs.{declared.{Urgency.{Urgency, the-variants.{Grade, Reading}}, Spell.Spell}, Entry.refusalOf, Listing.Sound}, proofs.Entered.{past, entered}}
 use Rattle.rules.specs.Rules.{lapsed, lapsedLast, lastOf, cut}
 
@@ -18,9 +18,7 @@ reading-lapses s e = unfold lastOf in rw e
 -- ---- A cut day is between the first and the last
 
 urgency-within : (first last : ℕ) → first ≤ last → (u : Urgency) → (first ≤ lapsedLast u first last) × (lapsedLast u first last ≤ last)
-urgency-within first last forward (Grade g) = omega arith
-urgency-within first last forward (Reading x) = by-test (leb last (first + 6))
-    (λ e. rw e (omega arith)) (λ e. rw e (omega (arith, leb-false last (first + 6) e)))
+urgency-within first last forward u = elim u [ Grade g ↦ omega arith | Reading x ↦ omega arith ]
 
 pub last-within : (rule : ℕ) (s : Spell) → s .first ≤ s .last → (s .first ≤ lastOf rule s) × (lastOf rule s ≤ s .last)
 last-within rule s h = unfold lastOf in by-cases (λ d. (s .first ≤ d) × (d ≤ s .last)) (eqb rule 2)

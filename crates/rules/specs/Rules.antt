@@ -1,7 +1,7 @@
 -- The rules of publishing: under rule 2 a measured reading counts for seven days only. Assumes nothing.
-use Prim.Native.Nat.{ℕ, _+_}
+use Prim.Native.Nat.{ℕ, _+_, min}
 use mathlib.Core.Bool.{Bool, _||_, cond}
-use lib.Dec.{leb, eqb}
+use lib.Dec.{eqb}
 use Rattle.spell.specs.declared.Urgency.{Urgency}
 use Rattle.spell.specs.declared.Urgency.the-variants.{Grade, Reading}
 use Rattle.spell.specs.declared.Spell.{Spell}
@@ -12,7 +12,7 @@ isRule rule = eqb rule 1 || eqb rule 2
 
 -- the earlier of the last day and the first day + 6
 abbrev pub lapsed : ℕ → ℕ → ℕ
-lapsed first last = cond (leb last (first + 6)) last (first + 6)
+lapsed first last = min last (first + 6)
 
 -- the last day under rule 2: a reading lapses, grades are not touched
 abbrev pub lapsedLast : Urgency → ℕ → ℕ → ℕ

@@ -1,4 +1,3 @@
-pub mod Equal
 pub mod Entered
 pub mod Listing
 pub mod Order

@@ -1,13 +1,10 @@
 -- An order by keys that end in the spell number is a strict total order on spells of different numbers; and what a list that is kept in it
 -- says of its spells. Assumes nothing.
-use Rattle.basis.proofs.Prelude.{_≡_, refl, sym, _<_, _≤_, ℕ, List, List·Memᴰ, List·Memᴰ·cases-cons, List·Memᴰ·not-nil, [], _++_, _∷_, Bool, false, true, _⊎_, inl, inr, arith, eq-eqb, both, by-eq, by-test, clash, untrue}
+use Rattle.basis.proofs.Prelude.{_≡_, refl, sym, _<_, _≤_, ℕ, List, List·Memᴰ, List·Memᴰ·cases-cons, List·Memᴰ·not-nil, [], _++_, _∷_, Bool, false, true, _⊎_, inl, inr, arith, eq-eqb, both, by-eq, by-test, clash}
 use Rattle.orders.proofs.Keys.{key-is, key-says, key-denies, lexical-asym, lexical-over}
 use Rattle.spell.specs.{declared.Spell.Spell, Order.{lexical, earlierOf, listedBefore, orderedBy}, Listing.Each}
 
 -- ---- Orders by keys
-
-lexical-irrefl : (ks : List (Spell → ℕ)) (a : Spell) → lexical ks a a ≡ false
-lexical-irrefl ks a = untrue _ (λ e. clash e (lexical-asym ks a a e))
 
 lexical-trans : (ks : List (Spell → ℕ)) (a b c : Spell) → lexical ks a b ≡ true → lexical ks b c ≡ true → lexical ks a c ≡ true
 lexical-trans ks a b c p q = by-test (lexical ks a c) (λ e. e) (λ e. absurd (clash q (lexical-over ks c a b e (lexical-asym ks a b p))))
@@ -21,13 +18,13 @@ lexical-total (k ∷ ks) a b differ h =
     key-is (k b) (k a) _ (d .0) (λ e. lexical-total ks a b differ (d .1 (sym e)))
 
 pub record StrictOrder (t : Spell → Spell → Bool) : Type 0 where
-  pub irrefl : (a : Spell) → t a a ≡ false
+  pub one-way : (a b : Spell) → t a b ≡ true → t b a ≡ false
   pub trans : (a b c : Spell) → t a b ≡ true → t b c ≡ true → t a c ≡ true
   pub total : (a b : Spell) → (a .number ≡ b .number → ⊥) → t a b ≡ false → t b a ≡ true
 
 -- the laws for any keys that end in the spell number
 by-keys : (ks : List (Spell → ℕ)) → StrictOrder (lexical (ks ++ (λ s. s .number) ∷ []))
-by-keys ks = record { irrefl = lexical-irrefl (ks ++ (λ s. s .number) ∷ []); trans = lexical-trans (ks ++ (λ s. s .number) ∷ []); total = lexical-total ks }
+by-keys ks = record { one-way = lexical-asym _; trans = lexical-trans _; total = lexical-total ks }
 
 pub text-order : StrictOrder earlierOf
 text-order = unfold earlierOf in by-keys ((λ s. s .first) ∷ (λ s. s .last) ∷ [])
@@ -35,21 +32,16 @@ text-order = unfold earlierOf in by-keys ((λ s. s .first) ∷ (λ s. s .last) �
 pub answer-order : StrictOrder listedBefore
 answer-order = unfold listedBefore in by-keys ((λ s. s .first) ∷ (λ s. s .last) ∷ (λ s. s .candidate) ∷ [])
 
--- of two spells one after the other by keys that begin with the days, the earlier begins earlier, or on the same day and lasts no longer
-days-rise : (ks : List (Spell → ℕ)) (a b : Spell) → lexical ((λ s. s .first) ∷ (λ s. s .last) ∷ ks) a b ≡ true
-    → (a .first < b .first) ⊎ ((a .first ≡ b .first) × (a .last ≤ b .last))
-days-rise ks a b h = unfold lexical in
-    let f = key-says (a .first) (b .first) _ h in
-    by-eq (a .first) (b .first) (f .0) (λ e. inr (e, key-says (a .last) (b .last) (lexical ks a b) (f .1 e) .0)) inl
-
+-- of two spells one after the other in an answer the earlier begins earlier, or on the same day and lasts no longer
 pub listed-days : (a b : Spell) → listedBefore a b ≡ true → (a .first < b .first) ⊎ ((a .first ≡ b .first) × (a .last ≤ b .last))
-listed-days = unfold listedBefore in days-rise ((λ s. s .candidate) ∷ (λ s. s .number) ∷ [])
+listed-days a b h = unfold listedBefore lexical in
+    let f = key-says (a .first) (b .first) _ h in
+    by-eq (a .first) (b .first) (f .0) (λ e. inr (e, key-says (a .last) (b .last) _ (f .1 e) .0)) inl
 
 -- of two with equal days that which comes first has no higher candidate number
 pub twins-rise : (a b : Spell) → a .first ≡ b .first → a .last ≡ b .last → listedBefore a b ≡ true → a .candidate ≤ b .candidate
 twins-rise a b f l h = unfold listedBefore lexical in
-    let k = key-says (a .first) (b .first) _ h .1 f in
-    key-says (a .candidate) (b .candidate) _ (key-says (a .last) (b .last) _ k .1 l) .0
+    key-says (a .candidate) (b .candidate) _ (key-says (a .last) (b .last) _ (key-says (a .first) (b .first) _ h .1 f) .1 l) .0
 
 -- ---- Each spell of a list
 
@@ -68,7 +60,7 @@ each-member P (y ∷ l) x e m = elim (List·Memᴰ·cases-cons m) [ inl same ↦
 
 module _ {t : Spell → Spell → Bool} (o : StrictOrder t) where
   pub asym : (a b : Spell) → t a b ≡ true → t b a ≡ false
-  asym a b h = untrue (t b a) (λ k. clash (o .trans a b a h k) (o .irrefl a))
+  asym = o .one-way
 
   pub ordered-tail : (x : Spell) (l : List Spell) → orderedBy t (x ∷ l) ≡ true → orderedBy t l ≡ true
   unfolding orderedBy

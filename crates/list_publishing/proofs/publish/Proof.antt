@@ -1,5 +1,5 @@
 -- `list_publishing::publish` meets its contract: the rule is tested, and the index laid. Assumes nothing.
-use Rattle.published_index.proofs.Ruled.{no-rule, by-rule}
+use Rattle.published_index.proofs.Shown.{no-rule, by-rule}
 use Rattle.list_publishing.proofs.{Laying.{needs, listOf}, publish.{Statement.statement, Tie.{close, spec}}}
 
 pub publish-spec : {M : Type 1} → statement M

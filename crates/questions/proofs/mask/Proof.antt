@@ -10,20 +10,16 @@ module _ {ix : List ℕ} {b k : ℕ} {days ns : List ℕ} {t : Ticks} {held put 
 
   -- what the days question gave for them, with their number
   mask-asked : {n : ℕ} {o r : Outcome} {ns′ : List ℕ} → t ≡ All n → Asked ix Days (take n put) ns o ns′ → r ≡ tickingOf o n → Asked ix (Mask b k) days ns r ns′
-  mask-asked {o = o} {ns′ = ns′} all d is = let g = all-gives a all in record {
-    answer = λ m text s.
-        rw (is, g .number) (ticking-told o (length (ticks b k)) ns′ text
-        ∙ ap (ticking (length (ticks b k))) (d .answer m text s)
-        ∙ sym (mask-as-days m (asking (Ask (Mask b k)) days ns text) b k _ (g .first)));
-  }
+  mask-asked {o = o} {ns′ = ns′} all d is = let g = all-gives a all in record { answer = λ m text s. rw (is, g .number)
+      (ticking-told o (length (ticks b k)) ns′ text ∙ ap (ticking (length (ticks b k))) (d .answer m text s)
+      ∙ sym (mask-as-days m (asking (Ask (Mask b k)) days ns text) b k _ (g .first))) }
 
 -- as many places of the list are lent as days are ticked
-module _ {b k n : ℕ} {t : Ticks} {held put : List ℕ} (a : Answer b k t held put) (all : t ≡ All n) where
-  inside : n ≤ length put
-  inside = all-gives a all .inside
+inside : {b k n : ℕ} {t : Ticks} {held put : List ℕ} → Answer b k t held put → t ≡ All n → n ≤ length put
+inside a all = all-gives a all .inside
 
-  lent : n ≡ length (take n put)
-  lent = sym (length-take-le n put inside)
+lent : {b k n : ℕ} {t : Ticks} {held put : List ℕ} → Answer b k t held put → t ≡ All n → n ≡ length (take n put)
+lent {n = n} {put = put} a all = sym (length-take-le n put (inside a all))
 
 pub mask-spec : {M : Type 1} → statement M
 mask-spec = close (spec

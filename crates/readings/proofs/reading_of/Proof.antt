@@ -1,7 +1,10 @@
 -- `readings::reading_of` meets its contract. Assumes nothing.
-use Rattle.basis.proofs.Prelude.{_∙_, _≡_, refl, sym, needs, le-ltb, lt-ltb}
-use lib.Ieee.{nan, binary32, div, ofBits, Bits.{nanBits-is, nanBits-above}}
-use Rattle.readings.proofs.{Floats.is-nan, reading_of.{Statement.statement, Tie.{close, spec}}}
+use Rattle.basis.proofs.Prelude.{_∙_, _≡_, refl, sym, needs, le-ltb, lt-ltb, T}
+use lib.Ieee.{Float, nan, inf, fin, isNan, binary32, div, ofBits, Bits.{nanBits-is, nanBits-above}}
+use Rattle.readings.proofs.reading_of.{Statement.statement, Tie.{close, spec}}
+
+is-nan : (x : Float) → T (isNan x) → x ≡ nan
+is-nan x = unfold isNan in elim x [ nan ↦ λ t. refl | inf s ↦ λ t. absurd t | fin s m e ↦ λ t. absurd t ]
 
 no-number : div binary32 (ofBits binary32 0) (ofBits binary32 0) ≡ nan
 unfolding div ofBits
