@@ -6,7 +6,7 @@ use Rattle.refusal.specs.Table.{accepted}
 use Rattle.register.specs.Text.{readText}
 use Rattle.model.{specs.{Model.{State, withStanding, fresh, begun, refusalIn, lineIn, Request, Answer, run}, declared.Call.{Call, the-variants.Amend}, Edits.idle}, proofs.Edits.orderly-none}
 use Rattle.packing.specs.{Blocks.Every, Words.{Narrow, urgencyOf}}
-use Rattle.standing.{specs.Standing.{listOf, pasts}, proofs.Claims.packing-identity}
+use Rattle.standing.{specs.Standing.{listOf, pasts}, proofs.Packed.packing-identity}
 use Rattle.published_index.specs.Index.{indexOf}
 use Rattle.service.{specs.{declared.Service.Service, Places.{serviceOf, readService, leavesOf, leaves}, Packed.{packed, unpacked}, Service.{Blocks, Valid, Represents, Given, Met, Changed, Begins}}, proofs.{Represented.represented, Asking.asked-met, Beginning.{publishes-met, publishes-refused}, Claims.{made-run, made-given, idle-left}}}
 use Rattle.service.specs.History as history

@@ -14,18 +14,6 @@ use Rattle.hosting.specs.{declared.Reply.Reply, Host.{Held, Laid, outcom
 pub laid : (words : List ℕ) (sv : Service) → Packs sv words → Laid words
 laid words sv p = p .words ∙ ap packed (sym (p .back))
 
-module _ (words : List ℕ) {sv : Service} (p : Packs sv words) where
-  -- and is what was packed: its words, the state that it stands for, what a reading gave
-  pub packed-words : {sv′ : Service} → sv ≡ sv′ → words ≡ packed sv′
-  packed-words e = p .words ∙ ap packed e
-
-  pub packed-represents : {bs : Blocks} {m : State} → Represents sv bs m → Represents (unpacked words) bs m
-  packed-represents h = rw (p .back) h
-
-  pub packed-begins : {g : Register} {bs : Blocks} {n line : ℕ} → Begins g (record { service = sv; refusal = n; line = line }) bs
-      → Begins g (record { service = unpacked words; refusal = n; line = line }) bs
-  packed-begins b = rw (p .back) b
-
 -- an edit made on the words, with what is told of it
 pub edited : (words words′ : List ℕ) (c : Call) {n : ℕ} {o : Outcome} {x : Reply} → EditedIn c words n words′ → o ≡ toldOf n → outcomeOf x ≡ o
     → Changes (unpacked words) c (steppedOf words′ x)

@@ -1,29 +1,25 @@
 -- Values written one after the other, and read back: how a loop writes and reads them, and that reading gives back what was written. Assumes nothing.
-use Rattle.basis.proofs.Prelude.{_∙_, _≡_, ap, refl, sym, _*_, _+_, _<_, _≤_, suc, zero, ℕ, List, [], _++_, _∷_, append-assoc, append-nil, drop, drop-of-length-le, getD, length, length-append, length-drop, set, take, append-snoc, drop-append-add, drop-append-le, drop-at, drop-cons, drop-drop, length-sets, length-take-le, set-at, sets, sets-eq, take-all, take-at, take-suc, le-trans, mul-le-mul-right, suc-mul, zero-mul, add-zero, zero-add, add-one, getD-at, take-suc-set, _-_, decLe, arith, le-leb, lt-leb}
+use Rattle.basis.proofs.Prelude.{_∙_, _≡_, ap, refl, sym, _*_, _+_, _<_, _≤_, suc, zero, ℕ, List, [], _++_, _∷_, append-assoc, append-nil, drop, drop-of-length-le, getD, length, length-append, length-drop, set, take, append-snoc, drop-append-add, drop-append-le, drop-at, drop-cons, drop-drop, length-sets, length-take-le, set-at, sets, sets-eq, take-all, take-at, take-suc, le-trans, mul-le-mul-right, suc-mul, zero-mul, add-zero, zero-add, add-one, getD-at, map, map-append, take-suc-set, _-_, arith, le-leb, leb, leb-true, lt-leb, by-test}
+use native.Mathlib.Nat.{add-comm, suc-add}
 use Rattle.packing.proofs.Names.{Every, Put, PutAll, over, parts, put, written}
 
 -- ---- Words put into a list
 
--- where there is room, and where there is none
-pub put-room : (k : ℕ) (new l : List ℕ) → k + length new ≤ length l → put k new l ≡ take k l ++ new ++ drop (k + length new) l
-put-room k new l h = unfold put in simp (le-leb _ _ h)
-
+-- where there is no room
 pub put-none : (k : ℕ) (new l : List ℕ) → length l < k + length new → put k new l ≡ l
 put-none k new l h = unfold put in simp (lt-leb _ _ h)
 
 -- stores one after the other, where there is room
 pub put-sets : (k : ℕ) (new l : List ℕ) → k + length new ≤ length l → sets l k new ≡ put k new l
-put-sets k new l h = sets-eq new l k h ∙ sym (put-room k new l h)
+put-sets k new l h = unfold put in simp (le-leb _ _ h) (sets-eq new l k h)
 
 pub put-length : (k : ℕ) (new l : List ℕ) → length (put k new l) ≡ length l
-put-length k new l = elim (decLe (k + length new) (length l)) [
-  | yes h ↦ rw (← put-sets k new l h) (length-sets l k new)
-  | no h ↦ ap length (put-none k new l (omega arith))
-]
+put-length k new l =
+    by-test (leb (k + length new) (length l)) (λ e. rw (← put-sets k new l (leb-true _ _ e)) (length-sets l k new)) (λ e. unfold put in rw e)
 
 -- put from the first place on
 pub put-first : (new l : List ℕ) → length new ≤ length l → put 0 new l ≡ over new l
-put-first new l h = put-room 0 new l (omega arith) ∙ rw zero-add
+put-first new l h = sym (put-sets 0 new l (omega arith)) ∙ sets-eq new l 0 (omega arith) ∙ rw zero-add
 
 -- stores behind others
 pub sets-append : (s new l : List ℕ) (k : ℕ) → sets l k (s ++ new) ≡ sets (sets l k s) (k + length s) new
@@ -31,15 +27,11 @@ sets-append [] new l k = rw add-zero
 sets-append (x ∷ s) new l k = let at : k + suc (length s) ≡ suc k + length s = omega arith in rw at (sets-append s new (set l k x) (suc k))
 
 module _ {A : Type 0} where
-  pub every-map : (P Q : A → Type 0) → ((x : A) → P x → Q x) → (l : List A) → Every P l → Every Q l
+  -- values that a function leaves as they are
+  pub every-same : (P : A → Type 0) (h : A → A) → ((x : A) → P x → h x ≡ x) → (l : List A) → Every P l → map h l ≡ l
   unfolding Every
-  every-map P Q h [] e = tt
-  every-map P Q h (x ∷ l) e = (h x (e .0), every-map P Q h l (e .1))
-
-  every-snoc : (P : A → Type 0) (l : List A) (x : A) → Every P l → P x → Every P (l ++ (x ∷ []))
-  unfolding Every
-  every-snoc P [] x e p = (p, tt)
-  every-snoc P (y ∷ l) x e p = (e .0, every-snoc P l x (e .1) p)
+  every-same P h same [] e = refl
+  every-same P h same (x ∷ l) e = rw (same x (e .0), every-same P h same l (e .1))
 
   -- ---- How values are written
 
@@ -68,8 +60,8 @@ module _ {A : Type 0} where
         record { words = sym (put-none 0 (written f a) l (omega arith)); back = λ fits. absurd (omega arith) }
 
     pub put-nothing : (l : List ℕ) → PutAll f g [] l l
-    unfolding written Every
-    put-nothing l = record { words = sym (put-first [] l (omega arith)); back = λ h. tt }
+    unfolding written
+    put-nothing l = record { words = sym (put-first [] l (omega arith)); back = λ h. refl }
 
     -- a loop goes on by one: the words of the value i are put after those before it
     pub put-more : (n : ℕ) (a : List A) {l c c′ : List ℕ} (i : ℕ) {at : ℕ} (d : A) → length a ≡ n → n * k ≤ length l → i < n → at ≡ i * k
@@ -77,17 +69,14 @@ module _ {A : Type 0} where
     put-more n a {l} i {at} d all room h e so p =
         let x = getD a i d in
         let w = written f (take i a) in
-        let before : length w ≡ i * k = written-length (take i a) ∙ ap (λ (n : ℕ). n * k) (length-take-le i a (omega arith)) in
-        let after : i * k + k ≤ length l = rw (suc-mul i k) at (le-trans (mul-le-mul-right k h) room) in
-        let here : at + length (f x) ≤ length l = omega (arith, long x) in
-        let first : 0 + length w ≡ at = omega arith in
-        let next : written f (take (i + 1) a) ≡ w ++ f x =
-        rw (add-one, take-suc a i d (omega arith), written-append (take i a) (x ∷ [])) (unfold written in rw append-nil) in
-        record {
+        let first : 0 + length w ≡ at = omega (arith, rw (length-take-le i a (omega arith)) at (written-length (take i a))) in
+        let here : at + length (f x) ≤ length l = omega (arith, long x, mul-le-mul-right k h) in
+        let next : written f (take i a ++ (x ∷ [])) ≡ w ++ f x = written-append (take i a) (x ∷ []) ∙ (unfold written in rw append-nil) in
+        rw (add-one, take-suc a i d (omega arith)) (record {
           words = rw (p .words, so .words, next, ← put-sets 0 w l (omega arith), ← put-sets 0 (w ++ f x) l (omega (arith, length-append w (f x))))
               (rw (← put-sets at (f x) (sets l 0 w) (omega (arith, length-sets l 0 w)), sets-append w (f x) l 0, first));
-          back = λ fits. rw (add-one, take-suc a i d (omega arith)) (every-snoc (λ y. g (f y) ≡ y) (take i a) x (so .back (omega arith)) (p .back));
-        }
+          back = λ fits. map-append (λ y. g (f y)) (take i a) (x ∷ []) ∙ rw (so .back (omega arith), p .back);
+        })
 
     pub put-done : (n : ℕ) (a : List A) {l c : List ℕ} (i : ℕ) → length a ≡ n → n ≤ i → PutAll f g (take i a) l c → PutAll f g a l c
     put-done n a i all h so = rw (take-all i a (omega arith)) at so
@@ -104,9 +93,7 @@ module _ {A : Type 0} where
     unfolding parts
     parts-part zero n l = rw (zero-add n, zero-mul k)
     parts-part (suc m) n l =
-        let at : k + m * k ≡ suc m * k = omega (arith, suc-mul m k) in
-        let next : suc m + n ≡ suc (m + n) = omega arith in
-        rw (next, parts-part m n (drop k l), drop-drop (m * k) k l, at)
+        rw (suc-add m n, parts-part m n (drop k l), drop-drop (m * k) k l, suc-mul m k, add-comm (m * k) k)
 
     -- a value by its place
     pub parts-at : (n i : ℕ) (l : List ℕ) (d : A) → i < n → getD (parts k g n l) i d ≡ g (drop (i * k) l)
@@ -134,10 +121,7 @@ module _ {A : Type 0} where
           rw (near x r first, drop-append-le k x r first, parts-near m (drop k x) r (omega (arith, suc-mul m k, length-drop k x)))
 
       -- what was written is read back
-      pub read-back : (f : A → List ℕ) → ((x : A) → length (f x) ≡ k) → (l : List A) {n : ℕ} → length l ≡ n → Every (λ x. g (f x) ≡ x) l → parts k g n (written f l) ≡ l
-      unfolding parts written Every
-      read-back f long l all e = rw (← all) (go l e)
-        where
-          go : (l : List A) → Every (λ x. g (f x) ≡ x) l → parts k g (length l) (written f l) ≡ l
-          go [] e = refl
-          go (x ∷ l) e = rw (near (f x) (written f l) (omega (arith, long x)), e .0, drop-at (f x) (written f l) k (long x), go l (e .1))
+      pub read-back : (f : A → List ℕ) → ((x : A) → length (f x) ≡ k) → (l : List A) {n : ℕ} → length l ≡ n → parts k g n (written f l) ≡ map (λ x. g (f x)) l
+      unfolding parts written
+      read-back f long [] all = rw (← all)
+      read-back f long (x ∷ l) all = rw (← all, near (f x) (written f l) (omega (arith, long x)), drop-at (f x) (written f l) k (long x), read-back f long l refl)

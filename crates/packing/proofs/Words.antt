@@ -1,6 +1,6 @@
 -- A spell's words read back as the spell. Assumes nothing.
-use Rattle.basis.proofs.Prelude.{_≡_, ap, refl, _+_, _-_, _<_, _≤_, ℕ, List, _++_, true, leb, drop, getD, length, length-append, length-drop, List·getD-append, set, getD-drop, add-zero, div-add-mod', add-five, add-four, add-one, add-six, add-three, add-two, arith, le-leb, leb-true, lt-leb, both}
-use Rattle.packing.proofs.{Blocks.put-sets, Names.{Grade, HeldUrgency, Is, Narrow, Put, Reading, Sound, Spell, Urgency, Val, binary32, blank, entered, high, joined, kindOf, low, ofBits-toBits, spell-row, spellOf, spellWidth, spellWords, urgency-row, urgencyOf, urgencyOk, valueOf}}
+use Rattle.basis.proofs.Prelude.{_≡_, ap, refl, _+_, _-_, _<_, _≤_, ℕ, List, _++_, drop, getD, length, length-append, length-drop, List·getD-append, set, getD-drop, add-zero, div-add-mod', add-five, add-four, add-one, add-six, add-three, add-two, arith, le-leb, lt-leb}
+use Rattle.packing.proofs.{Blocks.put-sets, Names.{Grade, Is, Narrow, Put, Reading, Spell, Urgency, Val, binary32, blank, high, joined, kindOf, low, ofBits-toBits, spell-row, spellOf, spellWidth, spellWords, urgency-row, urgencyOf, valueOf}}
 
 pub spell-long : (s : Spell) → length (spellWords s) ≡ spellWidth
 unfolding spellWords
@@ -17,10 +17,6 @@ spell-near x r h =
 pub spell-reads : (s : Spell) (r : List ℕ) → spellOf (spellWords s ++ r) ≡ spellOf (spellWords s)
 spell-reads s r = spell-near (spellWords s) r (omega (arith, spell-long s))
 
--- the halves of a value, joined
-halves : (v : ℕ) → joined (low v) (high v) ≡ v
-halves v = div-add-mod' v 65536
-
 urgency-back : (u : Urgency) → Narrow u → urgencyOf (kindOf u) (valueOf u) ≡ u
 unfolding urgencyOf
 urgency-back (Grade g) h = simp (le-leb g 65535 h)
@@ -29,15 +25,7 @@ urgency-back (Reading x) h = ap Reading (ofBits-toBits binary32 x h)
 -- THE IDENTITY of a spell: its words read back as it
 pub spell-back : (s : Spell) → Narrow (s .urgency) → spellOf (spellWords s) ≡ s
 unfolding spellOf spellWords
-spell-back s h = rw (halves (valueOf (s .urgency)), urgency-back (s .urgency) h)
-
--- the urgency of a spell that can stand is narrow
-pub sound-narrow : (s : Spell) → Sound s → Narrow (s .urgency)
-sound-narrow s h = by-case (s .urgency) (h .held) (entered s (h .entered) .urgent)
-  where
-    by-case : (u : Urgency) → HeldUrgency u → urgencyOk u ≡ true → Narrow u
-    by-case (Grade g) k ok = omega (arith, leb-true g 4 (both (leb 1 g) (leb g 4) ok .1))
-    by-case (Reading x) k ok = k
+spell-back s h = rw (div-add-mod' (valueOf (s .urgency)) 65536, urgency-back (s .urgency) h)
 
 -- what the checker knows of every spell that a program holds: a grade is 16 bits wide, and a reading is a 32-bit float
 held : (u : Urgency) (vs : List Val) → Is urgency-row u vs → Narrow u

@@ -2,7 +2,7 @@
 use Prim.Native.Nat.{ℕ, zero, suc, _+_, _≤_}
 use mathlib.Core.Path.{_≡_}
 use mathlib.Core.Bool.{cond}
-use mathlib.Core.List.{List, [], _∷_, _++_}
+use mathlib.Core.List.{List, [], _∷_, _++_, map}
 use lib.Dec.{leb}
 use lib.ListN.{length, take, drop}
 
@@ -34,4 +34,4 @@ module _ {A : Type 0} where
   -- the same of all values, from the first place on
   pub record PutAll (f : A → List ℕ) (g : List ℕ → A) (values : List A) (l l′ : List ℕ) : Type 0 where
     pub words : l′ ≡ put 0 (written f values) l
-    pub back : length (written f values) ≤ length l → Every (λ x. g (f x) ≡ x) values
+    pub back : length (written f values) ≤ length l → map (λ x. g (f x)) values ≡ values

@@ -33,22 +33,20 @@ module _ (κs : Lfts 3) (text words words′ index index′ : RefT (List ℕ)) (
 -- ---- Edits
 
 module _ (κs : Lfts 1) (words words′ : RefT (List ℕ)) (r : Reply) (bs : Blocks) (days numbers text : List ℕ) where
-  abbrev pub Edited : Call → Type 0
-  Edited c = Called (now words) bs (asking c days numbers text) r (now words′) bs numbers text
+  -- a contract gives an edit by the call c
+  abbrev pub Edits : {A B : Type 0} → (A → Type 0) → (A → Reply → B → Type 0) → A → B → Call → Type 1
+  Edits pre post a b c = Ties pre post a r b (Held (now words)) (Called (now words) bs (asking c days numbers text) r (now words′) bs numbers text)
 
-  pub enter-called : (e : Entry) → Ties (calls.phayaklit_enter.Reads.Pre κs) (calls.phayaklit_enter.Reads.Post κs) (words, (e, tt)) r (words′, (e, tt))
-      (Held (now words)) (Edited (Enter (spellIn e)))
+  pub enter-called : (e : Entry) → Edits (calls.phayaklit_enter.Reads.Pre κs) (calls.phayaklit_enter.Reads.Post κs) (words, (e, tt)) (words′, (e, tt)) (Enter (spellIn e))
   enter-called e = (refl, edited (Enter (spellIn e)) r)
 
-  pub amend-called : (e : Entry) → Ties (calls.phayaklit_amend.Reads.Pre κs) (calls.phayaklit_amend.Reads.Post κs) (words, (e, tt)) r (words′, (e, tt))
-      (Held (now words)) (Edited (Amend (spellIn e)))
+  pub amend-called : (e : Entry) → Edits (calls.phayaklit_amend.Reads.Pre κs) (calls.phayaklit_amend.Reads.Post κs) (words, (e, tt)) (words′, (e, tt)) (Amend (spellIn e))
   amend-called e = (refl, edited (Amend (spellIn e)) r)
 
-  pub strike-called : (n : ℕ) → Ties (calls.phayaklit_strike.Reads.Pre κs) (calls.phayaklit_strike.Reads.Post κs) (words, (n, tt)) r (words′, (n, tt))
-      (Held (now words)) (Edited (Strike n))
+  pub strike-called : (n : ℕ) → Edits (calls.phayaklit_strike.Reads.Pre κs) (calls.phayaklit_strike.Reads.Post κs) (words, (n, tt)) (words′, (n, tt)) (Strike n)
   strike-called n = (refl, edited (Strike n) r)
 
-  pub take-back-called : Ties (calls.phayaklit_take_back.Reads.Pre κs) (calls.phayaklit_take_back.Reads.Post κs) (words, tt) r (words′, tt) (Held (now words)) (Edited TakeBack)
+  pub take-back-called : Edits (calls.phayaklit_take_back.Reads.Pre κs) (calls.phayaklit_take_back.Reads.Post κs) (words, tt) (words′, tt) TakeBack
   take-back-called = (refl, edited TakeBack r)
 
 -- ---- Publish and writing
@@ -66,28 +64,25 @@ module _ (κs : Lfts 2) (words : RefT (List ℕ)) (r : Reply) (days numbers : Li
 -- ---- Questions
 
 module _ (index numbers numbers′ : RefT (List ℕ)) (r : Reply) (words text : List ℕ) where
-  abbrev pub Answered : Question → List ℕ → Type 0
-  Answered w days = Called words (blocks (now index)) (asking (Ask w) days (now numbers) text) r words (blocks (now index)) (now numbers′) text
+  -- a contract gives an answer to the question w, with the days of a days question
+  abbrev pub Answers : {A B : Type 0} → (A → Type 0) → (A → Reply → B → Type 0) → A → B → Question → List ℕ → Type 1
+  Answers pre post a b w days =
+      Ties pre post a r b (Published (now index)) (Called words (blocks (now index)) (asking (Ask w) days (now numbers) text) r words (blocks (now index)) (now numbers′) text)
 
   module _ (κs : Lfts 2) (days : List ℕ) where
-    pub day-called : (d : ℕ) → Ties (calls.phayaklit_day.Reads.Pre κs) (calls.phayaklit_day.Reads.Post κs) (index, (d, (numbers, tt))) r (index, (d, (numbers′, tt)))
-        (Published (now index)) (Answered (Day d) days)
+    pub day-called : (d : ℕ) → Answers (calls.phayaklit_day.Reads.Pre κs) (calls.phayaklit_day.Reads.Post κs) (index, (d, (numbers, tt))) (index, (d, (numbers′, tt))) (Day d) days
     day-called d = (refl, λ met. asked (Day d) r (λ p. met p days))
 
-    pub span-called : (a b : ℕ) → Ties (calls.phayaklit_span.Reads.Pre κs) (calls.phayaklit_span.Reads.Post κs) (index, (a, (b, (numbers, tt)))) r (index, (a, (b, (numbers′, tt))))
-        (Published (now index)) (Answered (Span a b) days)
+    pub span-called : (a b : ℕ) → Answers (calls.phayaklit_span.Reads.Pre κs) (calls.phayaklit_span.Reads.Post κs) (index, (a, (b, (numbers, tt)))) (index, (a, (b, (numbers′, tt)))) (Span a b) days
     span-called a b = (refl, λ met. asked (Span a b) r (λ p. met p days))
 
-    pub cover-called : (n : ℕ) → Ties (calls.phayaklit_cover.Reads.Pre κs) (calls.phayaklit_cover.Reads.Post κs) (index, (n, (numbers, tt))) r (index, (n, (numbers′, tt)))
-        (Published (now index)) (Answered (Cover n) days)
+    pub cover-called : (n : ℕ) → Answers (calls.phayaklit_cover.Reads.Pre κs) (calls.phayaklit_cover.Reads.Post κs) (index, (n, (numbers, tt))) (index, (n, (numbers′, tt))) (Cover n) days
     cover-called n = (refl, λ met. asked (Cover n) r (λ p. met p days))
 
-    pub mask-called : (b k : ℕ) → Ties (calls.phayaklit_mask.Reads.Pre κs) (calls.phayaklit_mask.Reads.Post κs) (index, (b, (k, (numbers, tt)))) r (index, (b, (k, (numbers′, tt))))
-        (Published (now index)) (Answered (Mask b k) days)
+    pub mask-called : (b k : ℕ) → Answers (calls.phayaklit_mask.Reads.Pre κs) (calls.phayaklit_mask.Reads.Post κs) (index, (b, (k, (numbers, tt)))) (index, (b, (k, (numbers′, tt)))) (Mask b k) days
     mask-called b k = (refl, λ met. asked (Mask b k) r (λ p. met p days))
 
-  pub days-called : (κs : Lfts 3) (days : RefT (List ℕ)) → Ties (calls.phayaklit_days.Reads.Pre κs) (calls.phayaklit_days.Reads.Post κs) (index, (days, (numbers, tt))) r (index, (days, (numbers′, tt)))
-      (Published (now index)) (Answered Days (now days))
+  pub days-called : (κs : Lfts 3) (days : RefT (List ℕ)) → Answers (calls.phayaklit_days.Reads.Pre κs) (calls.phayaklit_days.Reads.Post κs) (index, (days, (numbers, tt))) (index, (days, (numbers′, tt))) Days (now days)
   days-called κs days = (refl, asked Days r)
 
 -- ---- A second index, and the version

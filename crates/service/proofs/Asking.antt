@@ -1,17 +1,18 @@
 -- A call's answer beside what its edit makes of the service: a question leaves service and blocks as they were. Assumes nothing.
-use Rattle.basis.proofs.Prelude.{_≡_, refl, List, ℕ}
-use Rattle.service.proofs.Names.{accepted, Call, Write, Ask, Question, reads-keep, Outcome, Service, Stepped, toldOf, asking, Blocks, Given, keeping, Met, Changed, Changes, Wrote}
+use Rattle.basis.proofs.Prelude.{_≡_, refl, true, List, ℕ}
+use Rattle.service.proofs.Names.{accepted, Call, Write, Ask, Question, reads, reads-keep, Outcome, Service, Stepped, toldOf, asking, Blocks, Given, keeping, Met, Changed, Changes, Represents, Request, State, Wrote, answerOf, step}
 use Rattle.service.specs.Contracts.{Beside}
 use Rattle.questions.specs.Asked.{Asked}
+
+-- a call that reads leaves service and blocks as they were
+pub reads-met : {sv : Service} {bs : Blocks} {q : Request} {o : Outcome} {ns text : List ℕ} → reads (q .call) ≡ true → Given sv bs
+    → ((m : State) → Represents sv bs m → answerOf o ns text ≡ step m q .answer) → Met sv bs q (keeping sv o) bs ns text
+reads-met {q = q} only g f = record { given = g; answer = f; after = λ m h. rw (reads-keep m q only) h }
 
 -- A QUESTION is answered beside whatever service, and whatever list for a text, as the account does
 pub asked-met : {bs : Blocks} {w : Question} {days ns : List ℕ} {o : Outcome} {ns′ : List ℕ} → Asked (bs .index) w days ns o ns′
     → (sv : Service) (text : List ℕ) → Given sv bs → Met sv bs (asking (Ask w) days ns text) (keeping sv o) bs ns′ text
-asked-met {w = w} {days} {ns} a sv text g = record {
-  given = g;
-  answer = λ m h. a .answer m text (h .shows);
-  after = λ m h. rw (reads-keep m (asking (Ask w) days ns text) refl) h;
-}
+asked-met a sv text g = reads-met refl g (λ m h. a .answer m text (h .shows))
 
 module _ {sv : Service} {bs : Blocks} {days ns text : List ℕ} {c c′ : Call} {o : Outcome} (e : c ≡ c′) where
   -- an edit answers what is told of it

@@ -1,5 +1,6 @@
 -- Service and blocks at the beginning, after publish, and beside a written text. Assumes nothing.
 use Rattle.basis.proofs.Prelude.{_∙_, _≡_, ap, refl, sym, ℕ, List, [], true, by-test, false, eqb, false≢true}
+use Rattle.service.proofs.Asking.{reads-met}
 use Rattle.service.proofs.Names.{Register, good, bad, readText, writeAll, loadedOf, listOf, Fresh, Publish, Write, accepted, settle, fresh, begun, refusalIn, lineIn, effectOf, reads-keep, Outcome, toldOf, wroteOf, asking, indexOf, Service, Stepped, serviceOf, freshService, Blocks, blocks, Valid, Represents, Given, keeping, Met, Publishes, Wrote, Begins}
 use Rattle.spell.{specs.Listing.Sound, proofs.Order.answer-order}
 use Rattle.model.{proofs.Edits.orderly-none, specs.Publishing.publishedOf, proofs.Publishing.published-orderly}
@@ -14,9 +15,6 @@ use Rattle.outcomes.proofs.Answers.{write-told}
 pub represents-fresh : {st : Standing} {ix : List ℕ} → Fresh st → ix ≡ indexOf [] → Represents (serviceOf st) (blocks ix) fresh
 represents-fresh f e = record { valid = record { standing = f .wf }; standing = f .list; past = f .past; shows = record { good = orderly-none answer-order Sound; index = e } }
 
-pub fresh-whole : {st : Standing} → Fresh st → serviceOf st ≡ freshService
-fresh-whole f = ap serviceOf (f .whole)
-
 -- a reading tells its register's refusal and line, and publishes nothing
 read-in : (g : Register) → (readingOf g .refusal ≡ refusalIn g) × (readingOf g .line ≡ lineIn g) × (begun g .published ≡ [])
 unfolding readingOf begun
@@ -25,17 +23,12 @@ read-in (bad n line) = (refl, refl, refl)
 
 pub begins-read : (text : List ℕ) {got : Reading} {st : Standing} {ix : List ℕ} → got ≡ readingOf (readText text) → st ≡ loadedOf got → ix ≡ indexOf []
     → Begins (readText text) (record { service = serviceOf st; refusal = got .refusal; line = got .line }) (blocks ix)
-begins-read text r l e = let d = loads text (readText text) refl in let t = read-in (readText text) in rw (l, r) (record {
-  whole = ap serviceOf (d .whole);
-  represents = record {
-    valid = record { standing = d .wf };
-    standing = d .list;
-    past = d .past;
-    shows = record { good = rw (t .2) (orderly-none answer-order Sound); index = e ∙ rw (t .2) };
-  };
-  refusal = t .0;
-  line = t .1;
-})
+begins-read text {ix = ix} r l e =
+    let d = loads text (readText text) refl in
+    let t = read-in (readText text) in
+    let whole = ap serviceOf (d .whole) in
+    let shows : Shows ix (begun (readText text) .published) = rw (t .2) (record { good = orderly-none answer-order Sound; index = e }) in
+    rw (l, r) (search)
 
 -- ---- Publish
 
@@ -67,10 +60,4 @@ module _ {sv : Service} {rule : ℕ} {bs : Blocks} {r : Stepped} {bs′ : Blocks
 -- ---- Writing
 
 pub wrote : {sv : Service} {t t′ : List ℕ} {wr : Written} {o : Outcome} → o ≡ wroteOf wr → Writes (writeAll (listOf (sv .standing))) t wr t′ → Wrote sv t o t′
-wrote {sv} {t} is w = unfold effectOf in rw is (record {
-  met = λ bs days numbers g. record {
-    given = g;
-    answer = λ m h. write-told m (asking Write days numbers t) _ w ∙ rw (h .standing);
-    after = λ m h. rw (reads-keep m (asking Write days numbers t) refl) h;
-  };
-})
+wrote {t = t} is w = unfold effectOf in rw is (record { met = λ bs days numbers g. reads-met refl g (λ m h. write-told m (asking Write days numbers t) _ w ∙ rw (h .standing)) })

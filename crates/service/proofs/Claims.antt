@@ -18,14 +18,13 @@ made-given g none = g
 made-given g (then r left numbers text met more) = made-given (met g .given) more
 
 -- BEGUN FRESH: what `fresh` ensures of its service and blocks is enough
-pub made-fresh : {sv sv′ : Service} {bs bs′ : Blocks} {qs : List Request} {answers : List Answer}
-    → Represents sv bs fresh → Made sv bs qs answers sv′ bs′ → answers ≡ run fresh qs
-made-fresh s = made-run fresh s
+module _ {sv′ : Service} {bs bs′ : Blocks} {qs : List Request} {answers : List Answer} where
+  pub made-fresh : {sv : Service} → Represents sv bs fresh → Made sv bs qs answers sv′ bs′ → answers ≡ run fresh qs
+  made-fresh s = made-run fresh s
 
--- BEGUN ON A REGISTER'S BYTES, a refused reading included: what `read` ensures is enough
-pub made-read : {sv′ : Service} {bs bs′ : Blocks} {qs : List Request} {answers : List Answer} (register : List ℕ) (r : Started)
-    → Begins (readText register) r bs → Made (r .service) bs qs answers sv′ bs′ → answers ≡ run (begun (readText register)) qs
-made-read register r b = made-run (begun (readText register)) (b .represents)
+  -- BEGUN ON A REGISTER'S BYTES, a refused reading included: what `read` ensures is enough
+  pub made-read : (register : List ℕ) (r : Started) → Begins (readText register) r bs → Made (r .service) bs qs answers sv′ bs′ → answers ≡ run (begun (readText register)) qs
+  made-read register r b = made-run (begun (readText register)) (b .represents)
 
 -- AN IDLE AMEND leaves the whole service as it was
 pub idle-left : {sv : Service} {bs : Blocks} {m : State} (s : Spell) → Represents sv bs m → idle (m .standing) s ≡ true → leaves sv (Amend s) ≡ sv

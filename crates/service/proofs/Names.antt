@@ -1,5 +1,5 @@
 -- The names of other crates and of the definitions that the proofs use, passed on from one place. Assumes nothing.
-pub use Rattle.model.{proofs.Claims.reads-keep, specs.declared.Call.Call, specs.declared.Question.Question, specs.{Edits.{insert, replace}, Effects.{Effect, State, done, refused, withStanding, writes}, Model.{Answer, Request, become, edit, fresh, lineIn, refusalIn, step, withPublished}, declared.Call.the-variants.{Amend, Ask, Enter, Publish, Strike, TakeBack, Write}}}
+pub use Rattle.model.{proofs.Claims.reads-keep, specs.declared.Call.Call, specs.declared.Question.Question, specs.{Edits.{insert, replace}, Effects.{Effect, State, done, refused, withStanding, writes}, Journal.reads, Model.{Answer, Request, become, edit, fresh, lineIn, refusalIn, step, withPublished}, declared.Call.the-variants.{Amend, Ask, Enter, Publish, Strike, TakeBack, Write}}}
 unfoldable pub use Rattle.model.{specs.{Edits.{amendRefusal, enterRefusal, frontOr, idle, remember, remove, restOf, strikeRefusal, takeBackRefusal}, Model.{begun, effectOf, run, takeBack}}, specs.Effects.settle}
 pub use Rattle.outcomes.{specs.Outcomes.{answerOf, asking, toldOf, wroteOf}, specs.declared.Outcome.Outcome}
 pub use Rattle.published_index.specs.Index.{Published, indexOf}

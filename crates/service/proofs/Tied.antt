@@ -2,7 +2,7 @@
 use Rattle.basis.proofs.Prelude.{_≡_, refl, ℕ, List}
 use contract.Lifetimes.{Lfts}
 use denote.Ref.{RefT, now}
-use Rattle.service.proofs.{Names.{Spell, readText, Call, Enter, Amend, Strike, TakeBack, Publish, Write, Ask, Question, fresh, Outcome, asking, Published, Service, Stepped, Started, freshService, Blocks, blocks, Valid, Represents, Given, keeping, Met, Changes, Begins, Steps}, Asking.asked-met, Beginning.publishes-met}
+use Rattle.service.proofs.{Names.{Spell, readText, Call, Enter, Amend, Strike, TakeBack, Publish, Write, Ask, Question, fresh, Outcome, asking, Published, Service, Stepped, Started, freshService, Blocks, blocks, Valid, Represents, Given, keeping, Met, Changed, Changes, Begins, Steps}, Asking.asked-met, Beginning.publishes-met}
 use Rattle.model.specs.declared.Question.the-variants.{Day, Span, Cover, Days, Mask}
 use Rattle.service.specs.Packed.{unpacked, Packs}
 use Rattle.service.proofs as calls
@@ -37,17 +37,11 @@ module _ (κs : Lfts 0) (sv : Service) (r : Stepped) where
     abbrev pub EditSteps : Call → Type 1
     EditSteps c = Ties (calls.edit.Reads.Pre κs) (calls.edit.Reads.Post κs) (sv, (c, tt)) r (sv, (c, tt)) (Valid sv) (Steps sv bs (asking c days numbers text) r bs numbers text)
 
-    pub enter-steps : (s : Spell) → EditSteps (Enter s)
-    enter-steps s = (refl, λ met g. met (g .valid) .met bs days numbers text g)
+    edit-steps : (c : Call) → (Changes sv c r → Changed sv c r) → EditSteps c
+    edit-steps c f = (refl, λ met g. f (met (g .valid)) .met bs days numbers text g)
 
-    pub amend-steps : (s : Spell) → EditSteps (Amend s)
-    amend-steps s = (refl, λ met g. met (g .valid) .met bs days numbers text g)
-
-    pub strike-steps : (k : ℕ) → EditSteps (Strike k)
-    strike-steps k = (refl, λ met g. met (g .valid) .met bs days numbers text g)
-
-    pub take-back-steps : EditSteps TakeBack
-    take-back-steps = (refl, λ met g. met (g .valid) .met bs days numbers text g)
+    pub edits-step : (s : Spell) (k : ℕ) → EditSteps (Enter s) × EditSteps (Amend s) × EditSteps (Strike k) × EditSteps TakeBack
+    edits-step s k = (edit-steps (Enter s) (λ d. d), edit-steps (Amend s) (λ d. d), edit-steps (Strike k) (λ d. d), edit-steps TakeBack (λ d. d))
 
 -- ---- Publish and writing
 
@@ -64,34 +58,28 @@ module _ (κs : Lfts 1) (sv : Service) (bs : Blocks) (days numbers text : List �
 -- ---- Questions
 
 module _ (index numbers numbers′ : RefT (List ℕ)) (o : Outcome) (sv : Service) (text : List ℕ) where
-  -- a step of the question w, with the days of a days question
-  abbrev pub Asks : Question → List ℕ → Type 0
-  Asks w days = Steps sv (blocks (now index)) (asking (Ask w) days (now numbers) text) (keeping sv o) (blocks (now index)) (now numbers′) text
+  -- a contract gives a step of the question w, with the days of a days question
+  abbrev pub Asks : {A B : Type 0} → (A → Type 0) → (A → Outcome → B → Type 0) → A → B → Question → List ℕ → Type 1
+  Asks pre post a b w days = Ties pre post a o b (Published (now index)) (Steps sv (blocks (now index)) (asking (Ask w) days (now numbers) text) (keeping sv o) (blocks (now index)) (now numbers′) text)
 
   module _ (κs : Lfts 2) (days : List ℕ) where
-    pub day-steps : (d : ℕ) → Ties (questions.day.Reads.Pre κs) (questions.day.Reads.Post κs) (index, (d, (numbers, tt))) o (index, (d, (numbers′, tt)))
-        (Published (now index)) (Asks (Day d) days)
+    pub day-steps : (d : ℕ) → Asks (questions.day.Reads.Pre κs) (questions.day.Reads.Post κs) (index, (d, (numbers, tt))) (index, (d, (numbers′, tt))) (Day d) days
     day-steps d = (refl, λ met g. asked-met (met (g .published) days) sv text g)
 
-    pub span-steps : (a b : ℕ) → Ties (questions.span.Reads.Pre κs) (questions.span.Reads.Post κs) (index, (a, (b, (numbers, tt)))) o (index, (a, (b, (numbers′, tt))))
-        (Published (now index)) (Asks (Span a b) days)
+    pub span-steps : (a b : ℕ) → Asks (questions.span.Reads.Pre κs) (questions.span.Reads.Post κs) (index, (a, (b, (numbers, tt)))) (index, (a, (b, (numbers′, tt)))) (Span a b) days
     span-steps a b = (refl, λ met g. asked-met (met (g .published) days) sv text g)
 
-    pub cover-steps : (k : ℕ) → Ties (questions.cover.Reads.Pre κs) (questions.cover.Reads.Post κs) (index, (k, (numbers, tt))) o (index, (k, (numbers′, tt)))
-        (Published (now index)) (Asks (Cover k) days)
+    pub cover-steps : (k : ℕ) → Asks (questions.cover.Reads.Pre κs) (questions.cover.Reads.Post κs) (index, (k, (numbers, tt))) (index, (k, (numbers′, tt))) (Cover k) days
     cover-steps k = (refl, λ met g. asked-met (met (g .published) days) sv text g)
 
-    pub mask-steps : (b k : ℕ) → Ties (questions.mask.Reads.Pre κs) (questions.mask.Reads.Post κs) (index, (b, (k, (numbers, tt)))) o (index, (b, (k, (numbers′, tt))))
-        (Published (now index)) (Asks (Mask b k) days)
+    pub mask-steps : (b k : ℕ) → Asks (questions.mask.Reads.Pre κs) (questions.mask.Reads.Post κs) (index, (b, (k, (numbers, tt)))) (index, (b, (k, (numbers′, tt)))) (Mask b k) days
     mask-steps b k = (refl, λ met g. asked-met (met (g .published) days) sv text g)
 
   module _ (κs : Lfts 3) (days : RefT (List ℕ)) where
-    pub days-steps : Ties (questions.days.Reads.Pre κs) (questions.days.Reads.Post κs) (index, (days, (numbers, tt))) o (index, (days, (numbers′, tt)))
-        (Published (now index)) (Asks Days (now days))
+    pub days-steps : Asks (questions.days.Reads.Pre κs) (questions.days.Reads.Post κs) (index, (days, (numbers, tt))) (index, (days, (numbers′, tt))) Days (now days)
     days-steps = (refl, λ met g. asked-met (met (g .published)) sv text g)
 
-    pub ask-steps : (w : Question) → Ties (questions.ask.Reads.Pre κs) (questions.ask.Reads.Post κs) (index, (w, (days, (numbers, tt)))) o (index, (w, (days, (numbers′, tt))))
-        (Published (now index)) (Asks w (now days))
+    pub ask-steps : (w : Question) → Asks (questions.ask.Reads.Pre κs) (questions.ask.Reads.Post κs) (index, (w, (days, (numbers, tt)))) (index, (w, (days, (numbers′, tt)))) w (now days)
     ask-steps w = (refl, λ met g. asked-met (met (g .published)) sv text g)
 
 -- ---- Any call: the step itself, and nothing weaker

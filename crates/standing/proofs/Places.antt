@@ -4,48 +4,35 @@ use Rattle.standing.proofs.Names.{over, own-over, over-length, Spell, G
 
 -- ---- A standing list
 
--- value for value
-pub same : {a b : List Spell} {n m : ℕ} {i j : List Undo} {d e : ℕ} → a ≡ b → n ≡ m → i ≡ j → d ≡ e
-    → _≡_ {A = Standing} (record { spells = a; count = n; journal = i; depth = d }) (record { spells = b; count = m; journal = j; depth = e })
-same p q r s = rw (p, q, r, s)
-
 pub list-length : {st : Standing} → Wf st → length (listOf st) ≡ st .count
 list-length {st} w = length-take-le (st .count) (st .spells) (omega (arith, w .places, w .count-in))
 
 -- the entries of the first d places, and these put over the journal
 module _ {st : Standing} (w : Wf st) (d : ℕ) (h : d ≤ st .depth) where
-  fits : d ≤ length (st .journal)
-  fits = omega (arith, w .rooms, w .depth-in)
-
   pub entries-long : length (newestFirst d (st .journal)) ≡ d
-  entries-long = length-reverse (take d (st .journal)) ∙ length-take-le d (st .journal) fits
+  entries-long = length-reverse (take d (st .journal)) ∙ length-take-le d (st .journal) (omega (arith, w .rooms, w .depth-in))
 
   pub journal-own : over (reverse (newestFirst d (st .journal))) (st .journal) ≡ st .journal
-  journal-own = rw (reverse-reverse (take d (st .journal))) (own-over d (st .journal) fits)
+  journal-own = rw (reverse-reverse (take d (st .journal))) (own-over d (st .journal) (omega (arith, w .rooms, w .depth-in)))
 
 -- its own list and entries change nothing
 pub over-same : (st : Standing) → Wf st → holding st (listOf st) (entries st) ≡ st
 over-same st w =
-    same (own-over (st .count) (st .spells) (omega (arith, w .places, w .count-in))) (list-length w) (journal-own w (st .depth) (omega arith)) (entries-long w (st .depth) (omega arith))
+    rw (own-over (st .count) (st .spells) (omega (arith, w .places, w .count-in)), list-length w, journal-own w (st .depth) (omega arith), entries-long w (st .depth) (omega arith))
 
 module _ (st : Standing) (l : List Spell) (es : List Undo) where
   pub list-over : listOf (holding st l es) ≡ l
   list-over = take-append-seam l (drop (length l) (st .spells))
 
   pub entries-over : entries (holding st l es) ≡ es
-  entries-over =
-      ap reverse (take-at (reverse es) (drop (length (reverse es)) (st .journal)) (length es) (length-reverse es)) ∙ reverse-reverse es
+  entries-over = rw (take-at (reverse es) (drop (length (reverse es)) (st .journal)) (length es) (length-reverse es)) (reverse-reverse es)
 
   pub past-over : pasts (holding st l es) ≡ pastOf l es
   past-over = ap (λ (x : List Spell). pastOf x (entries (holding st l es))) list-over ∙ ap (pastOf l) entries-over
 
   -- it can stand where its list and its past can
   pub wf-over : Wf st → Good l → length es ≤ 64 → Goods (pastOf l es) → Wf (holding st l es)
-  wf-over w good few goods = record {
-    places = over-length l (st .spells) (omega (arith, good .few, w .places)) ∙ w .places;
-    rooms = over-length (reverse es) (st .journal) (omega (arith, length-reverse es, w .rooms)) ∙ w .rooms;
-    count-in = good .few;
-    depth-in = few;
-    good = rw list-over good;
-    goods = rw past-over goods;
-  }
+  wf-over w good few goods =
+      let places = over-length l (st .spells) (omega (arith, good .few, w .places)) ∙ w .places in
+      let rooms = over-length (reverse es) (st .journal) (omega (arith, length-reverse es, w .rooms)) ∙ w .rooms in
+      search (list-over, entries-over)

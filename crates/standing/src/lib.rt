@@ -2,11 +2,9 @@
 ghost use mathlib.Core.List.{map};
 ghost use mathlib.Core.Path.{_≡_};
 ghost use mathlib.Core.Bool.{cond};
-ghost use Prim.Native.Nat.{_≤_};
 ghost use Rattle.spell_places.specs.List.{LaidOut};
 ghost use Rattle.journal.specs.Journal.{noting};
 ghost use Rattle.standing.specs.Places.{loadedOf};
-ghost use Rattle.journal.specs.Journal.{newestOf};
 ghost use Rattle.rules.specs.Rules.{cut};
 ghost use Rattle.register.specs.Text.{writeAll};
 ghost use Rattle.register.specs.Answers.{Writes};
@@ -51,15 +49,6 @@ pub fn fresh() -> Standing
 
 // ---- The journal
 
-// The newest entry; where there is none, what the first place holds.
-fn newest(journal: [Undo; 64], depth: usize) -> Undo
-    requires { ⌜ depth ≤ 64 ⌝ }
-    ensures { λ r. ⌜ r ≡ newestOf depth journal ⌝ }
-{
-    let i = planning::last_place(depth);
-    journal[i]
-}
-
 // The entry e put at the end, where it is noted.
 fn journaled(journal: [Undo; 64], depth: usize, notes: bool, e: Undo) -> [Undo; 64]
     ensures { λ r. ⌜ r ≡ cond notes (noting e depth journal) journal ⌝ }
@@ -83,7 +72,9 @@ pub fn edit(st: Standing, call: Call) -> Edited
     let d = st.depth;
     let spells = st.spells;
     let journal = st.journal;
-    let e = newest(journal, d);
+    // the newest entry; where there is none, what the first place holds
+    let i = planning::last_place(d);
+    let e = journal[i];
     let k = planning::number_of(call, e.number);
     let found = standing_list::find(spells, n, k);
     let old = found.spell;

@@ -20,7 +20,7 @@ fn put_standing(st: Standing, out: &mut [u16])
 {
     let spells = st.spells;
     let journal = st.journal;
-    packing::put_spells(spells, out);
+    packing::put_spells(spells, &mut out[0..SPELLS]);
     standing_journal::put_journal(journal, &mut out[SPELLS..COUNT]);
     out[COUNT] = st.count as u16;
     out[DEPTH] = st.depth as u16;
@@ -30,7 +30,7 @@ fn standing_at(words: &[u16]) -> Standing
     requires { ⌜ length (now words) ≡ standingLength ⌝ }
     ensures { λ r. ⌜ r ≡ unpacked (now (words .entry)) ⌝ }
 {
-    let spells = packing::spells_at(words);
+    let spells = packing::spells_at(&words[0..SPELLS]);
     let journal = standing_journal::journal_at(&words[SPELLS..COUNT]);
     Standing {
         spells,

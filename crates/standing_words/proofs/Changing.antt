@@ -1,6 +1,6 @@
 -- What moving and putting words makes of the spells and the entries that they hold. Assumes nothing.
 use Rattle.basis.proofs.Prelude.{_∙_, _≡_, ap, refl, sym, _*_, _-_, _<_, _≤_, ℕ, List, Bool, _&&_, false, not, true, ltb, drop, length, take, length-take-le, take-append-seam, arith, le-leb, le-ltb, lt-ltb, not-false, not-true, by-test}
-use Rattle.standing_words.proofs.{Names.{Exchanges, Holds, Notes, Put, PutsIn, Spell, TakesOut, Undo, close-all, closed, countedOf, earlierOf, entriesOf, entry-long, entry-near, entryOf, entryWidth, entryWords, insert, insert-at, journalLength, lastEntry, left-le, left-length, leftOf, length-insert, lowered, opened, over, over-twice, own-over, parts, parts-length, placeOf, push-full, push-room, putting, raised, remove-none, spell-long, spell-near, spellOf, spellWidth, spellWords, spellsLength, spellsOf, without, written}, Reading.{place-in, places}, Values.{lowers, opened-is, puts-over, raises}}
+use Rattle.standing_words.proofs.{Names.{Exchanges, Holds, Notes, Put, PutsIn, Spell, TakesOut, Undo, close-all, closed, countedOf, earlierOf, entriesOf, entry-long, entry-near, entryOf, entryWidth, entryWords, insert, insert-at, journalLength, lastEntry, left-le, left-length, leftOf, length-insert, lowered, mul-comm, opened, over, over-twice, own-over, parts, parts-length, placeOf, push-full, push-room, putting, raised, remove-none, spell-long, spell-near, spellOf, spellWidth, spellWords, spellsLength, spellsOf, without, written}, Reading.places, Values.{lowers, opened-is, puts-over, raises}}
 
 module _ {A : Type 0} {k : ℕ} {f : A → List ℕ} {g : List ℕ → A} {n : ℕ} where
   -- words hold what is read of them
@@ -20,9 +20,7 @@ module _ (x : List ℕ) (whole : length x ≡ spellsLength) where
 
     pub takes-one : {x′ : List ℕ} → p < n → x′ ≡ lowered spellWidth (spellWidth * p) (spellWidth * (n - 1)) x → TakesOut n p x x′
     takes-one h down =
-        let low : spellWidth * p ≡ p * spellWidth = omega arith in
-        let high : spellWidth * (n - 1) ≡ (n - 1) * spellWidth = omega arith in
-        rw (down, low, high, ← close-all p (n - 1) n (spellsOf x) (omega arith) (omega arith) (places x few))
+        rw (down, mul-comm spellWidth p, mul-comm spellWidth (n - 1), ← close-all p (n - 1) n (spellsOf x) (omega arith) (omega arith) (places x few))
         (lowers spellWidth spellWords spellOf spell-long spell-near _ (as-read x whole) p (n - 1) (omega arith) (omega arith))
 
   module _ (m : ℕ) (puts : Bool) (s : Spell) (few : m ≤ 1024) where
@@ -36,17 +34,13 @@ module _ (x : List ℕ) (whole : length x ≡ spellsLength) where
     puts-full h = puts-none (by-test puts (λ e. rw (e, le-ltb m 1024 h)) (λ e. rw e))
 
     -- the words from its place on make room for it
-    pub puts-one : {q : ℕ} {x′ x″ : List ℕ} → not puts ≡ false → m < 1024 → q ≡ placeOf s (take m (spellsOf x)) → x′ ≡ raised spellWidth (spellWidth * q) (spellWidth * m) x
+    pub puts-one : {q : ℕ} {x′ x″ : List ℕ} → not puts ≡ false → m < 1024 → q ≡ placeOf s (take m (spellsOf x)) → q ≤ m → x′ ≡ raised spellWidth (spellWidth * q) (spellWidth * m) x
         → Put spellWords spellOf s (spellWidth * q) x′ x″ → PutsIn m puts s x x″
-    puts-one {q} asked room at up p =
+    puts-one {q} asked room at low up p =
         let first = take m (spellsOf x) in
-        let low = place-in x s few at in
-        let from : spellWidth * q ≡ q * spellWidth = omega arith in
-        let to : spellWidth * m ≡ m * spellWidth = omega arith in
         let placed : opened q s first ≡ insert s first = ap (λ (i : ℕ). opened i s first) at ∙ sym (insert-at s first) in
-        let up-to = raises spellWidth spellWords spellOf spell-long spell-near _ {n = 1024} (as-read x whole) q m low (omega arith) in
-        rw (not-false puts asked, p .words, up, from, to, length-take-le m (spellsOf x) (places x few), lt-ltb m 1024 room, ← placed, ← opened-is (spellsOf x) q m s low (places x room))
-        (puts-over spellWidth spellWords spellOf spell-long spell-near _ up-to q s (p .back) (omega arith))
+        rw (not-false puts asked, p .words, up, mul-comm spellWidth q, mul-comm spellWidth m, length-take-le m (spellsOf x) (places x few), lt-ltb m 1024 room, ← placed, ← opened-is (spellsOf x) q m s low (places x room))
+        (puts-over spellWidth spellWords spellOf spell-long spell-near _ (raises spellWidth spellWords spellOf spell-long spell-near _ {n = 1024} (as-read x whole) q m low (omega arith)) q s (p .back) (omega arith))
 
 longer : (puts : Bool) (s : Spell) (l : List Spell) → length l ≤ length (putting puts s l)
 longer puts s l = by-test (puts && ltb (length l) 1024) (λ e. rw e (omega (arith, length-insert earlierOf s l))) (λ e. rw e (omega arith))
@@ -69,19 +63,15 @@ module _ (x : List ℕ) (n p : ℕ) {m : ℕ} (few : n ≤ 1024) (is : m ≡ cou
 -- ---- The journal
 
 module _ (y : List ℕ) (d : ℕ) (notes : Bool) (e : Undo) (whole : length y ≡ journalLength) where
-  all : length (entriesOf y) ≡ 64
-  all = parts-length entryWidth entryOf 64 y
-
   pub notes-none : not notes ≡ true → Notes d notes e y y
   notes-none h = rw (not-true notes h) (as-read y whole)
 
   pub notes-room : {y′ : List ℕ} → not notes ≡ false → d < 64 → Put entryWords entryOf e (entryWidth * d) y y′ → Notes d notes e y y′
   notes-room asked h p =
-      let at : entryWidth * d ≡ d * entryWidth = omega arith in
-      rw (not-false notes asked, p .words, at, ← push-room (entriesOf y) d e all h) (puts-over entryWidth entryWords entryOf entry-long entry-near _ (as-read y whole) d e (p .back) h)
+      rw (not-false notes asked, p .words, mul-comm entryWidth d, ← push-room (entriesOf y) d e (parts-length entryWidth entryOf 64 y) h) (puts-over entryWidth entryWords entryOf entry-long entry-near _ (as-read y whole) d e (p .back) h)
 
   -- the oldest entry goes
   pub notes-full : {y′ y″ : List ℕ} → not notes ≡ false → 64 ≤ d → y′ ≡ lowered entryWidth 0 lastEntry y → Put entryWords entryOf e lastEntry y′ y″ → Notes d notes e y y″
   notes-full asked h down p =
-      rw (not-false notes asked, p .words, down, ← push-full (entriesOf y) d e all (closed 0 63 (entriesOf y)) h refl)
+      rw (not-false notes asked, p .words, down, ← push-full (entriesOf y) d e (parts-length entryWidth entryOf 64 y) (closed 0 63 (entriesOf y)) h refl)
       (puts-over entryWidth entryWords entryOf entry-long entry-near _ (lowers entryWidth entryWords entryOf entry-long entry-near _ (as-read y whole) 0 63 (omega arith) (omega arith)) 63 e (p .back) (omega arith))

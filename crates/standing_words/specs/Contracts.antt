@@ -6,10 +6,16 @@ use mathlib.Core.List.{List}
 use lib.ListN.{length, take}
 use Rattle.buffer.specs.Buffer.{over}
 use Rattle.spell.specs.declared.Spell.{Spell}
-use Rattle.packing.specs.Layout.{spellWidth, entryWidth}
+use Rattle.packing.specs.Layout.{spellWidth, entryWidth, standingLength}
 use Rattle.packing.specs.Blocks.{written, parts}
 use Rattle.packing.specs.Words.{spellWords, spellOf}
 use Rattle.spell_places.specs.List.{without, putting, changing}
+use Rattle.model.specs.declared.Call.{Call}
+use Rattle.plans.specs.declared.Plan.{Plan}
+use Rattle.plans.specs.Plans.{Takes}
+use Rattle.standing.specs.Standing.{Wf}
+use Rattle.standing.specs.Plans.{planFor}
+use Rattle.standing.specs.Packed.{unpacked}
 use Rattle.journal.specs.declared.Undo.{Undo}
 use Rattle.journal.specs.Journal.{noting}
 use Rattle.journal.specs.Words.{entryWords, entryOf}
@@ -45,3 +51,12 @@ entriesOf y = parts entryWidth entryOf 64 y
 
 abbrev pub Notes : ℕ → Bool → Undo → List ℕ → List ℕ → Type 0
 Notes d notes e y y′ = Holds entryWidth entryWords entryOf (written entryWords (entriesOf y) ≡ y) 64 y′ (cond notes (noting e d (entriesOf y)) (entriesOf y))
+
+-- ---- The plan
+
+-- the plan p of the call c, on words that the calls gave
+pub record Planned (x : List ℕ) (c : Call) (p : Plan) : Type 0 where
+  pub whole : length x ≡ standingLength
+  pub wf : Wf (unpacked x)
+  pub is : p ≡ planFor (unpacked x) c
+  pub takes : Takes c (p .refusal)

@@ -9,7 +9,7 @@ ghost use Rattle.standing.specs.Standing.{Wf};
 ghost use Rattle.standing.specs.Packed.{unpacked};
 ghost use Rattle.standing_words.specs.Edits.{EditedIn};
 ghost use Rattle.standing_words.specs.Moves.{lowered, raised};
-ghost use Rattle.standing_words.specs.Contracts.{spellsOf, TakesOut, PutsIn, Exchanges, Notes};
+ghost use Rattle.standing_words.specs.Contracts.{spellsOf, TakesOut, PutsIn, Exchanges, Notes, Planned};
 use journal::Undo;
 use model::Call;
 use packing::COUNT;
@@ -18,6 +18,7 @@ use packing::ENTRY;
 use packing::LAST_ENTRY;
 use packing::SPELL;
 use packing::SPELLS;
+use plans::Plan;
 use spell::Spell;
 use spell_places::Located;
 use standing::words::STANDING;
@@ -55,7 +56,7 @@ fn raise(words: &mut [u16], from: usize, to: usize, by: usize)
 // The spell of the number k among the first n.
 fn find(words: &[u16], n: usize, k: u16) -> Located
     requires { ⌜ n ≤ 1024 ⌝ }
-    requires { ⌜ spellsLength ≤ length (now words) ⌝ }
+    requires { ⌜ length (now words) ≡ spellsLength ⌝ }
     ensures { λ r. ⌜ r ≡ foundIn k (take n (spellsOf (now (words .entry)))) ⌝ }
 {
     let mut i = 0;
@@ -77,6 +78,7 @@ fn place(words: &[u16], m: usize, s: Spell) -> usize
     requires { ⌜ m ≤ 1024 ⌝ }
     requires { ⌜ spellsLength ≤ length (now words) ⌝ }
     ensures { λ r. ⌜ r ≡ placeOf s (take m (spellsOf (now (words .entry)))) ⌝ }
+    ensures { λ r. ⌜ r ≤ m ⌝ }
 {
     let mut i = 0;
     while i < m {
@@ -149,24 +151,34 @@ fn note(journal: &mut [u16], d: usize, notes: bool, e: Undo)
 
 // ---- The edit
 
-// What any call makes of the standing list: its plan is made on small values, and carried out on the words.
+// The plan of a call, on small values.
+fn plan_in(words: &[u16], call: Call) -> Plan
+    requires { ⌜ length (now words) ≡ standingLength ⌝ }
+    requires { ⌜ Wf (unpacked (now words)) ⌝ }
+    ensures { λ r. ⌜ Planned (now (words .entry)) call r ⌝ }
+{
+    let n = words[COUNT] as usize;
+    let d = words[DEPTH] as usize;
+    let e = standing_journal::entry_at(&words[SPELLS..COUNT], ENTRY * planning::last_place(d));
+    let k = planning::number_of(call, e.number);
+    let found = find(&words[0..SPELLS], n, k);
+    let old = found.spell;
+    planning::planned(call, e, found.place, old, n, d)
+}
+
+// What any call makes of the standing list: its plan is carried out on the words.
 fn edit_in(words: &mut [u16], call: Call) -> u16
     requires { ⌜ length (now words) ≡ standingLength ⌝ }
     requires { ⌜ Wf (unpacked (now words)) ⌝ }
     ensures { λ r. ⌜ EditedIn call (now (words .entry)) r (now (words .exit)) ⌝ }
 {
+    let plan = plan_in(words, call);
     let n = words[COUNT] as usize;
-    let d = words[DEPTH] as usize;
-    let e = standing_journal::entry_at(words, SPELLS + ENTRY * planning::last_place(d));
-    let k = planning::number_of(call, e.number);
-    let found = find(words, n, k);
-    let old = found.spell;
-    let plan = planning::planned(call, e, found.place, old, n, d);
     let count = standing_list::counted(n, plan.out, plan.puts) as u16;
     let depth = planning::deeper(plan.depth, plan.notes) as u16;
     let s = plan.spell;
     let entry = plan.entry;
-    change(&mut words[..SPELLS], n, plan.out, plan.puts, s);
+    change(&mut words[0..SPELLS], n, plan.out, plan.puts, s);
     note(&mut words[SPELLS..COUNT], plan.depth, plan.notes, entry);
     words[COUNT] = count;
     words[DEPTH] = depth;

@@ -11,5 +11,4 @@ spell-at-spec = close (spec
     (λ c. search needs)
     (λ c.
     let u = c .before .before .before .before in
-    let j = u .before .before in
-    spell-read _ (j .before .before .before .before .before .before .args .at) (j .join .ensures) (u .urgency-of .ensures) (omega arith)))
+    spell-read _ (u .before .before .before .before .before .before .before .before .args .at) (u .before .before .join .ensures) (u .urgency-of .ensures) (omega arith)))

@@ -13,6 +13,6 @@ place-spec = close (spec
     Inv-loop μ-loop (λ c. (omega arith, sym (zero-add _)))
     (λ c. omega arith) (λ c κs. search needs) (λ c κs. search needs)
     -- it is not earlier, or is
-    (λ c. search (place-here, places, spell-is, not-true)) (λ c. omega arith) (λ c. omega arith)
+    (λ c. (search (place-here, places, spell-is, not-true), omega arith)) (λ c. omega arith) (λ c. omega arith)
     (λ c. (omega arith, search (place-next, places, spell-is, not-false)))
-    (λ c. search (place-end, places)))
+    (λ c. (search (place-end, places), omega arith)))
