@@ -1,5 +1,5 @@
 -- What is over a list: laws of values in its first places. Assumes nothing.
-use Rattle.basis.proofs.Prelude.{_∙_, _≡_, ap, sym, _+_, _-_, _≤_, min, min-le-left, min-le-right, ℕ, List, _++_, drop, length, length-append, length-drop, length-replicate, replicate, replicate-append-replicate, take, take-all, take-append-drop, take-length, drop-append-add, drop-at, drop-drop, length-take-le, decLe, arith}
+use Rattle.basis.proofs.Prelude.{_∙_, _≡_, ap, sym, _+_, _-_, _≤_, min, min-le-left, min-le-right, ℕ, List, _++_, drop, length, length-append, length-drop, length-replicate, replicate, replicate-append-replicate, take, take-all, take-append-drop, take-length, drop-append-add, drop-at, drop-drop, length-take-le, leb, leb-false, leb-true, by-test, arith}
 use native.Mathlib.Nat.{min-eq-left, min-eq-right}
 use Rattle.buffer.specs.Buffer.{over}
 
@@ -10,10 +10,8 @@ least-in {n} {a} {b} e = (omega (arith, min-le-left a b), omega (arith, min-le-r
 module _ {A : Type 0} where
   -- a count above a list's length names all of it
   pub take-least : (n : ℕ) (a : List A) → take (min n (length a)) a ≡ take n a
-  take-least n a = elim (decLe n (length a)) [
-    | yes h ↦ ap (λ (k : ℕ). take k a) (min-eq-left h)
-    | no h ↦ let long : length a ≤ n = omega arith in ap (λ (k : ℕ). take k a) (min-eq-right long) ∙ take-length a ∙ sym (take-all n a long)
-  ]
+  take-least n a = by-test (leb n (length a)) (λ t. rw (min-eq-left (leb-true n (length a) t)))
+      (λ t. let long : length a ≤ n = omega (arith, leb-false n (length a) t) in rw (min-eq-right long, take-length a, take-all n a long))
 
   pub least-names : {n k : ℕ} (count : ℕ) (a : List A) → length a ≡ k → n ≡ min count k → take n a ≡ take count a
   least-names {n} {k} count a long e = rw (e, ← long) (take-least count a)
@@ -30,7 +28,7 @@ module _ {A : Type 0} where
   drop-over : (m : List A) (n : ℕ) (a : List A) → length m ≤ n → drop n (over m a) ≡ drop n a
   drop-over m n a h =
       let is : n ≡ length m + (n - length m) = omega arith in
-      rw is (drop-append-add m (drop (length m) a) (n - length m) ∙ drop-drop (n - length m) (length m) a)
+      cc (drop-append-add m (drop (length m) a) (n - length m), drop-drop (n - length m) (length m) a)
 
   -- of two writings the longer one stays
   pub over-twice : (m l a : List A) → length m ≤ length l → over l (over m a) ≡ over l a
@@ -46,7 +44,4 @@ module _ {A : Type 0} where
   pub over-blank : (l : List A) (n : ℕ) (x : A) → length l ≤ n → over l (replicate n x) ≡ l ++ replicate (n - length l) x
   over-blank l n x h =
       let is : n ≡ length l + (n - length l) = omega arith in
-      ap (λ (r : List A). l ++ r)
-      (ap (λ (k : ℕ). drop (length l) (replicate k x)) is
-      ∙ ap (drop (length l)) (sym (replicate-append-replicate (length l) (n - length l) x))
-      ∙ drop-at (replicate (length l) x) (replicate (n - length l) x) (length l) (length-replicate (length l) x))
+      cc (replicate-append-replicate (length l) (n - length l) x, drop-at (replicate (length l) x) (replicate (n - length l) x) (length l) (length-replicate (length l) x))

@@ -1,7 +1,7 @@
 -- A decimal is read as it was written, and what is read is what is written. Assumes nothing.
 use Prim.Native.Nat.{_^_}
-use Rattle.basis.proofs.Prelude.{_∙_, _≡_, refl, sym, _%_, _*_, _+_, _-_, _/_, _<_, _≤_, suc, zero, ℕ, List, [], _∷_, true, eqb, leb, ltb, arith, eq-eqb, eqb-false, eqb-true, le-leb, le-ltb, leb-true, lt-ltb, ltb-false, ltb-true, ne-eqb, by-test}
-use Rattle.fields.{specs.Fields.{found, passed, isDigit, readDigits, readDecimal, readLength, readNumber, digitsOf, decimalOf}, proofs.{Bytes.{never, digit-is, low-not, digit-low, digit-high, ended-back}, Widths.more}}
+use Rattle.basis.proofs.Prelude.{_∙_, _≡_, refl, sym, _%_, _*_, _+_, _-_, _/_, _<_, _≤_, suc, zero, ℕ, List, [], _∷_, true, eqb, leb, ltb, arith, eq-eqb, eqb-false, eqb-true, le-leb, le-ltb, leb-true, lt-leb, lt-ltb, ltb-false, ltb-true, ne-eqb, by-test}
+use Rattle.fields.{specs.Fields.{found, passed, isDigit, readDigits, readDecimal, readLength, readNumber, digitsOf, decimalOf}, proofs.{Bytes.{never, digit-is, digit-range, ended-back}, Widths.more}}
 
 -- ---- one more digit
 pub digits-one : (k n : ℕ) (rest : List ℕ) → n < 10 → digitsOf k n rest ≡ (48 + n) ∷ rest
@@ -38,7 +38,7 @@ module _ (top : ℕ) where
   pub read-length : (k e n : ℕ) (rest : List ℕ) → e < 48 → n ≤ top → n < 10 ^ suc k → readLength top e (digitsOf k n (e ∷ rest)) ≡ found n rest
   unfolding passed readDecimal readDigits
   read-length k e zero rest h t l = rw (digits-one k 0 (e ∷ rest) (omega arith), eq-eqb e e refl)
-  read-length k e (suc n) rest h t l = rw (read-digits k (suc n) (e ∷ rest) (omega arith) t l, low-not e h, eq-eqb e e refl)
+  read-length k e (suc n) rest h t l = rw (read-digits k (suc n) (e ∷ rest) (omega arith) t l, lt-leb 48 e h, eq-eqb e e refl)
 
   -- ---- what is read is at most the limit, and is what is written
   digit-back : (v b n : ℕ) (s rest : List ℕ) → isDigit b ≡ true → readDigits top v (b ∷ s) ≡ found n rest
@@ -49,40 +49,33 @@ module _ (top : ℕ) where
   module _ (k : ℕ) where
     digits-back : (v : ℕ) (s : List ℕ) (n : ℕ) (rest : List ℕ) → v ≤ top → readDigits top v s ≡ found n rest
         → (n ≤ top) × (0 < v → top < 10 ^ suc k → digitsOf k v s ≡ digitsOf k n rest)
-    digits-back v [] n rest h e = let same : found v [] ≡ found n rest = unfold readDigits in e in let is : v ≡ n = cc in (omega arith, λ _ _. cc)
+    unfolding readDigits
+    digits-back v [] n rest h e = let is : v ≡ n = cc in (omega arith, λ _ _. cc)
     digits-back v (b ∷ s) n rest h e =
         by-test (isDigit b)
         (λ d.
         let p = digit-back v b n s rest d e in
         let w = digits-back (10 * v + (b - 48)) s n rest (p .0) (p .1) in
-        let low = digit-low b d in
-        let high = digit-high b d in
+        let digit = digit-range b d in
         let up : (10 * v + (b - 48)) / 10 ≡ v = omega arith in
         let last : 48 + (10 * v + (b - 48)) % 10 ≡ b = omega arith in
         (w .0, λ z l. sym (digits-more k (10 * v + (b - 48)) s (omega arith) (omega arith) ∙ rw (up, last)) ∙ w .1 (omega arith) l))
-        (λ d. let same : found v (b ∷ s) ≡ found n rest = unfold readDigits in (rw d at e) in let is : v ≡ n = cc in (omega arith, λ _ _. cc))
+        (λ d. let is : v ≡ n = cc in (omega arith, λ _ _. cc))
 
     decimal-back : (s : List ℕ) (n : ℕ) (rest : List ℕ) → readDecimal top s ≡ found n rest → (n ≤ top) × (top < 10 ^ suc k → s ≡ digitsOf k n rest)
     unfolding readDecimal
     decimal-back [] n rest e = absurd (never e)
     decimal-back (b ∷ s) n rest e =
         by-test (eqb b 48)
-        (λ z.
-        let here = rw z at e in
-        let same : 0 ≡ n = cc in
-        let is = eqb-true b 48 z in
-        let one = digits-one k 0 s (omega arith) in
-        (omega arith, λ l. cc))
-        (λ z.
-        by-test (isDigit b)
+        (λ z. let same : 0 ≡ n = cc in (omega arith, λ l. cc (eqb-true b 48 z, digits-one k 0 s (omega arith))))
+        (λ z. by-test (isDigit b)
         (λ d.
         let p = digit-back 0 b n s rest d (rw (z, d) at e) in
         let w = digits-back (10 * 0 + (b - 48)) s n rest (p .0) (p .1) in
-        let low = digit-low b d in
-        let high = digit-high b d in
+        let digit = digit-range b d in
         let ne = eqb-false b 48 z in
         let front : 48 + (10 * 0 + (b - 48)) ≡ b = omega arith in
-        (w .0, λ l. (rw front at (sym (digits-one k (10 * 0 + (b - 48)) s (omega arith)))) ∙ w .1 (omega arith) l))
+        (w .0, λ l. cc (digits-one k (10 * 0 + (b - 48)) s (omega arith), w .1 (omega arith) l)))
         (λ d. absurd (never (rw (z, d) at e))))
 
     pub length-back : (e : ℕ) (s : List ℕ) (n : ℕ) (rest : List ℕ) → readLength top e s ≡ found n rest → (n ≤ top) × (top < 10 ^ suc k → s ≡ digitsOf k n (e ∷ rest))
@@ -92,8 +85,5 @@ pub length-within : (top e : ℕ) (s : List ℕ) (n : ℕ) (rest : List ℕ) →
 length-within top e s n rest h = length-back top 0 e s n rest h .0
 
 -- ---- the numbers of the register text
-pub read-number : (e n : ℕ) (rest : List ℕ) → e < 48 → n ≤ 65535 → readNumber e (decimalOf n (e ∷ rest)) ≡ found n rest
-read-number e n rest h k = unfold decimalOf in read-length 65535 4 e n rest h k (omega arith)
-
 pub write-number : (e : ℕ) (s : List ℕ) (n : ℕ) (rest : List ℕ) → readNumber e s ≡ found n rest → (n ≤ 65535) × (s ≡ decimalOf n (e ∷ rest))
 write-number e s n rest h = unfold decimalOf in let w = length-back 65535 4 e s n rest h in (w .0, w .1 (omega arith))

@@ -1,6 +1,6 @@
 -- What a reader of decimals finds at a place of a text, as its tests say. Assumes nothing.
 use Rattle.basis.proofs.Prelude.{_∙_, _≡_, sym, _*_, _+_, _-_, _/_, _<_, _≤_, ℕ, List, Bool, false, not, true, drop, getD, length, arith, eq-eqb, le-leb, lt-leb, ne-eqb, not-false, not-true}
-use Rattle.fields.{specs.Fields.{Found, found, unreadable, isDigit, readDigits, readDecimal}, proofs.{Bytes.{digit-low, digit-high}, Places.{here, past-end}}}
+use Rattle.fields.{specs.{declared.Length.{Length, the-variants.Malformed}, Fields.{Found, found, unreadable, onward, passed, isDigit, readDigits, readDecimal, readLength}, Answers.{lengthAt, lengthOf, Reads}}, proofs.{Bytes.digit-range, Places.{here, past-end}}}
 
 -- the digits from the place i on, v read so far: x is what was to be read
 module _ (s : List ℕ) (i top v : ℕ) (x : Found ℕ) (e : x ≡ readDigits top v (drop i s)) where
@@ -26,22 +26,24 @@ module _ (s : List ℕ) (i top v : ℕ) (x : Found ℕ) (e : x ≡ readDigits to
 
 module _ (b : ℕ) (d : Bool) (is : d ≡ isDigit b) (n : not d ≡ false) where
   pub digit-from : 48 ≤ b
-  digit-from = digit-low b (sym is ∙ not-false d n)
+  digit-from = digit-range b (sym is ∙ not-false d n) .0
 
   pub digit-fits : b - 48 < 18446744073709551616
-  digit-fits = omega (arith, digit-high b (sym is ∙ not-false d n))
+  digit-fits = omega (arith, digit-range b (sym is ∙ not-false d n))
 
-module _ (s : List ℕ) (i top : ℕ) where
-  pub decimal-past : length s ≤ i → unreadable ≡ readDecimal top (drop i s)
-  decimal-past h = unfold readDecimal in rw (past-end s i h)
+-- a decimal at the place i, which the byte `end` is to follow
+module _ (s : List ℕ) (i top end : ℕ) where
+  pub decimal-past : length s ≤ i → Reads lengthAt lengthOf s Malformed (readLength top end (drop i s))
+  decimal-past h = unfold readDecimal in rw (past-end s i h) (search)
 
   module _ (h : i < length s) where
-    pub decimal-zero : getD s i 0 ≡ 48 → found 0 (drop (i + 1) s) ≡ readDecimal top (drop i s)
-    decimal-zero z = unfold readDecimal in rw (here s i h, eq-eqb (getD s i 0) 48 z)
+    pub decimal-zero : getD s i 0 ≡ 48 → (r : Length) → Reads lengthAt lengthOf s r (passed end 0 (drop (i + 1) s)) → Reads lengthAt lengthOf s r (readLength top end (drop i s))
+    decimal-zero z r p = unfold readDecimal in rw (here s i h, eq-eqb (getD s i 0) 48 z) p
 
     module _ (z : getD s i 0 ≡ 48 → ⊥) (d : Bool) (is : d ≡ isDigit (getD s i 0)) where
-      pub decimal-none : not d ≡ true → unreadable ≡ readDecimal top (drop i s)
-      decimal-none n = unfold readDecimal in rw (here s i h, ne-eqb (getD s i 0) 48 z, sym is ∙ not-true d n)
+      pub decimal-none : not d ≡ true → Reads lengthAt lengthOf s Malformed (readLength top end (drop i s))
+      decimal-none n = unfold readDecimal in rw (here s i h, ne-eqb (getD s i 0) 48 z, sym is ∙ not-true d n) (search)
 
-      pub decimal-digits : not d ≡ false → (x : Found ℕ) → x ≡ readDigits top 0 (drop i s) → x ≡ readDecimal top (drop i s)
-      decimal-digits n x e = unfold readDecimal in e ∙ rw (here s i h, ne-eqb (getD s i 0) 48 z, sym is ∙ not-false d n)
+      pub decimal-digits : not d ≡ false → (v r : Length) → lengthOf s v ≡ readDigits top 0 (drop i s) → Reads lengthAt lengthOf s r (onward (lengthOf s v) (passed end))
+          → Reads lengthAt lengthOf s r (readLength top end (drop i s))
+      decimal-digits n v r e p = unfold readDecimal in rw (here s i h, ne-eqb (getD s i 0) 48 z, sym is ∙ not-false d n, ← here s i h, ← e) p

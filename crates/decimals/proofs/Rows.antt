@@ -1,6 +1,6 @@
 -- Decimals parted by tabs, put into a list from the last to the first. Assumes nothing.
 use Rattle.basis.proofs.Prelude.{_∙_, _≡_, _*_, _-_, _/_, _<_, _≤_, suc, ℕ, List, _∷_, drop, getD, length, length-drop, drop-cons, drop-length, arith}
-use Rattle.fields.{specs.{Fields.{numberText, endBefore, numbersText}, Answers.Puts}, proofs.{Puts.{Put, put-none, put-on, put-place, number-put, puts-room}, Widths.decimal-wide}}
+use Rattle.fields.{specs.{Fields.{numberText, endBefore, numbersText}, Answers.Puts}, proofs.{Puts.{Put, put-none, put-on, put-place, field-put, puts-room}, Widths.{decimal-wide, number-width}}}
 
 -- the decimals from i on stand in front of what stood from `at` on, in at most six places each
 pub record Rest (ns entry : List ℕ) (at : ℕ) (buf : List ℕ) (place i : ℕ) : Type 0 where
@@ -23,7 +23,7 @@ module _ (ns entry : List ℕ) (at : ℕ) (h : length ns ≤ at / 6) (k : at ≤
   rest-one buf exit place i r e g l is p =
       let up : suc (i - 1) ≡ i = omega arith in
       let in-buf : place ≤ length buf = omega (arith, g .put .sized, g .put .inside) in
-      let q = number-put in-buf (getD ns (i - 1) 0) e (omega (arith, g .roomy)) p in
+      let q = field-put 6 (numberText (getD ns (i - 1) 0) e) (number-width (getD ns (i - 1) 0) e) (omega (arith, g .roomy)) in-buf p in
       let text : numbersText (drop (i - 1) ns) (drop at entry) ≡ numberText (getD ns (i - 1) 0) e (drop place buf)
       = one-text (i - 1) (omega (arith, g .upto)) ∙ rw (up, g .put .written, is) in
       let wide = decimal-wide (getD ns (i - 1) 0) (e ∷ drop place buf) in

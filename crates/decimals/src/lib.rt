@@ -1,9 +1,10 @@
 // The decimals of a text, each ended by a byte: reading them at a place of a text, and writing them before a place of a list.
 ghost use mathlib.Core.Path.{_≡_};
-ghost use Prim.Native.Nat.{_*_, _≤_};
+ghost use Prim.Native.Nat.{suc, _+_, _*_, _^_, _<_, _≤_};
 ghost use lib.ListN.{length, drop};
-ghost use Rattle.fields.specs.Fields.{readDigits, readDecimal, readLength, readNumber, numberText, wideText, endBefore, numbersText};
+ghost use Rattle.fields.specs.Fields.{readDigits, readLength, readNumber, numberText, wideText, endBefore, numbersText};
 ghost use Rattle.fields.specs.Answers.{fieldAt, fieldOf, lengthAt, lengthOf, Reads, Puts};
+ghost use Rattle.decimals.specs.Contracts.{digitsText};
 use fields::Field;
 use fields::Length;
 
@@ -39,28 +40,21 @@ fn read_digits(text: &[u8], start: usize, limit: u64) -> Length
     Length::Value(v, i)
 }
 
-// A decimal at `at`.
-fn read_decimal(text: &[u8], at: usize, limit: u64) -> Length
-    ensures { λ r. ⌜ lengthOf (now (text .entry)) r ≡ readDecimal limit (drop at (now (text .entry))) ⌝ }
+// A decimal up to a limit at `at` and the byte that ends it.
+pub fn read_length(text: &[u8], at: usize, end: u8, limit: u64) -> Length
+    ensures { λ r. ⌜ Reads lengthAt lengthOf (now (text .entry)) r (readLength limit end (drop at (now (text .entry)))) ⌝ }
 {
     if text.len() <= at {
         return Length::Malformed;
     }
     let b = text[at];
     if b == ZERO {
-        return Length::Value(0, at + 1);
+        return field_bytes::read_end(text, Length::Value(0, at + 1), end);
     }
     if !field_bytes::is_digit(b) {
         return Length::Malformed;
     }
-    read_digits(text, at, limit)
-}
-
-// A decimal up to a limit at `at` and the byte that ends it.
-pub fn read_length(text: &[u8], at: usize, end: u8, limit: u64) -> Length
-    ensures { λ r. ⌜ Reads lengthAt lengthOf (now (text .entry)) r (readLength limit end (drop at (now (text .entry)))) ⌝ }
-{
-    let value = read_decimal(text, at, limit);
+    let value = read_digits(text, at, limit);
     field_bytes::read_end(text, value, end)
 }
 
@@ -74,11 +68,18 @@ pub fn read_number(text: &[u8], at: usize, end: u8) -> Field
     Field::Value(v as u16, i)
 }
 
-// The decimal of n and the byte that ends it, before the place `at`: the place where it begins.
-fn put_decimal(buf: &mut [u8], at: usize, n: u64, end: u8) -> usize
-    requires { ⌜ (at ≤ length (now buf)) × (length (wideText n end (drop at (now buf))) ≤ length (now buf)) ⌝ }
-    ensures { λ r. ⌜ Puts 0 (wideText n end) (now (buf .entry)) at r (now (buf .exit)) ⌝ }
+// The decimal of n, which has at most so many digits after its first, and the byte that ends it, before the place `at`: the place where it
+// begins. Two places more than those digits are asked for before `at`, and nothing is written where they are not there.
+fn put_decimal(buf: &mut [u8], at: usize, n: u64, end: u8, after: usize) -> usize
+    requires { ⌜ (after ≤ 19) × (n < 10 ^ suc after) ⌝ }
+    ensures { λ r. ⌜ Puts (after + 2) (digitsText after n end) (now (buf .entry)) at r (now (buf .exit)) ⌝ }
 {
+    if at < after + 2 {
+        return at;
+    }
+    if buf.len() < at {
+        return at;
+    }
     let mut i = at - 1;
     buf[i] = end;
     let mut v = n;
@@ -92,30 +93,18 @@ fn put_decimal(buf: &mut [u8], at: usize, n: u64, end: u8) -> usize
     i
 }
 
-// The same of a number of 16 bits. Six places before `at` are asked for, and nothing is written where they are not there.
+// The same of a number of 16 bits, for which six places are asked for.
 pub fn put_number(buf: &mut [u8], at: usize, n: u16, end: u8) -> usize
     ensures { λ r. ⌜ Puts 6 (numberText n end) (now (buf .entry)) at r (now (buf .exit)) ⌝ }
 {
-    if at < 6 {
-        return at;
-    }
-    if buf.len() < at {
-        return at;
-    }
-    put_decimal(buf, at, n as u64, end)
+    put_decimal(buf, at, n as u64, end, 4)
 }
 
 // The same of a number of up to 64 bits, for which 21 places are asked for.
 pub fn put_wide(buf: &mut [u8], at: usize, n: u64, end: u8) -> usize
     ensures { λ r. ⌜ Puts 21 (wideText n end) (now (buf .entry)) at r (now (buf .exit)) ⌝ }
 {
-    if at < 21 {
-        return at;
-    }
-    if buf.len() < at {
-        return at;
-    }
-    put_decimal(buf, at, n, end)
+    put_decimal(buf, at, n, end, 19)
 }
 
 // The byte after a decimal that so many others follow: a tab, or LF after the last.

@@ -13,10 +13,7 @@ const NINE: u8 = 57;
 pub fn is_digit(b: u8) -> bool
     ensures { λ r. ⌜ r ≡ isDigit b ⌝ }
 {
-    if b < ZERO {
-        return false;
-    }
-    b <= NINE
+    (b >= ZERO) & (b <= NINE)
 }
 
 // Whether the byte b stands at `at`.

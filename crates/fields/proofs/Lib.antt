@@ -2,5 +2,4 @@ pub mod Bytes
 pub mod Widths
 pub mod Places
 pub mod Puts
-pub mod Claims
 pub mod Cases

@@ -24,27 +24,17 @@ module _ (s : List ℕ) (i : ℕ) where
 -- after a value, as the test of the byte says
 module _ (s : List ℕ) (v i e : ℕ) (x : Length) (is : x ≡ LengthValue v i) (b : Bool) (t : b ≡ isAt s i e) where
   pub end-not : not b ≡ true → Reads lengthAt lengthOf s LengthMalformed (onward (lengthOf s x) (passed e))
-  end-not n = let p = passed-not s i e v (sym t ∙ not-true b n) in record { answer = cc; says = cc }
+  end-not n = rw (is, passed-not s i e v (sym t ∙ not-true b n)) (search)
 
   pub end-at : not b ≡ false → Reads lengthAt lengthOf s (LengthValue v (i + 1)) (onward (lengthOf s x) (passed e))
   end-at n =
       let h = sym t ∙ not-false b n in
-      let p = passed-at s i e v h in
       let same : i + 1 ≡ placeOf s (drop (i + 1) s) = omega (arith, at-inside s i e h, length-drop (i + 1) s) in
-      record { answer = cc; says = cc }
+      rw (is, passed-at s i e v h) (search)
 
 -- ---- what is found, by an answer that is known
 pub said : {R A : Type 0} {At : List ℕ → Found A → R} {Of : List ℕ → R → Found A} {text : List ℕ} {r x : R} {f : Found A} → Reads At Of text r f → r ≡ x → f ≡ Of text x
 said p e = cc
-
--- the next place of a value is that of the rest
-pub field-next : {text : List ℕ} {r : Field} {f : Found ℕ} {v next : ℕ} → Reads fieldAt fieldOf text r f → r ≡ FieldValue v next
-    → next ≡ placeOf text (drop next text)
-field-next p e = cc
-
-pub length-next : {text : List ℕ} {r : Length} {f : Found ℕ} {v next : ℕ} → Reads lengthAt lengthOf text r f → r ≡ LengthValue v next
-    → next ≡ placeOf text (drop next text)
-length-next p e = cc
 
 -- what was read as a length, as a number
 pub none-narrowed : {text : List ℕ} {r : Length} {f : Found ℕ} → Reads lengthAt lengthOf text r f → r ≡ LengthMalformed → Reads fieldAt fieldOf text FieldMalformed f

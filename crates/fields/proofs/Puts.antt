@@ -1,7 +1,6 @@
 -- A text that is put into a list before a place, byte by byte from its end to its front. Assumes nothing.
 use Rattle.basis.proofs.Prelude.{_∙_, _≡_, ap, _+_, _-_, _<_, _≤_, suc, ℕ, List, _++_, _∷_, drop, length, length-append, length-drop, length-set, set, take, take-append-drop, drop-at, length-take-le, set-split, take-at, take-set-le, take-take, arith, le-leb, lt-leb}
-use Rattle.fields.specs.{Fields.{byteText, numberText, bitsText}, Answers.Puts}
-use Rattle.fields.proofs.Widths.{decimal-width, hex-width}
+use Rattle.fields.specs.Answers.{Puts}
 
 -- a list with its places before r as they were and the text from r on
 pub record Put (entry exit : List ℕ) (r : ℕ) (text : List ℕ) : Type 0 where
@@ -13,10 +12,6 @@ pub record Put (entry exit : List ℕ) (r : ℕ) (text : List ℕ) : Type 0 wher
 -- nothing is put yet
 pub put-none : (l : List ℕ) (i : ℕ) → i ≤ length l → Put l l i (drop i l)
 put-none l i h = search
-
--- whatever was put is what stands there
-pub put-here : {entry exit : List ℕ} {r : ℕ} {text : List ℕ} → Put entry exit r text → Put entry exit r (drop r exit)
-put-here p = search
 
 -- so many places are taken
 pub put-place : {entry exit : List ℕ} {r : ℕ} {text : List ℕ} → Put entry exit r text → r + length text ≡ length entry
@@ -56,14 +51,6 @@ puts-before room text entry at h = search (lt-leb room at h)
 pub puts-past : (room : ℕ) (text : List ℕ → List ℕ) (entry : List ℕ) (at : ℕ) → room ≤ at → length entry < at → Puts room text entry at at entry
 puts-past room text entry at h k = search (le-leb room at h, lt-leb at (length entry) k)
 
-pub puts-one : (b : ℕ) (l : List ℕ) (at : ℕ) → 1 ≤ at → at ≤ length l → Puts 1 (byteText b) l at (at - 1) (set l (at - 1) b)
-puts-one b l at h k = puts-room 1 (byteText b) h k (put-end b at l h k)
-
--- one that is put where no room is asked for, and what it stands for
-pub puts-as : {entry exit : List ℕ} {at r : ℕ} (room : ℕ) (text text′ : List ℕ → List ℕ) → room ≤ at
-    → text (drop at entry) ≡ text′ (drop at entry) → Puts 0 text entry at r exit → Puts room text′ entry at r exit
-puts-as {at = at} room text text′ h e p = search (le-leb 0 at (omega arith), le-leb room at h)
-
 -- what a caller that has the room gets
 pub room-puts : {entry exit : List ℕ} {at r : ℕ} (room : ℕ) (text : List ℕ → List ℕ) → room ≤ at → at ≤ length entry
     → length (text (drop at entry)) ≤ room + length (drop at entry) → Puts room text entry at r exit → Put entry exit r (text (drop at entry))
@@ -76,20 +63,9 @@ room-puts {entry} {exit} {at} {r} room text h k w p =
     let rest = length-drop at entry in
     search (arith, take-at (take r entry) t r long, drop-at (take r entry) t r long)
 
-module _ {entry exit : List ℕ} {at r : ℕ} (k : at ≤ length entry) where
-  pub byte-put : (b : ℕ) → 1 ≤ at → Puts 1 (byteText b) entry at r exit → Put entry exit r (byteText b (drop at entry)) × (at ≡ r + 1)
-  byte-put b h p =
-      let q = room-puts 1 (byteText b) h k (omega arith) p in
-      (q, omega (arith, put-place q, length-drop at entry))
-
-  pub number-put : (n e : ℕ) → 6 ≤ at → Puts 6 (numberText n e) entry at r exit → Put entry exit r (numberText n e (drop at entry)) × (at ≤ r + 6)
-  number-put n e h p =
-      let w = decimal-width n (e ∷ drop at entry) in
-      let q = room-puts 6 (numberText n e) h k (omega arith) p in
-      (q, omega (arith, put-place q, length-drop at entry))
-
-  pub bits-put : (n e : ℕ) → 9 ≤ at → Puts 9 (bitsText n e) entry at r exit → Put entry exit r (bitsText n e (drop at entry)) × (at ≡ r + 9)
-  bits-put n e h p =
-      let w = hex-width 8 n (e ∷ drop at entry) in
-      let q = room-puts 9 (bitsText n e) h k (omega arith) p in
-      (q, omega (arith, put-place q, length-drop at entry))
+-- and so many places are taken at most
+pub field-put : {entry exit : List ℕ} {at r : ℕ} (room : ℕ) (text : List ℕ → List ℕ) → ((rest : List ℕ) → length (text rest) ≤ room + length rest)
+    → room ≤ at → at ≤ length entry → Puts room text entry at r exit → Put entry exit r (text (drop at entry)) × (at ≤ r + room)
+field-put {entry} {at = at} room text w h k p =
+    let q = room-puts room text h k (w (drop at entry)) p in
+    (q, omega (arith, put-place q, length-drop at entry, w (drop at entry)))

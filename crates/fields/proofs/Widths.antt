@@ -1,22 +1,13 @@
 -- How long a written field is. Assumes nothing.
 use Prim.Native.Nat.{_^_}
-use native.Mathlib.Nat.{pow-le-pow-right}
-use Rattle.basis.proofs.Prelude.{_∙_, _≡_, ap, _%_, _*_, _+_, _/_, _<_, _≤_, suc, zero, ℕ, List, [], _∷_, cond, ltb, length, arith, lt-ltb, by-cases}
-use Rattle.fields.specs.Fields.{digitsOf, decimalOf, endBefore, numbersText, hexDigit, hexOf}
+use Rattle.basis.proofs.Prelude.{_≡_, ap, _%_, _*_, _+_, _/_, _<_, _≤_, suc, zero, ℕ, List, [], _∷_, cond, ltb, length, arith, lt-ltb, by-cases}
+use Rattle.fields.specs.Fields.{digitsOf, decimalOf, numberText, wideText, endBefore, numbersText, hexDigit, hexOf, bitsText}
 
 -- ---- a number below 10, 100, ..: one place more than needed changes nothing
 pub more : (k n : ℕ) (rest : List ℕ) → n < 10 ^ suc k → digitsOf (suc k) n rest ≡ digitsOf k n rest
 unfolding digitsOf
 more zero n rest h = rw (lt-ltb n 10 h)
 more (suc k) n rest h = ap (cond (ltb n 10) ((48 + n) ∷ rest)) (more k (n / 10) ((48 + n % 10) ∷ rest) (omega arith))
-
--- and so do many
-pub more-by : (j k n : ℕ) (rest : List ℕ) → n < 10 ^ suc k → digitsOf (k + j) n rest ≡ digitsOf k n rest
-more-by zero k n rest h = let none : k + 0 ≡ k = omega arith in rw none
-more-by (suc j) k n rest h =
-    let turn : k + suc j ≡ suc (k + j) = omega arith in
-    let up = pow-le-pow-right {n = 10} (omega arith) {i = suc k} {j = suc (k + j)} (omega arith) in
-    rw turn (more (k + j) n rest (omega arith) ∙ more-by j k n rest h)
 
 -- ---- widths
 pub digits-width : (k n : ℕ) (rest : List ℕ) → (1 + length rest ≤ length (digitsOf k n rest)) × (length (digitsOf k n rest) ≤ suc k + length rest)
@@ -32,6 +23,13 @@ decimal-wide n rest = unfold decimalOf in digits-width 4 n rest .0
 
 pub decimal-width : (n : ℕ) (rest : List ℕ) → length (decimalOf n rest) ≤ 5 + length rest
 decimal-width n rest = unfold decimalOf in digits-width 4 n rest .1
+
+-- with the byte that ends it, so many places are taken as its writer asks for
+pub number-width : (n e : ℕ) (rest : List ℕ) → length (numberText n e rest) ≤ 6 + length rest
+number-width n e rest = omega (arith, decimal-width n (e ∷ rest))
+
+pub wide-width : (n e : ℕ) (rest : List ℕ) → length (wideText n e rest) ≤ 21 + length rest
+wide-width n e rest = omega (arith, digits-width 19 n (e ∷ rest) .1)
 
 pub short-width : (n : ℕ) (rest : List ℕ) → n < 10000 → length (decimalOf n rest) ≤ 4 + length rest
 short-width n rest h = unfold decimalOf in rw (more 3 n rest h) (digits-width 3 n rest .1)
@@ -51,3 +49,6 @@ pub hex-width : (k n : ℕ) (rest : List ℕ) → length (hexOf k n rest) ≡ k 
 unfolding hexOf
 hex-width zero n rest = omega arith
 hex-width (suc k) n rest = let h = hex-width k (n / 16) (hexDigit (n % 16) ∷ rest) in omega arith
+
+pub bits-width : (n e : ℕ) (rest : List ℕ) → length (bitsText n e rest) ≤ 9 + length rest
+bits-width n e rest = omega (arith, hex-width 8 n (e ∷ rest))

@@ -1,36 +1,27 @@
 -- Hex digits are read as they were written, and what is read is what is written: k digits are those of a number below 16 ^ k. Assumes nothing.
 use Prim.Native.Nat.{_^_}
 use native.Mathlib.Nat.{pow-le-pow-right}
-use Rattle.basis.proofs.Prelude.{_∙_, _≡_, refl, sym, _%_, _*_, _+_, _-_, _/_, _<_, _≤_, suc, zero, ℕ, List, [], _∷_, _&&_, leb, ltb, add-one, arith, eq-eqb, le-leb, le-ltb, leb-true, lt-leb, lt-ltb, ltb-false, ltb-true, both, by-test}
-use Rattle.fields.{specs.Fields.{found, passed, isDigit, hexDigit, hexOf, hexValue, readHex, readBits}, proofs.Bytes.{never, digit-is, digit-low, digit-high, ended-back}}
+use Rattle.basis.proofs.Prelude.{_∙_, _≡_, sym, _%_, _*_, _+_, _-_, _/_, _<_, _≤_, suc, zero, ℕ, List, [], _∷_, _&&_, true, leb, ltb, add-one, zero-add, arith, le-leb, le-ltb, leb-true, lt-leb, lt-ltb, ltb-false, ltb-true, both, by-test}
+use Rattle.fields.{specs.Fields.{found, isDigit, hexDigit, hexOf, hexValue, readHex, readBits}, proofs.Bytes.{never, digit-is, digit-range, ended-back}}
 
 -- ---- one digit
+pub letter-from : (b : ℕ) → leb 65 b && leb b 70 ≡ true → 65 ≤ b
+letter-from b m = leb-true 65 b (both (leb 65 b) (leb b 70) m .0)
+
 value-digit : (d : ℕ) → d < 16 → hexValue (hexDigit d) ≡ d
 unfolding hexValue hexDigit
 value-digit d h = by-test (ltb d 10)
-    (λ t.
-    let l = ltb-true d 10 t in
-    let back : 48 + d - 48 ≡ d = omega arith in
-    rw (t, digit-is (48 + d) (omega arith) (omega arith), back))
-    (λ t.
-    let l = ltb-false d 10 t in
-    let back : 55 + d - 55 ≡ d = omega arith in
-    rw (t, le-leb 48 (55 + d) (omega arith), lt-leb (55 + d) 57 (omega arith), le-leb 65 (55 + d) (omega arith), le-leb (55 + d) 70 (omega arith), back))
+    (λ t. let l = ltb-true d 10 t in rw (t, digit-is (48 + d) (omega arith) (omega arith)) (omega arith))
+    (λ t. let l = ltb-false d 10 t in
+    rw (t, le-leb 48 (55 + d) (omega arith), lt-leb (55 + d) 57 (omega arith), le-leb 65 (55 + d) (omega arith), le-leb (55 + d) 70 (omega arith)) (omega arith))
 
 digit-value : (b : ℕ) → hexValue b < 16 → hexDigit (hexValue b) ≡ b
 unfolding hexValue hexDigit
 digit-value b h = by-test (isDigit b)
-    (λ d.
-    let l = digit-low b d in
-    let k = digit-high b d in
-    let back : 48 + (b - 48) ≡ b = omega arith in
-    rw (d, lt-ltb (b - 48) 10 (omega arith), back))
+    (λ d. let r = digit-range b d in rw (d, lt-ltb (b - 48) 10 (omega arith)) (omega arith))
     (λ d. by-test (leb 65 b && leb b 70)
-    (λ m.
-    let l = leb-true 65 b (both (leb 65 b) (leb b 70) m .0) in
-    let back : 55 + (b - 55) ≡ b = omega arith in
-    rw (d, m, le-ltb (b - 55) 10 (omega arith), back))
-    (λ m. let no : 16 < 16 = rw (d, m) at h in absurd (omega arith)))
+    (λ m. let l = letter-from b m in rw (d, m, le-ltb (b - 55) 10 (omega arith)) (omega arith))
+    (λ m. absurd (omega (arith, rw (d, m) at h))))
 
 -- ---- the digits
 -- one digit more than k, of at most 16, fits
@@ -45,29 +36,21 @@ module _ (digits k v d : ℕ) (few : digits ≤ 16) (h : k < digits) (l : v < 16
   digit-limit = rw add-one (omega arith)
 
 -- reading the k digits of n, and j more, is having read n
-read-hex : (k j n : ℕ) (rest : List ℕ) → n < 16 ^ k → readHex (k + j) 0 (hexOf k n rest) ≡ readHex j n rest
+pub read-hex : (k j n : ℕ) (rest : List ℕ) → n < 16 ^ k → readHex (k + j) 0 (hexOf k n rest) ≡ readHex j n rest
 unfolding hexOf readHex
-read-hex zero j n rest h =
-    let none : n ≡ 0 = omega arith in
-    let same : 0 + j ≡ j = omega arith in
-    rw (none, same)
+read-hex zero j n rest h = let none : n ≡ 0 = omega arith in rw (none, zero-add)
 read-hex (suc k) j n rest h =
     let turn : suc k + j ≡ k + suc j = omega arith in
-    let value = value-digit (n % 16) (omega arith) in
     let back : 16 * (n / 16) + n % 16 ≡ n = omega arith in
-    rw (turn, read-hex k (suc j) (n / 16) (hexDigit (n % 16) ∷ rest) (omega arith), value, lt-ltb (n % 16) 16 (omega arith), back)
-
-pub read-bits : (e n : ℕ) (rest : List ℕ) → n < 4294967296 → readBits e (hexOf 8 n (e ∷ rest)) ≡ found n rest
-read-bits e n rest h = unfold passed readHex in rw (read-hex 8 0 n (e ∷ rest) h, eq-eqb e e refl)
+    rw (turn, read-hex k (suc j) (n / 16) (hexDigit (n % 16) ∷ rest) (omega arith), value-digit (n % 16) (omega arith), lt-ltb (n % 16) 16 (omega arith), back)
 
 -- what j digits add to the k that were read
 write-hex : (j k v : ℕ) (s : List ℕ) (n : ℕ) (rest : List ℕ) → v < 16 ^ k → readHex j v s ≡ found n rest → (n < 16 ^ (k + j)) × (hexOf k v s ≡ hexOf (k + j) n rest)
 unfolding readHex hexOf
 write-hex zero k v s n rest h e =
     let same : v ≡ n = cc in
-    let ends : s ≡ rest = cc in
     let more : k + 0 ≡ k = omega arith in
-    (rw (more, ← same) h, rw (more, same, ends))
+    (rw more (omega arith), cc)
 write-hex (suc j) k v [] n rest h e = absurd (never e)
 write-hex (suc j) k v (b ∷ s) n rest h e = by-test (ltb (hexValue b) 16)
     (λ t.

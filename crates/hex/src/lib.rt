@@ -3,7 +3,7 @@
 ghost use mathlib.Core.Path.{_≡_};
 ghost use Prim.Native.Nat.{_<_, _≤_};
 ghost use lib.ListN.{drop};
-ghost use Rattle.fields.specs.Fields.{hexValue, readHex, readBits, readMask, hexDigit, bitsText};
+ghost use Rattle.fields.specs.Fields.{onward, passed, hexValue, readHex, readBits, readMask, hexDigit, bitsText};
 ghost use Rattle.fields.specs.Answers.{lengthAt, lengthOf, Reads, Puts};
 use fields::Length;
 
@@ -21,19 +21,16 @@ fn hex_value(b: u8) -> u64
     if field_bytes::is_digit(b) {
         return (b - ZERO) as u64;
     }
-    if b < LETTER_A {
-        return 16;
+    if (b >= LETTER_A) & (b <= LETTER_F) {
+        return (b - LETTER_A) as u64 + 10;
     }
-    if b > LETTER_F {
-        return 16;
-    }
-    (b - LETTER_A) as u64 + 10
+    16
 }
 
-// So many hex digits at `start`, highest first: at most 16, which 64 bits hold.
-fn read_hex(text: &[u8], start: usize, digits: usize) -> Length
+// So many hex digits at `start`, highest first, and the byte that ends them: at most 16, which 64 bits hold.
+fn read_hex(text: &[u8], start: usize, digits: usize, end: u8) -> Length
     requires { ⌜ digits ≤ 16 ⌝ }
-    ensures { λ r. ⌜ lengthOf (now (text .entry)) r ≡ readHex digits 0 (drop start (now (text .entry))) ⌝ }
+    ensures { λ r. ⌜ Reads lengthAt lengthOf (now (text .entry)) r (onward (readHex digits 0 (drop start (now (text .entry)))) (passed end)) ⌝ }
 {
     let mut v: u64 = 0;
     let mut i = start;
@@ -51,23 +48,21 @@ fn read_hex(text: &[u8], start: usize, digits: usize) -> Length
         i += 1;
         k += 1;
     }
-    Length::Value(v, i)
+    field_bytes::read_end(text, Length::Value(v, i), end)
 }
 
 // The eight hex digits of 32 bits at `at` and the byte that ends them.
 pub fn read_bits(text: &[u8], at: usize, end: u8) -> Length
     ensures { λ r. ⌜ Reads lengthAt lengthOf (now (text .entry)) r (readBits end (drop at (now (text .entry)))) ⌝ }
 {
-    let value = read_hex(text, at, 8);
-    field_bytes::read_end(text, value, end)
+    read_hex(text, at, 8, end)
 }
 
 // The sixteen hex digits of a mask of 64 bits at `at` and the byte that ends them.
 pub fn read_mask(text: &[u8], at: usize, end: u8) -> Length
     ensures { λ r. ⌜ Reads lengthAt lengthOf (now (text .entry)) r (readMask end (drop at (now (text .entry)))) ⌝ }
 {
-    let value = read_hex(text, at, 16);
-    field_bytes::read_end(text, value, end)
+    read_hex(text, at, 16, end)
 }
 
 fn hex_digit(d: u32) -> u8

@@ -1,12 +1,13 @@
 -- What the register text is for: the round trip of reading and writing, and the length of a text. Assumes nothing.
-use Rattle.basis.proofs.Prelude.{_≡_, _≤_, ℕ, List, length}
+use Rattle.basis.proofs.Prelude.{_≡_, _≤_, ℕ, List, [], length, arith, le-leb}
 use Rattle.spell.specs.{declared.Spell.Spell, Listing.Good}
 use Rattle.register.specs.Text.{writeAll, readText, good}
-use Rattle.register.proofs.{Texts.{read-written, written-read, written-width}}
+use Rattle.register.proofs.{Texts.{read-lines, written-read, written-width}}
 
 -- every good list is read back from its text
 pub list-again : (l : List Spell) → Good l → readText (writeAll l) ≡ good l
-list-again = read-written
+list-again l g = unfold readText in
+    rw (le-leb (length (writeAll l)) 65536 (omega (arith, written-width l g))) (read-lines l [] 1024 (g .each) (g .in-order) (g .unique) (g .few))
 
 -- every accepted text is its list's text, byte for byte, and its list is good
 pub text-again : (t : List ℕ) (l : List Spell) → readText t ≡ good l → (writeAll l ≡ t) × Good l

@@ -1,29 +1,29 @@
 -- A line is read as it was written, and what is read is what is written. Assumes nothing.
-use Rattle.basis.proofs.Prelude.{_∙_, _≡_, ap, refl, subst, ℕ, List, [], _∷_, false, not, true, eqb, leb, arith, eqb-true, leb-true, both, by-test, clash}
+use Rattle.basis.proofs.Prelude.{_∙_, _≡_, refl, ℕ, List, [], _∷_, false, not, true, eqb, leb, arith, eqb-true, leb-true, both, by-test}
 use lib.Ieee.{binary32, isNan, toBits, ofBits, Bits.{ofBits-toBits, toBits-ofBits, ofBits-fits}}
 use Rattle.spell.{specs.{declared.{Urgency.{Urgency, the-variants.{Grade, Reading}}, Spell.Spell}, Entry.{refusalOf, urgencyOk}, Listing.{HeldUrgency, Sound}}, proofs.Entered.entered}
 use Rattle.fields.{specs.Fields.{Found, found, unreadable, onward, passed, readNumber, readBits}, proofs.Bytes.{never, ended-back}}
 use Rattle.register.specs.Text.{readLetter, readValue, readUrgency, readLine, urgencyText, lineText}
-use Rattle.decimals.proofs.Decimals.{read-number, write-number}
-use Rattle.hex.proofs.Hex.{read-bits, write-bits}
+use Rattle.decimals.proofs.{Claims.number-read, Decimals.write-number}
+use Rattle.hex.proofs.{Claims.bits-read, Hex.write-bits}
 
 -- ---- what is written is read
 read-urgency : (u : Urgency) (rest : List ℕ) → HeldUrgency u → urgencyOk u ≡ true → readUrgency (urgencyText u rest) ≡ found u rest
 unfolding readUrgency readLetter readValue passed
-read-urgency (Grade g) rest h e = let small = leb-true g 4 (both (leb 1 g) (leb g 4) e .1) in rw (read-number 10 g rest (omega arith) (omega arith))
+read-urgency (Grade g) rest h e = let small = leb-true g 4 (both (leb 1 g) (leb g 4) e .1) in rw (number-read 10 g rest (omega arith) (omega arith))
 read-urgency (Reading x) rest h e =
     let small = leb-true (toBits binary32 x) 0x447A_0000 (both (not (isNan x)) (leb (toBits binary32 x) 0x447A_0000) e .1) in
-    rw (read-bits 10 (toBits binary32 x) rest (omega arith), ofBits-toBits binary32 x h)
+    rw (bits-read 10 (toBits binary32 x) rest (omega arith), ofBits-toBits binary32 x h)
 
 pub read-line : (s : Spell) (rest : List ℕ) → Sound s → readLine (lineText s rest) ≡ found s rest
 unfolding readLine lineText
 read-line s rest g =
     let e = entered s (g .entered) in
     rw (
-      read-number 9 (s .number) _ (omega arith) (g .numbered),
-      read-number 9 (s .candidate) _ (omega arith) (g .named),
-      read-number 9 (s .first) _ (omega arith) (omega arith),
-      read-number 9 (s .last) _ (omega arith) (omega arith),
+      number-read 9 (s .number) _ (omega arith) (g .numbered),
+      number-read 9 (s .candidate) _ (omega arith) (g .named),
+      number-read 9 (s .first) _ (omega arith) (omega arith),
+      number-read 9 (s .last) _ (omega arith) (omega arith),
       read-urgency (s .urgency) rest (g .held) (e .urgent),
     )
 
@@ -48,9 +48,9 @@ unfolding readLetter
 write-letter [] l rest e = absurd (never e)
 write-letter (b ∷ s) l rest e =
     by-test (eqb b 71)
-    (λ g. let p = ended-back 9 (found b s) l rest (rw g at e) in let is : b ≡ l = cc in (cc, λ n. absurd (clash (rw is at g) n)))
+    (λ g. let p = ended-back 9 (found b s) l rest (rw g at e) in (cc, λ n. cc))
     (λ g. by-test (eqb b 67)
-    (λ k. let p = ended-back 9 (found b s) l rest (rw (g, k) at e) in let is = eqb-true b 67 k in (cc, λ n. cc))
+    (λ k. let p = ended-back 9 (found b s) l rest (rw (g, k) at e) in (cc, λ n. cc (eqb-true b 67 k)))
     (λ k. absurd (never (rw (g, k) at e))))
 
 write-value : (l : ℕ) (s : List ℕ) (u : Urgency) (rest : List ℕ) → ((eqb l 71 ≡ false) → l ≡ 67) → readValue l s ≡ found u rest → urgencyOk u ≡ true
@@ -60,14 +60,12 @@ write-value l s u rest c e ok =
     by-test (eqb l 71)
     (λ g. by-step (readNumber 10 s) (λ g. found (Grade g)) (rw g at e) (λ n t r on.
     let is : Grade n ≡ u = cc in
-    let w = write-number 10 s n t r in
-    let letter = eqb-true l 71 g in
-    (subst HeldUrgency is tt, rw (← is) (cc))))
+    rw (← is) (tt, cc (write-number 10 s n t r .1, eqb-true l 71 g))))
     (λ g. by-step (readBits 10 s) (λ n. found (Reading (ofBits binary32 n))) (rw g at e) (λ n t r on.
     let is : Reading (ofBits binary32 n) ≡ u = cc in
     let w = write-bits 10 s n t r in
-    let number = both (not (isNan (ofBits binary32 n))) (leb (toBits binary32 (ofBits binary32 n)) 0x447A_0000) (ap urgencyOk is ∙ ok) .0 in
-    (subst HeldUrgency is (ofBits-fits binary32 n), rw (← is, toBits-ofBits binary32 n (omega arith) (rw number tt)) (cc (c g)))))
+    let number = both (not (isNan (ofBits binary32 n))) (leb (toBits binary32 (ofBits binary32 n)) 0x447A_0000) (rw (← is) at ok) .0 in
+    rw (← is) (ofBits-fits binary32 n, rw (toBits-ofBits binary32 n (omega arith) (rw number tt)) (cc (c g)))))
 
 write-urgency : (s : List ℕ) (u : Urgency) (rest : List ℕ) → readUrgency s ≡ found u rest → urgencyOk u ≡ true → HeldUrgency u × (s ≡ urgencyText u rest)
 write-urgency s u rest e ok = unfold readUrgency in by-step (readLetter s) readValue e (λ letter t r on.
@@ -83,12 +81,9 @@ write-line s x rest e ok =
     by-step (readNumber 9 s2) _ e2 (λ f s3 r3 e3.
     by-step (readNumber 9 s3) _ e3 (λ l s4 r4 e4.
     by-step (readUrgency s4) _ e4 (λ u t r5 e5.
-    let y : Spell = record { number = n; candidate = c; first = f; last = l; urgency = u } in
-    let is : y ≡ x = cc in
-    let ok′ : refusalOf y ≡ 0 = ap refusalOf is ∙ ok in
+    let is : record { number = n; candidate = c; first = f; last = l; urgency = u } ≡ x = cc in
+    let passes = rw (← is) at ok in
     let w1 = write-number 9 s n s1 r1 in
     let w2 = write-number 9 s1 c s2 r2 in
-    let w3 = write-number 9 s2 f s3 r3 in
-    let w4 = write-number 9 s3 l s4 r4 in
-    let w5 = write-urgency s4 u t r5 (entered y ok′ .urgent) in
-    (subst Sound is (record { numbered = w1 .0; named = w2 .0; held = w5 .0; entered = ok′ }), rw (← is) (cc)))))))
+    let w5 = write-urgency s4 u t r5 (rw (← is) at (entered x ok .urgent)) in
+    rw (← is) (search, cc (write-number 9 s2 f s3 r3 .1, write-number 9 s3 l s4 r4 .1, w5 .1)))))))

@@ -1,21 +1,19 @@
 -- A list in order, and one spell more at its end. Assumes nothing.
-use Rattle.basis.proofs.Prelude.{_≡_, refl, List, [], _++_, _∷_, true, both}
+use Rattle.basis.proofs.Prelude.{_∙_, _≡_, refl, sym, List, [], _++_, _∷_, _&&_, true, both, by-test}
 use Rattle.spell.specs.{declared.Spell.Spell, Order.{earlierOf, ordered, orderedBy}}
 use Rattle.register.specs.Text.{follows}
 
-pub ordered-follows : (l : List Spell) (x : Spell) (m : List Spell) → ordered (l ++ x ∷ m) ≡ true → follows l x ≡ true
+ordered-append : (l : List Spell) (x : Spell) (m : List Spell) → ordered (l ++ x ∷ m) ≡ ordered l && (follows l x && ordered (x ∷ m))
 unfolding orderedBy follows
-ordered-follows [] x m h = refl
-ordered-follows (a ∷ []) x m h = both (earlierOf a x) (ordered (x ∷ m)) h .0
-ordered-follows (a ∷ b ∷ l) x m h = ordered-follows (b ∷ l) x m (both (earlierOf a b) (ordered (b ∷ (l ++ x ∷ m))) h .1)
+ordered-append [] x m = refl
+ordered-append (a ∷ []) x m = refl
+ordered-append (a ∷ b ∷ l) x m = rw (ordered-append (b ∷ l) x m) (by-test (earlierOf a b) (λ t. rw t) (λ t. rw t))
+
+pub ordered-follows : (l : List Spell) (x : Spell) (m : List Spell) → ordered (l ++ x ∷ m) ≡ true → follows l x ≡ true
+ordered-follows l x m h = both (follows l x) (ordered (x ∷ m)) (both (ordered l) _ (sym (ordered-append l x m) ∙ h) .1) .0
 
 pub ordered-more : (l : List Spell) (x : Spell) → ordered l ≡ true → follows l x ≡ true → ordered (l ++ (x ∷ [])) ≡ true
-unfolding orderedBy follows
-ordered-more [] x h k = refl
-ordered-more (a ∷ []) x h k = rw k
-ordered-more (a ∷ b ∷ l) x h k =
-    let p = both (earlierOf a b) (ordered (b ∷ l)) h in
-    rw (p .0) (ordered-more (b ∷ l) x (p .1) k)
+ordered-more l x h k = unfold orderedBy in ordered-append l x [] ∙ rw (h, k)
 
 pub follows-more : (l : List Spell) (s x : Spell) → earlierOf s x ≡ follows (l ++ (s ∷ [])) x
 unfolding follows

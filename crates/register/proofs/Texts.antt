@@ -1,7 +1,7 @@
 -- A text is read as it was written, and what is read is what is written. Assumes nothing.
 use Rattle.basis.proofs.Prelude.{_∙_, _≡_, ap, refl, sym, _+_, _<_, _≤_, suc, zero, ℕ, List, [], _++_, _∷_, append-nil, false, true, eqb, leb, length, length-append, append-snoc, arith, eq-eqb, eqb-false, eqb-true, le-leb, by-test}
 use Rattle.spell.{specs.{declared.Spell.Spell, Entry.refusalOf, Order.{ordered, orderedBy}, Listing.{stands, distinct, Each, Sound, Good}}, proofs.Listing.{distinct-fresh, distinct-more}}
-use Rattle.fields.{specs.Fields.{Found, found, unreadable, readDecimal}, proofs.Bytes.never}
+use Rattle.fields.{specs.Fields.{found, unreadable, readDecimal}, proofs.Bytes.{by-found, never}}
 use Rattle.register.specs.Text.{readLine, lineText, textOnto, writeAll, follows, lineRefusal, Register, good, bad, lineAnswer, nextLine, readLines, readText}
 use Rattle.register.proofs.{Lines.{read-line, write-line}, Ordered.{ordered-follows, ordered-more}, Widths.sound-width}
 
@@ -42,7 +42,7 @@ module _ (before : List Spell) (t : List ℕ) (s : Spell) (rest : List ℕ) (e :
 pub not-refused : (before : List Spell) (s : Spell) → refusalOf s ≡ 0 → stands before (s .number) ≡ false → follows before s ≡ true → lineRefusal before s ≡ 0
 not-refused before s e t f = unfold lineRefusal in rw (e, t, f)
 
-read-lines : (m before : List Spell) (room : ℕ) → Each Sound m → ordered (before ++ m) ≡ true → distinct (before ++ m) ≡ true → length m ≤ room
+pub read-lines : (m before : List Spell) (room : ℕ) → Each Sound m → ordered (before ++ m) ≡ true → distinct (before ++ m) ≡ true → length m ≤ room
     → readLines room before (textOnto m []) ≡ good (before ++ m)
 unfolding textOnto Each
 read-lines [] before room g o d h = lines-end room before ∙ ap good (sym (append-nil before))
@@ -55,11 +55,6 @@ read-lines (x ∷ m) before (suc room) g o d h =
 pub written-width : (l : List Spell) → Good l → length (writeAll l) ≤ 33792
 written-width l g = omega (arith, sound-width l (g .each), g .few)
 
--- every good list is read back from its text
-pub read-written : (l : List Spell) → Good l → readText (writeAll l) ≡ good l
-read-written l g = unfold readText in
-    rw (le-leb (length (writeAll l)) 65536 (omega (arith, written-width l g))) (read-lines l [] 1024 (g .each) (g .in-order) (g .unique) (g .few))
-
 -- ---- what is read is what is written
 no-answer : {k n : ℕ} {l : List Spell} → bad k n ≡ good l → ⊥
 no-answer h = let z : _≡_ {A = ℕ} 0 1 = cc in omega arith
@@ -70,10 +65,8 @@ unfolding lineRefusal
 passed before s e =
     by-test (eqb (refusalOf s) 0)
     (λ r. by-test (stands before (s .number))
-    (λ t. let z : _≡_ {A = ℕ} 6 0 = rw (r, t) at e in absurd (omega arith))
-    (λ t. by-test (follows before s)
-    (λ f. (eqb-true (refusalOf s) 0 r, t, f))
-    (λ f. let z : _≡_ {A = ℕ} 13 0 = rw (r, t, f) at e in absurd (omega arith))))
+    (λ t. absurd (omega (arith, rw (r, t) at e)))
+    (λ t. by-test (follows before s) (λ f. (eqb-true (refusalOf s) 0 r, t, f)) (λ f. absurd (omega (arith, rw (r, t, f) at e)))))
     (λ r. absurd (eqb-false (refusalOf s) 0 r (rw r at e)))
 
 -- one spell more at the end of a list
@@ -91,14 +84,11 @@ sound-more (x ∷ l) s g h = (g .0, sound-more l s (g .1) h)
 line-first : {C : Type 0} (room : ℕ) (before : List Spell) (t : List ℕ) (l : List Spell) → readLines room before t ≡ good l → (t ≡ [] → before ≡ l → C)
     → ((s : Spell) (rest : List ℕ) → readLine t ≡ found s rest → lineRefusal before s ≡ 0 → after room before s rest ≡ good l → C) → C
 line-first room before [] l e d k = let ends = lines-end room before in d refl (cc)
-line-first {C} room before (b ∷ t) l e d k = by-line (readLine (b ∷ t)) refl
-  where
-    by-line : (f : Found Spell) → readLine (b ∷ t) ≡ f → C
-    by-line unreadable r = absurd (no-answer (sym (lines-malformed room before (b ∷ t) (omega arith) r) ∙ e))
-    by-line (found s rest) r =
-        by-test (eqb (lineRefusal before s) 0)
-        (λ h. let p = eqb-true (lineRefusal before s) 0 h in k s rest r p (sym (lines-on before (b ∷ t) s rest r room p) ∙ e))
-        (λ h. absurd (no-answer (sym (lines-refused before (b ∷ t) s rest r room h) ∙ e)))
+line-first room before (b ∷ t) l e d k = by-found (readLine (b ∷ t))
+    (λ s rest r. by-test (eqb (lineRefusal before s) 0)
+    (λ h. let p = eqb-true (lineRefusal before s) 0 h in k s rest r p (sym (lines-on before (b ∷ t) s rest r room p) ∙ e))
+    (λ h. absurd (no-answer (sym (lines-refused before (b ∷ t) s rest r room h) ∙ e))))
+    (λ r. absurd (no-answer (sym (lines-malformed room before (b ∷ t) (omega arith) r) ∙ e)))
 
 write-lines : (room : ℕ) (before : List Spell) (t : List ℕ) (l : List Spell) → Good before → length before + room ≡ 1024 → readLines room before t ≡ good l
     → (textOnto l [] ≡ textOnto before t) × Good l

@@ -1,11 +1,11 @@
 -- What the fields of a line answer, as the readers found them one after another. Assumes nothing.
-use Rattle.basis.proofs.Prelude.{_∙_, _≡_, ap, sym, _+_, _<_, _≤_, ℕ, List, Bool, false, not, true, drop, getD, length, eq-eqb, ne-eqb, not-false, not-true}
-use Rattle.fields.{specs.{declared.{Field.{Field, the-variants.{Value as FieldValue, Malformed as FieldMalformed}}, Length.{Length, the-variants.{Value as LengthValue, Malformed as LengthMalformed}}}, Fields.{Found, found, onward, unreadable, isAt, readNumber, readBits}, Answers.{fieldAt, fieldOf, lengthAt, lengthOf, Reads}}, proofs.Places.{here, past-end, passed-not, passed-at, said}}
+use Rattle.basis.proofs.Prelude.{_∙_, _≡_, sym, _+_, _<_, _≤_, ℕ, List, Bool, false, not, true, drop, getD, length, eq-eqb, ne-eqb, not-false, not-true}
+use Rattle.fields.{specs.{declared.{Field.{Field, the-variants.{Value as FieldValue, Malformed as FieldMalformed}}, Length.{Length, the-variants.{Value as LengthValue, Malformed as LengthMalformed}}}, Fields.{Found, found, onward, unreadable, isAt, readNumber, readBits}, Answers.{placeOf, fieldAt, fieldOf, lengthAt, lengthOf, Reads}}, proofs.Places.{here, past-end, passed-not, passed-at, said}}
 use Rattle.hex.proofs.Hex.{write-bits}
 use Rattle.spell.specs.declared.{Urgency.{Urgency, the-variants.{Grade, Reading}}, Spell.Spell}
 use lib.Ieee.{Float, binary32, ofBits}
 use Rattle.register_line.specs.{declared.Kind.{Kind, the-variants.{Value, Malformed}}, Contracts.{kindAt, kindOf}}
-use Rattle.register.specs.{declared.Line.the-variants.{Value as LineValue, Malformed as LineMalformed}, Answers.{lineAt, lineOf}, Text.{isLetter, readLetter, readValue, readUrgency, readLine}}
+use Rattle.register.specs.{declared.Line.{the-variants.{Value as LineValue, Malformed as LineMalformed}}, Answers.{lineAt, lineOf}, Text.{isLetter, readLetter, readValue}}
 
 -- ---- the letter and its tab
 module _ (s : List ℕ) (i : ℕ) where
@@ -42,37 +42,18 @@ module _ (text : List ℕ) (at letter : ℕ) where
 pub bits-fit : (text : List ℕ) (at v next : ℕ) (r : Length) → Reads lengthAt lengthOf text r (readBits 10 (drop at text)) → r ≡ LengthValue v next → v < 4294967296
 bits-fit text at v next r p e = write-bits 10 (drop at text) v (drop next text) (said p e) .0
 
--- ---- the fields of a line
-line-none : {text : List ℕ} {f : Found Spell} → f ≡ unreadable → Reads lineAt lineOf text LineMalformed f
-line-none e = record { answer = cc; says = cc }
+-- ---- fields one after another: one that can't be read, and what comes after one that is read
+module _ {R B : Type 0} (At : List ℕ → Found B → R) (Of : List ℕ → R → Found B) (text : List ℕ) (r : Field) (f : Found ℕ) (k : ℕ → List ℕ → Found B) (says : fieldOf text r ≡ f) where
+  pub none : (y : R) → r ≡ FieldMalformed → Reads At Of text y unreadable → Reads At Of text y (onward f k)
+  none y is p = rw (← says, is) p
 
-module _ (text : List ℕ) (at : ℕ) (r1 : Field) (p1 : Reads fieldAt fieldOf text r1 (readNumber 9 (drop at text))) where
-  pub none1 : r1 ≡ FieldMalformed → Reads lineAt lineOf text LineMalformed (readLine (drop at text))
-  none1 e = line-none (unfold readLine in rw (said p1 e))
+  pub after : (n i : ℕ) (y : R) → r ≡ FieldValue n i → Reads At Of text y (k n (drop i text)) → Reads At Of text y (onward f k)
+  after n i y is p = rw (← says, is) p
 
-  module _ (n i : ℕ) (e1 : r1 ≡ FieldValue n i) (r2 : Field) (p2 : Reads fieldAt fieldOf text r2 (readNumber 9 (drop i text))) where
-    pub none2 : r2 ≡ FieldMalformed → Reads lineAt lineOf text LineMalformed (readLine (drop at text))
-    none2 e = line-none (unfold readLine in rw (said p1 e1, said p2 e))
+-- the last of a line
+module _ (text : List ℕ) (r : Kind) (f : Found Urgency) (k : Urgency → List ℕ → Found Spell) (p : Reads kindAt kindOf text r f) where
+  pub no-urgency : r ≡ Malformed → Reads lineAt lineOf text LineMalformed (onward f k)
+  no-urgency is = rw (← p .says, is) (search)
 
-    module _ (c j : ℕ) (e2 : r2 ≡ FieldValue c j) (r3 : Field) (p3 : Reads fieldAt fieldOf text r3 (readNumber 9 (drop j text))) where
-      pub none3 : r3 ≡ FieldMalformed → Reads lineAt lineOf text LineMalformed (readLine (drop at text))
-      none3 e = line-none (unfold readLine in rw (said p1 e1, said p2 e2, said p3 e))
-
-      module _ (f k : ℕ) (e3 : r3 ≡ FieldValue f k) (r4 : Field) (p4 : Reads fieldAt fieldOf text r4 (readNumber 9 (drop k text))) where
-        pub none4 : r4 ≡ FieldMalformed → Reads lineAt lineOf text LineMalformed (readLine (drop at text))
-        none4 e = line-none (unfold readLine in rw (said p1 e1, said p2 e2, said p3 e3, said p4 e))
-
-        module _ (l m : ℕ) (e4 : r4 ≡ FieldValue l m) (r5 : Field) (p5 : fieldOf text r5 ≡ readLetter (drop m text)) where
-          pub none5 : r5 ≡ FieldMalformed → Reads lineAt lineOf text LineMalformed (readLine (drop at text))
-          none5 e = line-none (unfold readLine readUrgency in rw (said p1 e1, said p2 e2, said p3 e3, said p4 e4, sym p5 ∙ ap (fieldOf text) e))
-
-          module _ (letter o : ℕ) (e5 : r5 ≡ FieldValue letter o) (r6 : Kind) (p6 : Reads kindAt kindOf text r6 (readValue letter (drop o text))) where
-            line : readLine (drop at text) ≡ onward (kindOf text r6) (λ u. found (record { number = n; candidate = c; first = f; last = l; urgency = u }))
-            line = unfold readLine readUrgency in rw (said p1 e1, said p2 e2, said p3 e3, said p4 e4, sym p5 ∙ ap (fieldOf text) e5, p6 .says)
-
-            pub none6 : r6 ≡ Malformed → Reads lineAt lineOf text LineMalformed (readLine (drop at text))
-            none6 e = line-none (line ∙ rw e)
-
-            pub whole-line : (u : Urgency) (next : ℕ) → r6 ≡ Value u next
-                → Reads lineAt lineOf text (LineValue (record { number = n; candidate = c; first = f; last = l; urgency = u }) next) (readLine (drop at text))
-            whole-line u next e = let v = line in record { answer = cc; says = cc }
+  pub whole-line : (u : Urgency) (next : ℕ) (x : Spell) → r ≡ Value u next → k u (drop next text) ≡ found x (drop next text) → Reads lineAt lineOf text (LineValue x next) (onward f k)
+  whole-line u next x e last = let same : next ≡ placeOf text (drop next text) = cc in rw (← p .says, e, last) (search)

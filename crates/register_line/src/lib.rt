@@ -2,7 +2,7 @@
 ghost use mathlib.Core.Path.{_≡_};
 ghost use lib.ListN.{drop};
 ghost use Rattle.fields.specs.Answers.{fieldOf, Reads};
-ghost use Rattle.register.specs.Text.{isLetter, readLetter, readValue, readLine};
+ghost use Rattle.register.specs.Text.{isLetter, readLetter, readValue, readUrgency, readLine};
 ghost use Rattle.register.specs.Answers.{lineAt, lineOf};
 ghost use Rattle.register_line.specs.Contracts.{kindAt, kindOf};
 use fields::Field;
@@ -31,10 +31,7 @@ pub enum Kind {
 fn is_letter(b: u8) -> bool
     ensures { λ r. ⌜ r ≡ isLetter b ⌝ }
 {
-    if b == LETTER_G {
-        return true;
-    }
-    b == LETTER_C
+    (b == LETTER_G) | (b == LETTER_C)
 }
 
 // The letter G or C at `at` and its tab.
@@ -72,6 +69,16 @@ fn read_value(text: &[u8], at: usize, letter: u16) -> Kind
     Kind::Value(Urgency::Reading(x), next)
 }
 
+// The letter at `at` and the value after it.
+fn read_urgency(text: &[u8], at: usize) -> Kind
+    ensures { λ r. ⌜ Reads kindAt kindOf (now (text .entry)) r (readUrgency (drop at (now (text .entry)))) ⌝ }
+{
+    let Field::Value(letter, i) = read_letter(text, at) else {
+        return Kind::Malformed;
+    };
+    read_value(text, i, letter)
+}
+
 // The line at `at`, field by field; a field that can't be read ends it.
 pub fn read_line(text: &[u8], at: usize) -> Line
     ensures { λ r. ⌜ Reads lineAt lineOf (now (text .entry)) r (readLine (drop at (now (text .entry)))) ⌝ }
@@ -88,10 +95,7 @@ pub fn read_line(text: &[u8], at: usize) -> Line
     let Field::Value(last, m) = decimals::read_number(text, k, TAB) else {
         return Line::Malformed;
     };
-    let Field::Value(letter, n) = read_letter(text, m) else {
-        return Line::Malformed;
-    };
-    let Kind::Value(urgency, next) = read_value(text, n, letter) else {
+    let Kind::Value(urgency, next) = read_urgency(text, m) else {
         return Line::Malformed;
     };
     let s = Spell {

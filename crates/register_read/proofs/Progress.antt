@@ -1,4 +1,5 @@
 -- The state of a reading after some lines, one line more, and the answer at each way out. Assumes nothing.
+use mathlib.Core.Bool.{or-true, or-false}
 use Rattle.basis.proofs.Prelude.{_∙_, _≡_, ap, refl, sym, _+_, _-_, _<_, _≤_, suc, ℕ, List, [], _++_, _∷_, Bool, _||_, false, not, true, eqb, drop, drop-of-length-le, getD, getD-replicate, length, length-drop, length-replicate, length-set, replicate, set, take, take-append-drop, drop-drop, drop-set-lt, getD-set-other, getD-set-same, length-take-le, take-suc-set, add-one, arith, eqb-false, eqb-true, le-leb, lt-leb, lt-ltb, ne-eqb, by-test, not-false, not-true}
 use Rattle.spell.{specs.{declared.Spell.Spell, Entry.refusalOf, Order.earlierOf, Listing.stands, Blank.blank}, proofs.{Entered.entered, Listing.stands-more}}
 use Rattle.register.{specs.{declared.Reading.Reading, declared.Line.{Line, the-variants.{Value as LineValue, Malformed as LineMalformed}}, Text.{readLine, follows, lineRefusal, bad, readLines, readText}, Answers.{lineAt, lineOf, readingOf}}, proofs.{Ordered.follows-more, Texts.{after, not-refused, lines-end, lines-malformed, lines-refused, lines-on}}}
@@ -37,12 +38,9 @@ begin text none h e = unfold stands follows readText in record {
 
 -- ---- one line more
 pub marked-more : (seen : List Bool) (n k : ℕ) (t : Bool) → n < length seen → getD seen k false ≡ t → getD (set seen n true) k false ≡ t || eqb n k
-marked-more seen n k true h m = by-test (eqb n k)
-    (λ e. let is = eqb-true n k e in rw (← is) (getD-set-same seen n true false h))
-    (λ e. getD-set-other seen n k true false (λ z. eqb-false n k e (sym z)) ∙ m)
-marked-more seen n k false h m = by-test (eqb n k)
-    (λ e. let is = eqb-true n k e in rw (e, ← is) (getD-set-same seen n true false h))
-    (λ e. rw e (getD-set-other seen n k true false (λ z. eqb-false n k e (sym z)) ∙ m))
+marked-more seen n k t h m = by-test (eqb n k)
+    (λ e. rw (e, or-true, ← eqb-true n k e) (getD-set-same seen n true false h))
+    (λ e. rw (e, or-false) (getD-set-other seen n k true false (λ z. eqb-false n k e (sym z)) ∙ m))
 
 module _ (text : List ℕ) (spells : List Spell) (seen : List Bool) (before : Spell) (count at : ℕ) (st : State text spells seen before count at) where
   so-many : length (take count spells) ≡ count
@@ -92,12 +90,9 @@ module _ (text : List ℕ) (spells : List Spell) (seen : List Bool) (before : Sp
             goes-on f =
                 let more : take (count + 1) (set spells count s) ≡ take count spells ++ (s ∷ []) = rw add-one (take-suc-set spells count s (omega arith)) in
                 let left : 1024 - count ≡ suc (1024 - (count + 1)) = omega arith in
-                record {
-                  few = omega arith;
-                  room = length-set spells count s ∙ st .room;
-                  wide = length-set seen (s .number) true ∙ st .wide;
-                  unused = drop-set-lt (count + 1) spells count s (omega arith) ∙ sym (drop-drop 1 count spells) ∙ ap (drop 1) (st .unused) ∙ rw left;
-                  marked = λ k l. rw (more, stands-more (take count spells) s k) (marked-more seen (s .number) k (stands (take count spells) k) (omega arith) (st .marked k l));
-                  last = λ x _. follows-more (take count spells) s x ∙ rw more refl;
-                  so-far = st .so-far ∙ rw (left, more) (on (suc (1024 - (count + 1))));
-                }
+                let unused = rw left at (drop-set-lt (count + 1) spells count s (omega arith) ∙ sym (drop-drop 1 count spells) ∙ ap (drop 1) (st .unused)) in
+                let marked : (k : ℕ) → k < 65536 → getD (set seen (s .number) true) k false ≡ stands (take (count + 1) (set spells count s)) k
+                = λ k l. rw (more, stands-more (take count spells) s k) (marked-more seen (s .number) k (stands (take count spells) k) (omega arith) (st .marked k l)) in
+                let last : (x : Spell) → earlierOf s x ≡ follows (take (count + 1) (set spells count s)) x = λ x. rw more (follows-more (take count spells) s x) in
+                let so-far = rw (left, ← more) at (st .so-far ∙ on (1024 - count)) in
+                search (length-set, arith)

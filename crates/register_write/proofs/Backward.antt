@@ -1,7 +1,7 @@
 -- Texts put into the scratch list from the end to the front, and the answer. Assumes nothing.
 use Rattle.basis.proofs.Prelude.{_∙_, _≡_, ap, sym, _*_, _+_, _-_, _<_, _≤_, min, suc, ℕ, List, [], _++_, _∷_, drop, drop-of-length-le, getD, getD-take, length, length-append, length-drop, length-take, min-le-left, min-le-right, take, drop-cons, drop-length, take-all, arith, le-leb, lt-leb}
 use lib.Ieee.{Float, binary32, toBits}
-use Rattle.fields.{proofs.Puts.{Put, number-put, bits-put, byte-put}, specs.{Fields.{byteText, numberText, bitsText}, Answers.Puts}}
+use Rattle.fields.{proofs.{Puts.field-put, Widths.{number-width, bits-width}}, specs.{Fields.{byteText, numberText, bitsText}, Answers.Puts}}
 use Rattle.spell.specs.{declared.{Spell.Spell, Urgency.{Urgency, the-variants.{Grade, Reading}}}, Blank.blank}
 use Rattle.register.{specs.{Text.{urgencyText, lineText, textOnto, writeAll}, Answers.Writes}, proofs.Widths.{urgency-width, text-width}}
 use Rattle.register_write.specs.Contracts.{Room, Ends}
@@ -10,29 +10,28 @@ use Rattle.register_write.specs.Contracts.{Room, Ends}
 ends-place : {buf : List ℕ} {r : ℕ} {text : List ℕ} → Ends buf r text → r + length text ≡ 35840
 ends-place {buf} {r} p = omega (arith, p .sized, p .inside, ap length (p .written), length-drop r buf)
 
-two-more : {buf b1 b2 exit : List ℕ} {i j r : ℕ} {text : List ℕ} (a : ℕ) → length buf ≡ 35840 → Put buf b1 i text → 2 ≤ i → Puts 1 (byteText 9) b1 i j b2
-    → Puts 1 (byteText a) b2 j r exit → Ends exit r (a ∷ 9 ∷ text)
-two-more a z p h q s =
-    let q1 = byte-put (omega (arith, p .sized, p .inside)) 9 (omega arith) q in
-    let q2 = byte-put (omega (arith, q1 .0 .sized, q1 .0 .inside)) a (omega (arith, q1 .1)) s in
-    search arith
+-- one field more before what is put
+one-more : {buf exit : List ℕ} {i r : ℕ} {text : List ℕ} (w : ℕ) (f : List ℕ → List ℕ) → ((rest : List ℕ) → length (f rest) ≤ w + length rest)
+    → Ends buf i text → w ≤ i → Puts w f buf i r exit → Ends exit r (f text) × (i ≤ r + w)
+one-more w f wide p h q = let put = field-put w f wide h (omega arith) q in search arith
 
 -- an urgency: its value, a tab and the letter
 module _ (buf b1 b2 b3 : List ℕ) (at i j r : ℕ) (u : Urgency) (room : Room buf at 11) (p2 : Puts 1 (byteText 9) b1 i j b2) where
+  start : Ends buf at (drop at buf)
+  start = search
+
   pub grade-put : (g : ℕ) → u ≡ Grade g → Puts 6 (numberText g 10) buf at i b1 → Puts 1 (byteText 71) b2 j r b3 → Ends b3 r (urgencyText u (drop at buf))
   grade-put g is p1 p3 =
-      let q = number-put (omega (arith, room .sized, room .inside)) g 10 (omega (arith, room .wide)) p1 in
-      rw is (two-more 71 (room .sized) (q .0) (omega (arith, room .wide, q .1)) p2 p3)
+      let q1 = one-more 6 (numberText g 10) (number-width g 10) start (omega arith) p1 in
+      let q2 = one-more 1 (byteText 9) (λ _. omega arith) (q1 .0) (omega arith) p2 in
+      rw is (one-more 1 (byteText 71) (λ _. omega arith) (q2 .0) (omega arith) p3 .0)
 
   pub reading-put : (x : Float) (n : ℕ) → u ≡ Reading x → n ≡ toBits binary32 x → Puts 9 (bitsText n 10) buf at i b1 → Puts 1 (byteText 67) b2 j r b3
       → Ends b3 r (urgencyText u (drop at buf))
   reading-put x n is bits p1 p3 =
-      let q = bits-put (omega (arith, room .sized, room .inside)) n 10 (omega (arith, room .wide)) p1 in
-      rw (is, ← bits) (two-more 67 (room .sized) (q .0) (omega (arith, room .wide, q .1)) p2 p3)
-
-one-number : {buf exit : List ℕ} {i r : ℕ} {text : List ℕ} (n : ℕ) → Ends buf i text → 6 ≤ i → Puts 6 (numberText n 9) buf i r exit
-    → Ends exit r (numberText n 9 text) × (i ≤ r + 6)
-one-number n p h q = let put = number-put (omega arith) n 9 h q in search arith
+      let q1 = one-more 9 (bitsText n 10) (bits-width n 10) start (omega arith) p1 in
+      let q2 = one-more 1 (byteText 9) (λ _. omega arith) (q1 .0) (omega arith) p2 in
+      rw (is, ← bits) (one-more 1 (byteText 67) (λ _. omega arith) (q2 .0) (omega arith) p3 .0)
 
 -- a line: its urgency, and four numbers before it
 pub line-put : (s : Spell) (buf b0 b1 b2 b3 b4 : List ℕ) (at i j k m r : ℕ) → Room buf at 35 → Ends b0 i (urgencyText (s .urgency) (drop at buf))
@@ -40,10 +39,10 @@ pub line-put : (s : Spell) (buf b0 b1 b2 b3 b4 : List ℕ) (at i j k m r : ℕ) 
     → Puts 6 (numberText (s .number) 9) b3 m r b4 → Ends b4 r (lineText s (drop at buf))
 line-put s buf b0 b1 b2 b3 b4 at i j k m r room p p1 p2 p3 p4 = unfold lineText in
     let low : 24 ≤ i = omega (arith, room .sized, ends-place p, urgency-width (s .urgency) (drop at buf), length-drop at buf) in
-    let q1 = one-number (s .last) p (omega arith) p1 in
-    let q2 = one-number (s .first) (q1 .0) (omega (arith, q1 .1)) p2 in
-    let q3 = one-number (s .candidate) (q2 .0) (omega (arith, q1 .1, q2 .1)) p3 in
-    one-number (s .number) (q3 .0) (omega (arith, q1 .1, q2 .1, q3 .1)) p4 .0
+    let q1 = one-more 6 (numberText (s .last) 9) (number-width (s .last) 9) p (omega arith) p1 in
+    let q2 = one-more 6 (numberText (s .first) 9) (number-width (s .first) 9) (q1 .0) (omega (arith, q1 .1)) p2 in
+    let q3 = one-more 6 (numberText (s .candidate) 9) (number-width (s .candidate) 9) (q2 .0) (omega (arith, q1 .1, q2 .1)) p3 in
+    one-more 6 (numberText (s .number) 9) (number-width (s .number) 9) (q3 .0) (omega (arith, q1 .1, q2 .1, q3 .1)) p4 .0
 
 -- ---- the text of the spells from i on stands from the place `at` on
 pub record Back (l : List Spell) (buf : List ℕ) (at i : ℕ) : Type 0 where

@@ -8,7 +8,7 @@ use Rattle.model.specs.declared.Question.the-variants.{Days}
 
 -- the first k places are days already, and no more are read
 unread : (days : List ℕ) (k : ℕ) → k ≤ length days → ReadsDays (after (take k days) (record { days = []; whole = false })) days Malformed days
-unread days k h = record { request = refl; places = rw append-nil (sym (own-over k days h)); sized = refl }
+unread days k h = let places = sym (own-over k days h) in rw append-nil (search)
 
 -- ---- the last day, of a field that is read from the place `at`
 module _ (line : List ℕ) (at : ℕ) (f : Field) (says : fieldOf line f ≡ readNumber 10 (drop at line)) (days : List ℕ) (k : ℕ) (h : k < length days) where
@@ -22,12 +22,9 @@ module _ (line : List ℕ) (at : ℕ) (f : Field) (says : fieldOf line f ≡ rea
     pub last-one : length line ≤ next → ReadsDays (after (take k days) (lastDay (readNumber 10 (drop at line)))) days (Call (Ask Days) (k + 1)) (set days k d)
     last-one l =
         let count : k + 1 ≡ length (take k days ++ d ∷ []) = omega (arith, length-append (take k days) (d ∷ []), length-take-le k days (omega arith)) in
-        rw (← says, e, past-end line next l)
-        (record {
-          request = rw count;
-          places = over-is (take k days ++ d ∷ []) days (set days k d) (k + 1) (omega (arith, length-set days k d)) (rw (add-one, take-suc-set)) (drop-set-lt (k + 1) days k d (omega arith));
-          sized = length-set days k d;
-        })
+        let first : take (k + 1) (set days k d) ≡ take k days ++ d ∷ [] = rw (add-one, take-suc-set) in
+        let places = over-is (take k days ++ d ∷ []) days (set days k d) (k + 1) (omega (arith, length-set days k d)) first (drop-set-lt (k + 1) days k d (omega arith)) in
+        rw (← says, e, past-end line next l) (search length-set)
 
 -- ---- k days are read: what is read on from the place `at` of the line is what is read of all of it
 abbrev pub Onward : DayList → List ℕ → List ℕ → List ℕ → ℕ → ℕ → Type 0

@@ -1,6 +1,6 @@
 -- A line of at most 65,536 bytes has fewer than 32,768 days: more room for them changes nothing. Assumes nothing.
 use Rattle.basis.proofs.Prelude.{_≡_, ap, refl, sym, _*_, _+_, _≤_, suc, zero, ℕ, List, [], _∷_, by-test, false, true, leb, drop, length, length-drop, arith, leb-true}
-use Rattle.requests.proofs.{Names.{found, unreadable, readNumber, decimal-wide, write-number, table, headOf, readDays, askDays, askedOf}, Layouts.{by-found, by-layout}}
+use Rattle.requests.proofs.{Names.{by-found, found, unreadable, readNumber, decimal-wide, write-number, table, headOf, readDays, askDays, askedOf}, Layouts.by-layout}
 
 -- a number and the byte that ends it take two bytes or more
 number-takes : (e : ℕ) (s : List ℕ) (d : ℕ) (rest : List ℕ) → readNumber e s ≡ found d rest → 2 + length rest ≤ length s
@@ -24,10 +24,9 @@ days-enough (suc n) j s h =
 -- WHAT A LINE ASKS is the same with more room for its days
 pub days-room : (j : ℕ) (s : List ℕ) → askedOf 32768 s ≡ askedOf (32768 + j) s
 unfolding askedOf
-days-room j s = by-test (leb (length s) 65536) (λ e. rw e (by-layout _≡_ refl (λ _. refl) _ 32768 (32768 + j) rest (λ _. ap askDays (days-enough 32768 j rest (few e))) (λ _ _ _ _. refl))) (λ e. rw e)
-  where
-    rest : List ℕ
-    rest = drop (headOf table s .at) s
-
-    few : leb (length s) 65536 ≡ true → length rest ≤ 65537
-    few e = omega (arith, leb-true (length s) 65536 e, length-drop (headOf table s .at) s)
+days-room j s = by-test (leb (length s) 65536)
+    (λ e.
+    let few = leb-true (length s) 65536 e in
+    let less = length-drop (headOf table s .at) s in
+    rw e (by-layout _≡_ refl (λ _. refl) _ 32768 (32768 + j) _ (λ _. ap askDays (days-enough 32768 j (drop (headOf table s .at) s) (omega arith))) (λ _ _ _ _. refl)))
+    (λ e. rw e)

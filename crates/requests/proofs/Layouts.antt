@@ -4,10 +4,6 @@ use Rattle.requests.proofs.Names.{Found, found, unreadable, readLength,
 use Rattle.model.specs.declared.Question.the-variants.{Mask}
 use Rattle.requests.specs.declared.Layout.the-variants.{Spell}
 
-pub by-found : {A C : Type 0} (f : Found A) → ((a : A) (rest : List ℕ) → f ≡ found a rest → C) → (f ≡ unreadable → C) → C
-by-found (found a rest) h k = h a rest refl
-by-found unreadable h k = k refl
-
 -- R holds of what has no form
 module _ (R : Demand → Demand → Type 0) (none : R malformed malformed) where
   ended-as : (a b : Demand) (s : List ℕ) → R a b → R (ended a s) (ended b s)

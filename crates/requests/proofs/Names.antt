@@ -2,7 +2,7 @@
 pub use Prim.Native.{Char.code, String.{String, _∷_ as _then_, [] as none}}
 pub use Rattle.buffer.specs.Buffer.{over}
 pub use Rattle.decimals.proofs.Decimals.{length-within, write-number}
-pub use Rattle.fields.{proofs.{Places.{at-inside, here, past-end}, Widths.decimal-wide}, specs.{Answers.{fieldOf, lengthOf}, Fields.{Found, found, isAt, readLength, readMask, readNumber, unreadable}}}
+pub use Rattle.fields.{proofs.{Bytes.by-found, Places.{at-inside, here, past-end}, Widths.decimal-wide}, specs.{Answers.{fieldOf, lengthOf}, Fields.{Found, found, isAt, readLength, readMask, readNumber, unreadable}}}
 unfoldable pub use Rattle.fields.specs.Fields.{hexValue, passed, readDecimal, readDigits, readHex}
 pub use Rattle.model.specs.declared.{Call.{Call, the-variants.{Amend, Ask, Enter, Publish, Strike, TakeBack, Write}}, Question.the-variants.{Cover, Day, Span}}
 pub use Rattle.register.specs.Answers.{lineOf}

@@ -1,15 +1,14 @@
 -- `decimals::put_decimal` meets its contract. The invariant: the digits of v put before the place i make the whole field. The measure is v. Assumes nothing.
 use Rattle.basis.proofs.Prelude.{arith, length-set}
-use Rattle.fields.proofs.Puts.{put-sized}
-use Rattle.decimals.proofs.{Puts.{ended-room, Digits, digits-none, digits-room, digits-inside, digits-step, digits-all}, put_decimal.{Statement.statement, Tie.{close, spec}}}
+use Rattle.fields.proofs.Puts.{put-sized, puts-before, puts-past}
+use Rattle.decimals.proofs.{Puts.{Digits, digits-none, digits-room, digits-inside, digits-step, digits-all}, put_decimal.{Statement.statement, Tie.{close, spec}}}
 
 pub put-decimal-spec : {M : Type 1} → statement M
 put-decimal-spec = close (spec
-    (λ buf₀ at n end i₀ v₀ buf i v. Digits n buf₀ i₀ buf i v)
-    (λ _ _ _ _ _ _ _ _ v. v)
-    (λ c. omega (arith, ended-room _ _ _ _ (c .pre)))
-    (λ c. omega (arith, ended-room _ _ _ _ (c .pre)))
-    (λ c. search (digits-none, arith))
+    (λ buf₀ at n end after i₀ v₀ buf i v. Digits after n buf₀ i₀ buf i v)
+    (λ _ _ _ _ _ _ _ _ _ v. v)
+    (λ c. omega arith) (λ c. search (puts-before, arith)) (λ c. search (puts-past, arith))
+    (λ c. omega arith) (λ c. omega arith) (λ c. search (digits-none, arith))
     (λ c. search digits-room)
     (λ c. omega arith) (λ c. omega arith)  -- ZERO + (v % 10) as u8
     (λ c. search digits-inside)

@@ -1,9 +1,8 @@
 -- `decimals::put_number` meets its contract. Assumes nothing.
-use Rattle.basis.proofs.Prelude.{arith, needs}
-use Rattle.fields.proofs.Puts.{puts-before, puts-past, puts-as}
-use Rattle.decimals.proofs.{Puts.{wide-number, number-room}, put_number.{Statement.statement, Tie.{close, spec}}}
+use Rattle.basis.proofs.Prelude.{needs}
+use Rattle.fields.specs.Fields.{decimalOf}
+use Rattle.decimals.proofs.put_number.{Statement.statement, Tie.{close, spec}}
 
 pub put-number-spec : {M : Type 1} → statement M
-put-number-spec = close (spec
-    (λ c. search (puts-before, arith)) (λ c. search (puts-past, arith)) (λ c κs. number-room _ _ _ _ (search) (omega arith) (search)) (λ c. search needs)
-    (λ c. search (puts-as, wide-number, arith)))
+unfolding decimalOf
+put-number-spec = close (spec (λ c κs. search needs) (λ c. search needs) (λ c. search needs))

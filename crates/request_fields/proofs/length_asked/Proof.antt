@@ -1,8 +1,9 @@
 -- `request_fields::length_asked` meets its contract. Assumes nothing.
-use Rattle.basis.proofs.Prelude.{needs}
-use Rattle.request_fields.proofs.{Layouts.{length-none, length-asks}, length_asked.{Statement.statement, Tie.{close, spec}}}
+use Rattle.requests.proofs.Names.{askedBy}
+use Rattle.request_fields.proofs.{Layouts.{limited, last}, length_asked.{Statement.statement, Tie.{close, spec}}}
 
 pub length-asked-spec : {M : Type 1} → statement M
+unfolding askedBy
 length-asked-spec = close (spec
-    (λ c κs. search needs) (λ c κs. search needs) (λ c. search needs) (λ c. search needs) (λ c. search length-none)
-    (λ c κs. search needs) (λ c κs. search needs) (λ c. search length-asks))
+    (λ c κs. tt) (λ c κs. tt) (λ c. search) (λ c. search) (λ c. search limited)
+    (λ c κs. tt) (λ c κs. tt) (λ c. search (limited, last)))

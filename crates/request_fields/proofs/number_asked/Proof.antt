@@ -1,7 +1,8 @@
 -- `request_fields::number_asked` meets its contract. Assumes nothing.
-use Rattle.basis.proofs.Prelude.{needs}
-use Rattle.request_fields.proofs.{Layouts.{number-none, number-asks}, number_asked.{Statement.statement, Tie.{close, spec}}}
+use Rattle.requests.proofs.Names.{askedBy, fieldOf}
+use Rattle.request_fields.proofs.{Layouts.{onto, last}, number_asked.{Statement.statement, Tie.{close, spec}}}
 
 pub number-asked-spec : {M : Type 1} → statement M
+unfolding askedBy
 number-asked-spec = close (spec
-    (λ c κs. search needs) (λ c. search needs) (λ c. search needs) (λ c. search number-none) (λ c κs. search needs) (λ c κs. search needs) (λ c. search number-asks))
+    (λ c κs. tt) (λ c. search) (λ c. search) (λ c. search (onto fieldOf)) (λ c κs. tt) (λ c κs. tt) (λ c. search (onto fieldOf, last)))

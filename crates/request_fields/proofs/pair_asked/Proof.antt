@@ -1,8 +1,10 @@
 -- `request_fields::pair_asked` meets its contract. Assumes nothing.
-use Rattle.basis.proofs.Prelude.{needs}
-use Rattle.request_fields.proofs.{Layouts.{pair-none, second-none, pair-asks}, pair_asked.{Statement.statement, Tie.{close, spec}}}
+use Rattle.requests.proofs.Names.{askedBy, fieldOf}
+use Rattle.request_fields.proofs.{Layouts.{onto, after, last}, pair_asked.{Statement.statement, Tie.{close, spec}}}
 
 pub pair-asked-spec : {M : Type 1} → statement M
+unfolding askedBy
 pair-asked-spec = close (spec
-    (λ c κs. search needs) (λ c. search needs) (λ c. search needs) (λ c. search pair-none)
-    (λ c κs. search needs) (λ c. search needs) (λ c. search needs) (λ c. search second-none) (λ c κs. search needs) (λ c. search pair-asks))
+    (λ c κs. tt) (λ c. search) (λ c. search) (λ c. search (onto fieldOf))
+    (λ c κs. tt) (λ c. search) (λ c. search) (λ c. search (after, onto fieldOf)) (λ c κs. tt)
+    (λ c. search (after, onto fieldOf, last)))

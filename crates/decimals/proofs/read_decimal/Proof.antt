@@ -1,8 +1,0 @@
--- `decimals::read_decimal` meets its contract. Assumes nothing.
-use Rattle.basis.proofs.Prelude.{arith, needs}
-use Rattle.decimals.proofs.{Places.{decimal-past, decimal-zero, decimal-none, decimal-digits}, read_decimal.{Statement.statement, Tie.{close, spec}}}
-
-pub read-decimal-spec : {M : Type 1} → statement M
-read-decimal-spec = close (spec
-    (λ c. search (decimal-past, arith)) (λ c. search needs) (λ c. search needs) (λ c. search (decimal-zero, arith)) (λ c κs. search needs)
-    (λ c. search (decimal-none, arith)) (λ c κs. search needs) (λ c. search (decimal-digits, arith)))

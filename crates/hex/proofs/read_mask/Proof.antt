@@ -1,6 +1,0 @@
--- `hex::read_mask` meets its contract. Assumes nothing.
-use Rattle.basis.proofs.Prelude.{needs}
-use Rattle.hex.proofs.read_mask.{Statement.statement, Tie.{close, spec}}
-
-pub read-mask-spec : {M : Type 1} → statement M
-read-mask-spec = close (spec (λ c κs. search needs) (λ c κs. search needs) (λ c. rw (c .before .read-hex .ensures) at (c .read-end .ensures)))
