@@ -1,20 +1,7 @@
 -- A text put after others in a list. Assumes nothing.
-use Rattle.basis.proofs.Prelude.{_≡_, refl, sym, _+_, _-_, _<_, _≤_, ℕ, List, [], _++_, append-assoc, append-nil, cond, leb, drop, drop-at, drop-drop, drop-of-length-le, length, length-append, length-drop, take, take-all, take-append-drop, take-at, take-length, length-take-le, arith, by-cases, by-test, le-leb, leb-true, lt-leb}
+use Rattle.basis.proofs.Prelude.{_≡_, refl, sym, _+_, _-_, _<_, _≤_, ℕ, List, [], _++_, append-assoc, append-nil, cond, _⊎_, ⊎-elim, leb, drop, drop-at, drop-drop, drop-of-length-le, length, length-append, length-drop, take, take-all, take-append-drop, take-at, take-length, length-take-le, arith, by-cases, by-test, le-leb, leb-true, lt-leb}
 use borrow.Rule.Slice.PartMut.{midOf, putMid, post-is, mid-len}
 use Rattle.gathering.specs.Gathering.{Appends, Leaves, Appended}
-
--- a text that is copied over as many places is put there
-pub copied : (list from : List ℕ) {src part : List ℕ} (n at : ℕ) {end : ℕ} → at ≤ length from → n + (length from - at) ≤ length list
-    → end ≡ n + (length from - at) → src ≡ take (length from - at) (drop at from)
-    → part ≡ take (length src) src ++ drop (length src) (midOf n (end - n) list)
-    → Appends (drop at from) list n end (putMid n (end - n) list part)
-copied list from {src} {part} n at {end} h fits place same copy =
-    let long = length-drop at from in
-    let text : src ≡ drop at from = rw same (take-all (length from - at) (drop at from) (omega arith)) in
-    let few = mid-len n end list (omega arith) in
-    let over = drop-of-length-le (midOf n (end - n) list) {i = length src} (rw text (omega arith)) in
-    let whole : part ≡ drop at from = rw (copy, take-length src, over, append-nil) text in
-    record { place = omega arith; places = rw (whole, post-is n end list (omega arith)) }
 
 module _ (list : List ℕ) (n : ℕ) (from : List ℕ) (at : ℕ) where
   -- a text of no bytes is put anywhere, and nothing is written
@@ -24,17 +11,22 @@ module _ (list : List ℕ) (n : ℕ) (from : List ℕ) (at : ℕ) where
       (λ e. rw e (record { place = refl; places = refl })))
 
   -- where there is no room for it nothing is
-  pub full-appended : length list < n → Appended (drop at from) list n n list
-  full-appended h = rw (lt-leb (n + length (drop at from)) (length list) (omega arith)) (record { place = refl; places = refl })
+  pub left-appended : (length list < n) ⊎ (length list - n < length from - at) → Appended (drop at from) list n n list
+  left-appended h =
+      rw (lt-leb (n + length (drop at from)) (length list) (simp length-drop (⊎-elim (λ k. omega arith) (λ k. omega arith) h))) (record { place = refl; places = refl })
 
-  pub short-appended : n ≤ length list → length list - n < length from - at → Appended (drop at from) list n n list
-  short-appended h k =
-      rw (lt-leb (n + length (drop at from)) (length list) (simp length-drop (omega arith))) (record { place = refl; places = refl })
-
-  -- where there is, it is put
-  pub room-appended : {r : ℕ} {list′ : List ℕ} → n ≤ length list → length from - at ≤ length list - n
-      → Appends (drop at from) list n r list′ → Appended (drop at from) list n r list′
-  room-appended h k a = rw (le-leb (n + length (drop at from)) (length list) (simp length-drop (omega arith))) a
+  -- where there is, it is copied over as many places
+  pub copied : {src part : List ℕ} {end : ℕ} → at ≤ length from → n ≤ length list → length from - at ≤ length list - n
+      → end ≡ n + (length from - at) → src ≡ take (length from - at) (drop at from)
+      → part ≡ take (length src) src ++ drop (length src) (midOf n (end - n) list)
+      → Appended (drop at from) list n end (putMid n (end - n) list part)
+  copied {src} {part} {end} h k fits place same copy =
+      let long = length-drop at from in
+      let text : src ≡ drop at from = rw same (take-all (length from - at) (drop at from) (omega arith)) in
+      let few = mid-len n end list (omega arith) in
+      let over = drop-of-length-le (midOf n (end - n) list) {i = length src} (rw text (omega arith)) in
+      let whole : part ≡ drop at from = rw (copy, take-length src, over, append-nil) text in
+      rw (le-leb (n + length (drop at from)) (length list) (omega arith)) (record { place = omega arith; places = rw (whole, post-is n end list (omega arith)) })
 
 module _ {text list : List ℕ} {n r : ℕ} {list′ : List ℕ} (h : n ≤ length list) (a : Appends text list n r list′) where
   front : length (take n list ++ text) ≡ r

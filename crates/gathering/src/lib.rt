@@ -1,18 +1,6 @@
 // Texts gathered one after another in the first places of a list.
-ghost use Prim.Native.Nat.{_+_, _-_, _≤_};
-ghost use lib.ListN.{length, drop};
-ghost use Rattle.gathering.specs.Gathering.{Appends, Appended};
-
-// What stands in `from` from the place `at` on, copied to the place n of a list that has room for it: the place after it.
-fn put(list: &mut [u8], n: usize, from: &[u8], at: usize) -> usize
-    requires { ⌜ at ≤ length (now from) ⌝ }
-    requires { ⌜ n + (length (now from) - at) ≤ length (now list) ⌝ }
-    ensures { λ r. ⌜ Appends (drop at (now (from .entry))) (now (list .entry)) n r (now (list .exit)) ⌝ }
-{
-    let end = n + (from.len() - at);
-    bytes::copy(&from[at..], &mut list[n..end]);
-    end
-}
+ghost use lib.ListN.{drop};
+ghost use Rattle.gathering.specs.Gathering.{Appended};
 
 // What stands in `from` from the place `at` on, put after the first n places of a list: how many are taken then. Where there is no room for
 // it nothing is written, and n are taken as before.
@@ -30,5 +18,7 @@ pub fn append(list: &mut [u8], n: usize, from: &[u8], at: usize) -> usize
     if room - n < size - at {
         return n;
     }
-    put(list, n, from, at)
+    let end = n + (size - at);
+    bytes::copy(&from[at..], &mut list[n..end]);
+    end
 }

@@ -1,4 +1,3 @@
 pub mod Names
-pub mod Passing
 pub mod Judging
 pub mod Sifting

@@ -2,6 +2,6 @@
 pub use Rattle.fields.{proofs.Places.{here, said}, specs.Fields.{Found, found, unreadable}}
 unfoldable pub use Rattle.register.specs.Text.{readLine}
 pub use Rattle.register_sift.specs.Contracts.{Judges, Marks, Past, Reads}
-pub use Rattle.repairing.{proofs.{Keeping.{drops-it, keeps-it, kept-first, passes, verdict-none, verdicts-first}, Lines.{byte-ends, byte-passed, lines-none}}, specs.Repair.keptOf}
-unfoldable pub use Rattle.repairing.specs.Repair.{afterLine, keeping, keptAfter, linesOf, verdict, verdictsAfter}
+pub use Rattle.repairing.{proofs.Keeping.{byte-passed, drops-it, keeps-it, lines-first, passes, verdict-none}, specs.Repair.keptOf}
+unfoldable pub use Rattle.repairing.specs.Repair.{afterLine, keeping, keptAfter, laterLines, linesOf, verdict, verdictsAfter}
 pub use Rattle.spell.{specs.Entry.refusalOf, specs.declared.Spell.Spell}

@@ -1,6 +1,6 @@
 -- The state after some lines, one line more, and the end. Assumes nothing.
 use Rattle.basis.proofs.Prelude.{_∙_, _≡_, ap, refl, sym, _+_, _<_, _≤_, ℕ, List, [], _++_, _∷_, append-nil, append-snoc, Bool, false, true, drop, drop-of-length-le, getD-replicate, length, drop-drop, drop-set-lt, length-drop, length-replicate, length-set, replicate, set, take, take-append-drop, length-take-le, take-suc-set, add-one, arith, le-leb, lt-leb}
-use Rattle.register_sift.proofs.Names.{Spell, readLine, linesOf, verdict, keeping, keptAfter, verdictsAfter, keptOf, lines-none, passes, keeps-it, drops-it, kept-first, verdicts-first, Past, Marks, Judges}
+use Rattle.register_sift.proofs.Names.{Spell, readLine, linesOf, verdict, keeping, keptAfter, verdictsAfter, keptOf, laterLines, lines-first, passes, keeps-it, drops-it, Past, Marks, Judges}
 use Rattle.spell.{specs.Blank.blank, specs.Listing.stands, proofs.Listing.stands-more}
 use Rattle.register_read.proofs.Progress.{marked-more}
 use Rattle.repairing.proofs.Remarks.{verdicts-length}
@@ -20,19 +20,11 @@ pub record State (text : List ℕ) (met₀ met : List ℕ) (spells : List Spell)
   pub says : verdictsAfter [] (linesOf text) ≡ take lines met ++ verdictsAfter (take count spells) (linesOf (drop at text))
 
 pub begins : (text met : List ℕ) {none : Spell} → none ≡ blank → length text ≤ length met → State text met met (replicate 1024 none) (replicate 65536 false) 0 0 0
-begins text met {none} e h = unfold stands in record {
-  few = omega arith;
-  room = length-replicate 1024 none;
-  marks = record { wide = length-replicate 65536 false; marked = λ k l. getD-replicate 65536 k false false l };
-  inside = omega arith;
-  behind = omega arith;
-  wide = h;
-  sized = refl;
-  later = refl;
-  free = ap (λ (s : Spell). replicate 1024 s) e;
-  keeps = refl;
-  says = refl;
-}
+begins text met {none} e h = unfold stands in
+    let room = length-replicate 1024 none in
+    let marks : Marks (replicate 65536 false) [] = record { wide = length-replicate 65536 false; marked = λ k l. getD-replicate 65536 k false false l } in
+    let free = ap (λ (s : Spell). replicate 1024 s) e in
+    search arith
 
 -- past a place that is written, as it was
 past-it : {A : Type 0} (l l₀ : List A) (i : ℕ) (a : A) → drop i l ≡ drop i l₀ → drop (i + 1) (set l i a) ≡ drop (i + 1) l₀
@@ -50,17 +42,14 @@ module _ (text met₀ met : List ℕ) (spells : List Spell) (seen : List Bool) (
     on : (spells′ : List Spell) (seen′ : List Bool) (count′ : ℕ) → keeping (take count spells) (readLine (drop at text)) ≡ take count′ spells′ → count′ ≤ 1024
         → length spells′ ≡ 1024 → Marks seen′ (take count′ spells′) → drop count′ spells′ ≡ drop count′ (replicate 1024 blank)
         → State text met₀ (set met lines (r .number)) spells′ seen′ count′ (lines + 1) next
-    on spells′ seen′ count′ then few room marks free =
-        let left : 0 < length (drop at text) = omega (arith, length-drop at text) in
-        let kept = kept-first (take count spells) (drop at text) (readLine (drop at text)) left refl in
-        let said = verdicts-first (take count spells) (drop at text) (readLine (drop at text)) left refl in
+    on spells′ seen′ count′ then few room marks free = unfold keptAfter verdictsAfter in
+        let first = lines-first (drop at text) (omega (arith, length-drop at text)) in
         let met-more : take (lines + 1) (set met lines (r .number)) ≡ take lines met ++ (r .number ∷ []) = rw add-one (take-suc-set met lines (r .number) (omega arith)) in
-        let far = past .further more in
         let long = length-set met lines (r .number) in
         let later = past-it met met₀ lines (r .number) (st .later) in
-        let keeps : keptOf text ≡ keptAfter (take count′ spells′) (linesOf (drop next text)) = st .keeps ∙ kept ∙ rw (then, past .rest) in
+        let keeps : keptOf text ≡ keptAfter (take count′ spells′) (linesOf (drop next text)) = cc in
         let says : verdictsAfter [] (linesOf text) ≡ take (lines + 1) (set met lines (r .number)) ++ verdictsAfter (take count′ spells′) (linesOf (drop next text))
-        = st .says ∙ rw (said, met-more, append-snoc, ← then, ← is, past .rest) in
+        = rw (met-more, append-snoc) (cc (is)) in
         search arith
 
     pub drops : (r .number ≡ 0 → ⊥) → State text met₀ (set met lines (r .number)) spells seen count (lines + 1) next
@@ -71,34 +60,26 @@ module _ (text met₀ met : List ℕ) (spells : List Spell) (seen : List Bool) (
     keeps-one zero low =
         let kept = take count spells in
         let read = judged .spell zero in
-        let room = judged .room zero in
         let listed : take (count + 1) (set spells count (r .spell)) ≡ kept ++ (r .spell ∷ []) = rw add-one (take-suc-set spells count (r .spell) (omega arith)) in
-        let passed = passes kept (r .spell) (read .rest) (sym (ap (verdict kept) (read .line)) ∙ sym is ∙ zero) in
+        let passed = passes kept (r .spell) (read .rest) (cc (is)) in
         let marks : Marks (set seen (r .spell .number) true) (take (count + 1) (set spells count (r .spell))) = record {
           wide = length-set seen (r .spell .number) true ∙ st .marks .wide;
           marked = λ k l. rw (listed, stands-more kept (r .spell) k) (marked-more seen (r .spell .number) k (stands kept k) (omega arith) (st .marks .marked k l));
         } in
-        on (set spells count (r .spell)) (set seen (r .spell .number) true) (count + 1) (ap (keeping kept) (read .line) ∙ keeps-it kept (r .spell) (read .rest) passed ∙ sym listed)
+        on (set spells count (r .spell)) (set seen (r .spell .number) true) (count + 1) (cc (keeps-it kept (r .spell) (read .rest) passed))
         (omega arith) (length-set spells count (r .spell) ∙ st .room) marks (past-it spells (replicate 1024 blank) count (r .spell) (st .free))
 
   pub ends : length text ≤ at → Sifts text met₀ (record { spells = spells; count = count; lines = lines }) met
-  ends h = unfold keptAfter verdictsAfter in
-      let over : linesOf (drop at text) ≡ [] = ap linesOf (drop-of-length-le text h) ∙ lines-none in
+  ends h = unfold keptAfter verdictsAfter linesOf laterLines in
+      let over = drop-of-length-le text h in
       let kept : keptOf text ≡ take count spells = st .keeps ∙ rw over in
       let said : verdictsAfter [] (linesOf text) ≡ take lines met = st .says ∙ rw (over, append-nil) in
-      let long : length (verdictsAfter [] (linesOf text)) ≡ lines = ap length said ∙ length-take-le lines met (omega arith) in
-      record {
-        answer = rw (kept, so-many, ← st .free, take-append-drop count spells, sym (verdicts-length [] (linesOf text)) ∙ long);
-        said = rw (long, said, ← st .later) (sym (take-append-drop lines met));
-      }
+      let long = length-take-le lines met (omega arith) in
+      record { answer = cc (so-many, take-append-drop count spells, verdicts-length [] (linesOf text)); said = cc (take-append-drop lines met) }
 
 -- ---- The whole text, and one that is too long
 pub within : (text : List ℕ) → length text ≤ 65536 → withinLimit text ≡ text
 within text h = unfold withinLimit in rw (le-leb (length text) 65536 h)
 
-module _ (text met met′ : List ℕ) (r : Sifted) where
-  pub within-sifts : length text ≤ 65536 → Sifts text met r met′ → Sifts (withinLimit text) met r met′
-  within-sifts h s = rw (within text h) s
-
-  pub beyond-sifts : 65536 < length text → Sifts [] met r met′ → Sifts (withinLimit text) met r met′
-  beyond-sifts h s = unfold withinLimit in rw (lt-leb (length text) 65536 h) s
+pub beyond : (text : List ℕ) → 65536 < length text → withinLimit text ≡ []
+beyond text h = unfold withinLimit in rw (lt-leb (length text) 65536 h)

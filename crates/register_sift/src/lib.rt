@@ -1,5 +1,5 @@
 // The lines of a damaged register text gone through from the top, each kept or dropped.
-ghost use Prim.Native.Nat.{_≤_};
+ghost use Prim.Native.Nat.{_≤_, _<_};
 ghost use lib.ListN.{length};
 ghost use Rattle.register_sift.specs.Sifting.{withinLimit, Sifts};
 ghost use Rattle.register_sift.specs.Contracts.{Past, Judges};
@@ -19,7 +19,7 @@ pub const TEXT: usize = 65536;
 
 // The place where the next line begins, or the end.
 fn after_line(text: &[u8], at: usize) -> usize
-    requires { ⌜ at ≤ length (now text) ⌝ }
+    requires { ⌜ at < length (now text) ⌝ }
     ensures { λ r. ⌜ Past (now (text .entry)) at r ⌝ }
 {
     let mut i = at;
@@ -41,6 +41,7 @@ struct Judged {
 
 // The line at `at`, after `count` kept ones, whose numbers are marked: 12, 1 to 5, 6, 8.
 fn judge(text: &[u8], at: usize, seen: &[bool; 65536], count: usize) -> Judged
+    requires { ⌜ count ≤ 1024 ⌝ }
     ensures { λ r. ⌜ Judges (now (text .entry)) at (now (seen .entry)) count r ⌝ }
 {
     let none = spell_checks::blank();

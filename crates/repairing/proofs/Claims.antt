@@ -1,6 +1,6 @@
 -- What repairing a register is for. Assumes nothing.
 use Rattle.basis.proofs.Prelude.{_∙_, _≡_, ap, refl, sym, _+_, _*_, _≤_, ℕ, List, List·Memᴰ, [], _∷_, map, false, true, _↔_, eqb, eqb-true, leb, length, arith, le-leb, leb-true, both, by-test}
-use Rattle.repairing.proofs.{Names.{sortedBy, inOrderBy, Spell, earlierOf, ordered, orderedBy, Good, Sound, text-order, asym, readText, good, writeAll, rising, over, Repaired, linesOf, verdictsAfter, keptOf, putOf, repairedText, remarksOf, placesOf, displacedIn, fitting, repairRefusal, repairRefused, repairGiven, Repairs}, Keeping.{kept-good, good-kept}, Displaced.{none-displaced, stood-ordered}, Remarks.{rise-after, rising-tail, each-line, places-length, put-sized}}
+use Rattle.repairing.proofs.{Names.{sortedBy, inOrderBy, Spell, earlierOf, ordered, orderedBy, Good, Sound, text-order, asym, readText, good, writeAll, rising, over, Repaired, linesOf, verdictsAfter, keptOf, putOf, repairedText, remarksOf, placesOf, displacedIn, fitting, repairRefusal, repairRefused, repairGiven, Repairs}, Keeping.{kept-good, whole}, Remarks.{displaced-none, rise, all-lines, places-length, put-sized}}
 use Rattle.orders.{proofs.Sorting.in-order-sorted, proofs.Members.sorted-has}
 use Rattle.spell.proofs.{Entered.needed, Sorted.sorted-orderly}
 use Rattle.register.proofs.Claims.{list-again, text-again, fits}
@@ -32,15 +32,12 @@ pub record Unaltered (t : List ℕ) (l : List Spell) : Type 0 where
   pub in-place : displacedIn (keptOf t) ≡ 0
 
 pub unaltered : (t : List ℕ) (l : List Spell) → readText t ≡ good l → Unaltered t l
-unaltered t l e = let w = text-again t l e in
-    let g = w .1 in
-    let k = good-kept l g in
-    let kept : keptOf t ≡ l = ap keptOf (sym (w .0)) ∙ k .0 in record {
-      text = ap (λ (m : List Spell). writeAll (sortedBy earlierOf m)) kept ∙ ap writeAll (in-order-sorted earlierOf l (in-order l (g .in-order))) ∙ w .0;
-      silent = ap remarksOf (sym (w .0)) ∙ k .1;
-      kept = kept;
-      in-place = ap displacedIn kept ∙ none-displaced l (g .in-order);
-    }
+unaltered t l e =
+    let w = text-again t l e in
+    let k = whole l [] (w .1 .each) (w .1 .unique) (w .1 .few) in
+    let sorted = in-order-sorted earlierOf l (in-order l (w .1 .in-order)) in
+    let in-place = displaced-none l (w .1 .unique) .1 (w .1 .in-order) in
+    record { text = cc; silent = cc (k .1 1); kept = cc; in-place = cc }
 
 -- REPAIRED TWICE IS REPAIRED ONCE: the second time nothing is altered and nothing said
 pub twice : (t : List ℕ) → Unaltered (repairedText t) (putOf t)
@@ -48,15 +45,15 @@ twice t = unaltered (repairedText t) (putOf t) (reads-accepted t)
 
 -- REMARKS RISE by line
 pub rises : (t : List ℕ) → rising (map (λ r. r .line) (remarksOf t)) ≡ true
-rises t = rising-tail 0 _ (rise-after 0 1 (verdictsAfter [] (linesOf t)) (omega arith))
+rises t = rise 1 (verdictsAfter [] (linesOf t)) .0
 
 -- EVERY LINE is kept or has its remark
 pub kept-or-dropped : (t : List ℕ) → length (keptOf t) + length (remarksOf t) ≡ length (linesOf t)
-kept-or-dropped = each-line
+kept-or-dropped t = omega (arith, all-lines 1 [] (linesOf t))
 
 -- THE THIRD NUMBER IS 0 exactly where the kept lines stood in the order
 pub displaced-none-exactly : (t : List ℕ) → (displacedIn (keptOf t) ≡ 0) ↔ (ordered (keptOf t) ≡ true)
-displaced-none-exactly t = (stood-ordered (keptOf t) (kept-good t .unique), none-displaced (keptOf t))
+displaced-none-exactly t = displaced-none (keptOf t) (kept-good t .unique)
 
 -- what comes out is never longer than this
 pub text-fits : (t : List ℕ) → length (repairedText t) ≤ 33792
@@ -83,31 +80,25 @@ module _ {t out remarks out′ remarks′ : List ℕ} {r : Repaired} (a : Repair
   pub refused-keeps : (r .refusal ≡ 0 → ⊥) → (out′ ≡ out) × (remarks′ ≡ remarks) × (r ≡ repairRefused (r .refusal))
   refused-keeps z = by-test (eqb met 0)
       (λ e. absurd (z (ap (λ (r : Repaired). r .refusal) (a .answer) ∙ rw e)))
-      (λ e. let k = refused e in (k .0, k .1, k .2 ∙ ap repairRefused (sym (ap (λ (r : Repaired). r .refusal) (k .2)))))
-
-  fit : met ≡ 0 → (length (repairedText t) ≤ length out) × (length (placesOf (remarksOf t)) ≤ length remarks)
-  fit e = unfold repairRefusal fitting in
-      let p = both _ _ (needed _ 10 0 (needed (leb (length t) 65536) 11 _ e .1) .0) in
-      (leb-true (length (repairedText t)) (length out) (p .0), leb-true (length (placesOf (remarksOf t))) (length remarks) (p .1))
+      (λ e. let k = refused e in (cc, cc, cc))
 
   -- what is given lies inside
   pub within : Inside out remarks r out′ remarks′
-  within = by-test (eqb met 0)
+  within = unfold repairRefusal fitting in by-test (eqb met 0)
       (λ e.
-      let room = fit (eqb-true met 0 e) in
+      let fit = both (leb (length (repairedText t)) (length out)) (leb (length (placesOf (remarksOf t))) (length remarks)) (needed _ 10 0 (needed (leb (length t) 65536) 11 _ (eqb-true met 0 e) .1) .0) in
       let is : r ≡ repairGiven t = a .answer ∙ rw e in
-      let text = put-sized (repairedText t) out (room .0) (a .text ∙ rw e) in
-      let said = put-sized (placesOf (remarksOf t)) remarks (room .1) (a .said ∙ rw e) in
-      let long = ap (λ (r : Repaired). r .length) is in
-      let many = ap (λ (r : Repaired). 2 * r .dropped) is ∙ sym (places-length (remarksOf t)) in
-      search arith)
+      let text = put-sized (repairedText t) out (omega (arith, leb-true)) (a .text ∙ rw e) in
+      let said = put-sized (placesOf (remarksOf t)) remarks (omega (arith, leb-true)) (a .said ∙ rw e) in
+      rw is (omega (arith, leb-true, places-length (remarksOf t))))
       (λ e. let k = refused e in rw (k .0, k .1, k .2) (search arith))
 
   -- GIVEN ROOM, a good register stands in the first places as it came, and nothing is said
   pub passes-through : (l : List Spell) → readText t ≡ good l → length t ≤ length out
       → (out′ ≡ over t out) × (remarks′ ≡ remarks) × (r ≡ record { refusal = 0; line = 0; length = length t; dropped = 0; displaced = 0 })
-  passes-through l e room = unfold repairRefusal fitting placesOf in let u = unaltered t l e in
-      let short : leb (length t) 65536 ≡ true = le-leb (length t) 65536 (omega (arith, text-again t l e, ap length (text-again t l e .0), fits l (text-again t l e .1))) in
-      let fit : leb (length t) (length out) ≡ true = le-leb (length t) (length out) room in
-      let none : leb 0 (length remarks) ≡ true = le-leb 0 (length remarks) (omega arith) in
-      (a .text ∙ rw (short, u .text, fit, u .silent, none), a .said ∙ rw (short, u .text, fit, u .silent, none), a .answer ∙ rw (short, u .text, fit, u .silent, none, u .in-place))
+  passes-through l e room = unfold repairRefusal fitting placesOf in
+      let u = unaltered t l e in
+      let w = text-again t l e in
+      let short = le-leb (length t) 65536 (omega (arith, ap length (w .0), fits l (w .1))) in
+      let none : met ≡ 0 = rw (short, u .text, le-leb (length t) (length out) room, u .silent) (rw (le-leb 0 (length remarks) (omega arith))) in
+      (cc, cc, cc)

@@ -1,8 +1,65 @@
--- What is kept of any text can stand, and a good text is kept whole with nothing said. Assumes nothing.
-use Rattle.basis.proofs.Prelude.{_∙_, _≡_, ap, refl, sym, _<_, _≤_, suc, ℕ, List, [], _++_, _∷_, append-nil, append-snoc, Bool, cond, false, true, eqb, ltb, length, length-append, arith, eq-eqb, eqb-false, eqb-true, lt-ltb, ltb-true, ne-eqb, by-cases, by-test}
-use Rattle.repairing.proofs.{Names.{Spell, stands, distinct, Each, Sound, Good, distinct-fresh, distinct-more, Found, found, unreadable, readDecimal, readLine, lineText, textOnto, read-line, write-line, linesOf, afterLine, verdict, keeping, keptAfter, verdictsAfter, remarksFrom, keptOf, remarksOf}, Lines.{lines-none, lines-first, line-ends}}
-use Rattle.spell.{specs.Entry.refusalOf, proofs.Entered.{needed, past}}
-use Rattle.fields.proofs.Bytes.{never}
+-- The lines of a text, one by one; what is kept of any text can stand, and a good text is kept whole with nothing said. Assumes nothing.
+use Rattle.basis.proofs.Prelude.{_∙_, _≡_, ap, refl, sym, _+_, _%_, _/_, _<_, _≤_, suc, zero, ℕ, List, [], _++_, _∷_, append-nil, append-snoc, Bool, cond, false, true, eqb, ltb, length, length-append, le-trans, arith, eq-eqb, eqb-false, eqb-true, lt-ltb, ltb-true, ne-eqb, by-cases, by-test}
+use lib.Ieee.{binary32, ofBits}
+use Rattle.repairing.proofs.Names.{Grade, Reading, Spell, stands, distinct, Each, Sound, distinct-fresh, distinct-more, Found, found, unreadable, digitsOf, decimalOf, hexDigit, hexOf, readNumber, readBits, readLetter, readValue, readUrgency, readLine, lineText, textOnto, step, read-line, write-letter, write-line, laterLines, linesOf, afterLine, verdict, keeping, keptAfter, verdictsAfter, remarksFrom, keptOf}
+use Rattle.spell.{specs.{declared.Urgency.Urgency, Entry.refusalOf}, proofs.Entered.{needed, past}}
+use Rattle.fields.proofs.Widths.{decimal-wide}
+use Rattle.decimals.proofs.Decimals.{write-number}
+use Rattle.hex.proofs.Hex.{write-bits}
+
+-- ---- The first line and the others
+
+later-lines : (t : List ℕ) → laterLines t ≡ linesOf (afterLine t)
+unfolding laterLines linesOf afterLine
+later-lines [] = refl
+later-lines (b ∷ t) = by-test (eqb b 10) (λ e. rw e) (λ e. rw e (later-lines t))
+
+pub lines-first : (t : List ℕ) → 0 < length t → linesOf t ≡ t ∷ linesOf (afterLine t)
+unfolding linesOf
+lines-first [] h = absurd (omega arith)
+lines-first (b ∷ t) h = ap (λ (l : List (List ℕ)). (b ∷ t) ∷ l) (later-lines (b ∷ t))
+
+-- ---- A line that is read ends at its LF
+
+pub byte-passed : (b : ℕ) (t : List ℕ) → (b ≡ 10 → ⊥) → afterLine (b ∷ t) ≡ afterLine t
+byte-passed b t n = unfold afterLine in rw (ne-eqb b 10 n)
+
+digits-passed : (k n : ℕ) (t : List ℕ) → afterLine (digitsOf k n t) ≡ afterLine t
+unfolding digitsOf
+digits-passed zero n t = byte-passed (48 + n) t (λ e. omega arith)
+digits-passed (suc k) n t = by-cases (λ (l : List ℕ). afterLine l ≡ afterLine t) (ltb n 10)
+    (λ _. byte-passed (48 + n) t (λ e. omega arith))
+    (λ _. digits-passed k (n / 10) ((48 + n % 10) ∷ t) ∙ byte-passed (48 + n % 10) t (λ e. omega arith))
+
+hex-passed : (k n : ℕ) (t : List ℕ) → afterLine (hexOf k n t) ≡ afterLine t
+unfolding hexOf
+hex-passed zero n t = refl
+hex-passed (suc k) n t = hex-passed k (n / 16) (hexDigit (n % 16) ∷ t) ∙ byte-passed (hexDigit (n % 16)) t (unfold hexDigit in
+    by-cases (λ (b : ℕ). b ≡ 10 → ⊥) (ltb (n % 16) 10) (λ _ e. omega arith) (λ _ e. omega arith))
+
+number-passed : (e n : ℕ) (s : List ℕ) {t : List ℕ} → readNumber e s ≡ found n t → afterLine s ≡ afterLine (e ∷ t)
+number-passed e n s {t} r = unfold decimalOf in ap afterLine (write-number e s n t r .1) ∙ digits-passed 4 n (e ∷ t)
+
+urgency-ends : (s : List ℕ) (u : Urgency) (rest : List ℕ) → readUrgency s ≡ found u rest → afterLine s ≡ rest
+urgency-ends s u rest e = unfold readUrgency readValue afterLine in
+    let l = step (readLetter s) readValue u rest e in
+    let w = write-letter s (l .value) (l .after) (l .read) in
+    by-test (eqb (l .value) 71)
+    (λ g.
+    let v = step (readNumber 10 (l .after)) (λ g. found (Grade g)) u rest (rw g at (l .on)) in
+    cc (byte-passed (l .value) (9 ∷ l .after) (λ z. omega (arith, eqb-true (l .value) 71 g)), number-passed 10 (v .value) (l .after) (v .read)))
+    (λ g.
+    let v = step (readBits 10 (l .after)) (λ n. found (Reading (ofBits binary32 n))) u rest (rw g at (l .on)) in
+    cc (byte-passed (l .value) (9 ∷ l .after) (λ z. omega (arith, w .1 g)), write-bits 10 (l .after) (v .value) (v .after) (v .read) .1, hex-passed 8 (v .value) (10 ∷ v .after)))
+
+pub line-ends : (t : List ℕ) (s : Spell) (rest : List ℕ) → readLine t ≡ found s rest → afterLine t ≡ rest
+line-ends t s rest e = unfold readLine afterLine in
+    let s1 = step (readNumber 9 t) _ s rest e in
+    let s2 = step (readNumber 9 (s1 .after)) _ s rest (s1 .on) in
+    let s3 = step (readNumber 9 (s2 .after)) _ s rest (s2 .on) in
+    let s4 = step (readNumber 9 (s3 .after)) _ s rest (s3 .on) in
+    let s5 = step (readUrgency (s4 .after)) _ s rest (s4 .on) in
+    cc (number-passed 9 _ t (s1 .read), number-passed 9 _ _ (s2 .read), number-passed 9 _ _ (s3 .read), number-passed 9 _ _ (s4 .read), urgency-ends _ _ _ (s5 .read))
 
 -- ---- A line that is kept
 
@@ -31,14 +88,6 @@ unfolding keeping
 drops-it kept unreadable z = refl
 drops-it kept (found s rest) z = rw (ne-eqb (verdict kept (found s rest)) 0 z)
 
--- the first line of a text, and the others
-module _ (kept : List Spell) (t : List ℕ) (f : Found Spell) (h : 0 < length t) (e : readLine t ≡ f) where
-  pub kept-first : keptAfter kept (linesOf t) ≡ keptAfter (keeping kept f) (linesOf (afterLine t))
-  kept-first = unfold keptAfter in ap (keptAfter kept) (lines-first t h) ∙ ap (λ (g : Found Spell). keptAfter (keeping kept g) (linesOf (afterLine t))) e
-
-  pub verdicts-first : verdictsAfter kept (linesOf t) ≡ verdict kept f ∷ verdictsAfter (keeping kept f) (linesOf (afterLine t))
-  verdicts-first = unfold verdictsAfter in ap (verdictsAfter kept) (lines-first t h) ∙ ap (λ (g : Found Spell). verdict kept g ∷ verdictsAfter (keeping kept g) (linesOf (afterLine t))) e
-
 -- ---- What is kept can stand
 
 pub record Kept (l : List Spell) : Type 0 where
@@ -51,19 +100,18 @@ unfolding Each
 each-more [] s e p = (p, tt)
 each-more (x ∷ l) s e p = (e .0, each-more l s (e .1) p)
 
-kept-more : (l : List Spell) (t : List ℕ) (s : Spell) (rest : List ℕ) → readLine t ≡ found s rest → Passes l s → Kept l → Kept (l ++ (s ∷ []))
-kept-more l t s rest e p k =
-    let n = length-append l (s ∷ []) in
-    let sound = write-line t s rest e (p .entered) .0 in
-    search (each-more, distinct-more, arith)
-
 kept-line : (l : List Spell) (t : List ℕ) (f : Found Spell) → readLine t ≡ f → Kept l → Kept (keeping l f)
 unfolding keeping
 kept-line l t unreadable e k = k
 kept-line l t (found s rest) e k = by-cases Kept (eqb (verdict l (found s rest)) 0)
-    (λ v. kept-more l t s rest e (passes l s rest (eqb-true (verdict l (found s rest)) 0 v)) k) (λ v. k)
+    (λ v.
+    let p = passes l s rest (eqb-true (verdict l (found s rest)) 0 v) in
+    let n = length-append l (s ∷ []) in
+    let sound = write-line t s rest e (p .entered) .0 in
+    search (each-more, distinct-more, arith))
+    (λ v. k)
 
-pub kept-after : (l : List Spell) (lines : List (List ℕ)) → Kept l → Kept (keptAfter l lines)
+kept-after : (l : List Spell) (lines : List (List ℕ)) → Kept l → Kept (keptAfter l lines)
 unfolding keptAfter
 kept-after l [] k = k
 kept-after l (t ∷ lines) k = kept-after (keeping l (readLine t)) lines (kept-line l t (readLine t) refl k)
@@ -73,30 +121,19 @@ kept-good t = unfold Each distinct in kept-after [] (linesOf t) (record { each =
 
 -- ---- A good text is kept whole
 
-there : (t : List ℕ) (s : Spell) (rest : List ℕ) → readLine t ≡ found s rest → 0 < length t
-unfolding readLine readDecimal
-there [] s rest e = absurd (never e)
-there (b ∷ t) s rest e = omega arith
-
 -- the lines of m, after what is kept of those before, are all kept, and nothing is said of them
-whole : (m before : List Spell) → Each Sound m → distinct (before ++ m) ≡ true → length (before ++ m) ≤ 1024
+pub whole : (m before : List Spell) → Each Sound m → distinct (before ++ m) ≡ true → length (before ++ m) ≤ 1024
     → (keptAfter before (linesOf (textOnto m [])) ≡ before ++ m)
     × ((n : ℕ) → remarksFrom n (verdictsAfter before (linesOf (textOnto m []))) ≡ [])
 unfolding textOnto Each keptAfter verdictsAfter remarksFrom
-whole [] before e d h = (rw lines-none (sym (append-nil before)), λ n. rw lines-none)
+whole [] before e d h = unfold linesOf laterLines in (sym (append-nil before), λ n. refl)
 whole (x ∷ m) before e d h =
-    let room : length before < 1024 = omega (arith, length-append before (x ∷ m)) in
-    let p : Passes before x = record { entered = e .0 .entered; new = distinct-fresh before x m d; room = room } in
     let rest = textOnto m [] in
-    let t = lineText x rest in
+    let p : Passes before x = record { entered = e .0 .entered; new = distinct-fresh before x m d; room = omega (arith, length-append before (x ∷ m)) } in
+    let some : 0 < length (lineText x rest) = unfold lineText in le-trans (omega arith) (decimal-wide (x .number) _) in
     let read = read-line x rest (e .0) in
-    let some = there t x rest read in
+    let first : linesOf (lineText x rest) ≡ lineText x rest ∷ linesOf rest = rw (line-ends (lineText x rest) x rest read) at (lines-first (lineText x rest) some) in
     let later = whole m (before ++ (x ∷ [])) (e .1) (rw append-snoc d) (rw append-snoc h) in
     let kept = keeps-it before x rest p in
-    let ends = line-ends t x rest read in (
-      kept-first before t (found x rest) some read ∙ rw (kept, ends) (later .0 ∙ append-snoc before x m),
-      λ n. rw (verdicts-first before t (found x rest) some read, verdict-none before x rest p, kept, ends) (later .1 (suc n)),
-    )
-
-pub good-kept : (l : List Spell) → Good l → (keptOf (textOnto l []) ≡ l) × (remarksOf (textOnto l []) ≡ [])
-good-kept l g = let w = whole l [] (g .each) (g .unique) (g .few) in (w .0, w .1 1)
+    let none = verdict-none before x rest p in
+    (cc (append-snoc before x m), λ n. cc (later .1 (suc n)))

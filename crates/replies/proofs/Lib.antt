@@ -1,4 +1,3 @@
 pub mod Sending
-pub mod Placing
 pub mod Fitting
 pub mod Cases

@@ -15,6 +15,4 @@ module _ (call : Call) (o : Outcome) (ns ts : List ℕ) {out exit : List ℕ} {r
 
   pub sends-shape : o .refusal ≡ 0 → {w : Shape} → w ≡ shapeOf call → {v : Shape} → w ≡ v → Sends (shapeText v (answerOf o ns ts)) out r exit → Sends (callText call (answerOf o ns ts)) out r exit
   unfolding callText
-  sends-shape h is e s =
-      let same : shapeOf call ≡ _ = sym is ∙ e in
-      rw (eq-eqb (o .refusal) 0 h, same) s
+  sends-shape h is e s = rw (eq-eqb (o .refusal) 0 h, sym is ∙ e) s

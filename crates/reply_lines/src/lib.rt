@@ -1,4 +1,5 @@
 // The answers of one line: a request that is done, one of no form, a refusal.
+ghost use Prim.Native.Nat.{_≤_};
 ghost use lib.ListN.{length};
 ghost use Rattle.fields.specs.Answers.{Puts};
 ghost use Rattle.replies.specs.Replies.{okText, malformedText, bytesText, refusedText, refusedLine};
@@ -28,16 +29,24 @@ pub fn put_bytes(out: &mut [u8], at: usize, text: &[u8]) -> usize
     start
 }
 
+// A text alone.
+fn put_alone(out: &mut [u8; OUT], text: &[u8]) -> usize
+    requires { ⌜ length (now text) ≤ 65536 ⌝ }
+    ensures { λ r. ⌜ Sends (now (text .entry)) (now (out .entry)) r (now (out .exit)) ⌝ }
+{
+    put_bytes(out, OUT, text)
+}
+
 pub fn put_ok(out: &mut [u8; OUT]) -> usize
     ensures { λ r. ⌜ Sends okText (now (out .entry)) r (now (out .exit)) ⌝ }
 {
-    put_bytes(out, OUT, b"ok\n")
+    put_alone(out, b"ok\n")
 }
 
 pub fn put_malformed(out: &mut [u8; OUT]) -> usize
     ensures { λ r. ⌜ Sends malformedText (now (out .entry)) r (now (out .exit)) ⌝ }
 {
-    put_bytes(out, OUT, b"malformed\n")
+    put_alone(out, b"malformed\n")
 }
 
 // A refused call.

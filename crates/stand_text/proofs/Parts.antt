@@ -1,5 +1,5 @@
 -- The lines of days put one after the other into a part, and the parts one after another into the whole text. Assumes nothing.
-use Rattle.basis.proofs.Prelude.{_∙_, _≡_, ap, refl, _+_, _-_, _<_, _≤_, suc, zero, ℕ, List, [], _++_, append-assoc, append-nil, Bool, false, true, _⊎_, inl, inr, ⊎-elim, leb, drop, length, add-one, add-zero, zero-add, arith, by-cases, le-leb, lt-leb, clash}
+use Rattle.basis.proofs.Prelude.{_∙_, _≡_, ap, refl, _+_, _-_, _<_, _≤_, suc, zero, ℕ, List, [], _++_, append-assoc, append-nil, Bool, false, true, _⊎_, ⊎-elim, leb, drop, length, add-one, add-zero, zero-add, arith, by-cases, le-leb, leb-false, leb-true, clash}
 use Rattle.spell.specs.declared.Spell.{Spell}
 use Rattle.register.specs.Text.{readText}
 use Rattle.model.specs.{declared.Call.the-variants.Publish, Effects.settle, Publishing.publishedOf, Model.{begun, refusalIn, effectOf, step}}
@@ -22,71 +22,28 @@ lines-join (suc j) k d p =
 
 -- ---- The days that a part takes
 
-taken-le : (k d n : ℕ) (p : List Spell) → taken k d n p ≤ k
+-- no more than are left, none where there is no room for a line, and one or more where there is room and a day
+taken-so : (k d n : ℕ) (p : List Spell) → (taken k d n p ≤ k) × (57344 < n → taken k d n p ≡ 0) × (0 < k → n ≤ 57344 → 0 < taken k d n p)
 unfolding taken
-taken-le zero d n p = omega arith
-taken-le (suc k) d n p =
-    let h = taken-le k (suc d) (n + length (dayLine d p)) p in
-    by-cases (λ (m : ℕ). m ≤ suc k) (leb n 57344) (λ _. omega arith) (λ _. omega arith)
-
--- with no day left, or no room for a line, none is taken
-taken-none : (k d n : ℕ) (p : List Spell) → (k ≡ 0) ⊎ (57344 < n) → taken k d n p ≡ 0
-unfolding taken
-taken-none zero d n p h = refl
-taken-none (suc k) d n p (inl h) = absurd (omega arith)
-taken-none (suc k) d n p (inr h) = rw (lt-leb n 57344 h)
-
--- a part takes at least one day of those that are left, and no day after them
-days-le : (d : ℕ) (p : List Spell) → d ≤ 4001 → nextOf d p ≤ 4001
-days-le d p h = omega (arith, taken-le (4001 - d) d 0 p)
-
-days-some : (d : ℕ) (p : List Spell) → d ≤ 4000 → d < nextOf d p
-unfolding taken
-days-some d p h = let left : 4001 - d ≡ suc (4000 - d) = omega arith in rw left (omega arith)
+taken-so zero d n p = omega arith
+taken-so (suc k) d n p =
+    let h = taken-so k (suc d) (n + length (dayLine d p)) p .0 in
+    by-cases (λ (m : ℕ). (m ≤ suc k) × (57344 < n → m ≡ 0) × (0 < suc k → n ≤ 57344 → 0 < m)) (leb n 57344) (λ e. omega (arith, leb-true)) (λ e. omega (arith, leb-false))
 
 -- ---- A part
 
--- a text stands in the first n places, and the part has after it the lines of the days that are taken from day d on
-pub record Filling (p : List Spell) (from : ℕ) (entry : List ℕ) (n d : ℕ) (out : List ℕ) : Type 0 where
-  pub text : List ℕ
-  pub put : Appends text entry 0 n out
-  pub part : partOf from p ≡ text ++ linesOf (taken (4001 - d) d n p) d p
-  pub next : nextOf from p ≡ d + taken (4001 - d) d n p
-
-module _ {p : List Spell} {from : ℕ} {entry : List ℕ} {n d : ℕ} {out : List ℕ} (f : Filling p from entry n d out) where
-  -- one line more
-  filling-one : {n′ : ℕ} {line out′ : List ℕ} → d ≤ 4000 → n ≤ 57344 → n ≤ length out → line ≡ dayLine d p → Appends line out n n′ out′
-      → Filling p from entry n′ (d + 1) out′
-  unfolding taken linesOf
-  filling-one {n′} {line} last room inside is a =
-      let left : 4001 - d ≡ suc (4001 - (d + 1)) = omega arith in
-      let on : taken (4001 - d) d n p ≡ suc (taken (4001 - (d + 1)) (d + 1) n′ p)
-      = rw (left, le-leb n 57344 room, a .place, is, add-one d) in
-      record {
-        text = f .text ++ line;
-        put = appends-on (omega arith) (f .put) inside a;
-        part = f .part ∙ rw (on, is, append-assoc, add-one d);
-        next = omega (arith, f .next, on);
-      }
-
-  -- no room for a line more, or no day left
-  filling-all : (4000 < d) ⊎ (57344 < n) → Stands p from entry (record { bytes = n; next = d }) out
-  unfolding linesOf
-  filling-all over =
-      let none-left = taken-none (4001 - d) d n p (⊎-elim (λ h. inl (omega arith)) inr over) in
-      let all : partOf from p ≡ f .text = f .part ∙ rw (none-left, append-nil) in
-      record { bytes = rw all (omega (arith, f .put .place)); next = omega (arith, f .next); places = rw all (f .put .places) }
-
--- the same over whatever published list the index shows
+-- a text stands in the first n places, and the part has after it the lines of the days that are taken from day d on, over whatever published
+-- list the index shows
 pub record Filled (ix : List ℕ) (from : ℕ) (entry : List ℕ) (n d : ℕ) (out : List ℕ) : Type 0 where
   pub inside : n ≤ 65536
-  pub lines : (p : List Spell) → Shows ix p → Filling p from entry n d out
+  pub text : List ℕ
+  pub put : Appends text entry 0 n out
+  pub part : (p : List Spell) → Shows ix p → partOf from p ≡ text ++ linesOf (taken (4001 - d) d n p) d p
+  pub next : (p : List Spell) → Shows ix p → nextOf from p ≡ d + taken (4001 - d) d n p
 
 pub filled-none : (ix : List ℕ) (from : ℕ) (entry : List ℕ) → Filled ix from entry 0 from entry
-unfolding linesOf
 filled-none ix from entry =
-    let start : Appends [] entry 0 0 entry = record { place = omega arith; places = refl } in
-    record { inside = omega arith; lines = λ p shows. record { text = []; put = start; part = refl; next = refl } }
+    record { inside = omega arith; text = []; put = record { place = omega arith; places = refl }; part = λ p s. refl; next = λ p s. refl }
 
 -- a buffer that a day's line ends keeps its length
 pub line-sized : {ix : List ℕ} {d : ℕ} {buf₀ buf : List ℕ} {r : ℕ} → length buf₀ ≡ 8192 → DayEnds ix d buf₀ r buf → Published ix
@@ -97,22 +54,37 @@ module _ {ix : List ℕ} {from : ℕ} {entry : List ℕ} {n d : ℕ} {out : List
   -- and the line is appended: a list of 65,536 places has room for it
   pub filled-one : {buf₀ buf : List ℕ} {r n′ : ℕ} {out′ : List ℕ} → length buf₀ ≡ 8192 → length out ≡ 65536 → d ≤ 4000 → n ≤ 57344
       → DayEnds ix d buf₀ r buf → Appended (drop r buf) out n n′ out′ → Filled ix from entry n′ (d + 1) out′
+  unfolding taken linesOf
   filled-one {buf₀} {buf} {r} {n′} {out′} size places last room e put =
-      let stands : (p : List Spell) → Shows ix p → drop r buf ≡ dayLine d p = λ p shows. sends-bytes (e .line p shows) in
-      let long : length (drop r buf) ≤ 8192 = omega (arith, ap length (stands (g .list) (g .shows)), e .line (g .list) (g .shows) .fits) in
+      let is : (p : List Spell) → Shows ix p → drop r buf ≡ dayLine d p = λ p s. sends-bytes (e .line p s) in
+      let long : length (drop r buf) ≤ 8192 = omega (arith, ap length (is (g .list) (g .shows)), e .line (g .list) (g .shows) .fits) in
       let a = appended-room (drop r buf) out n n′ out′ put (omega arith) in
-      record { inside = omega (arith, a .place); lines = λ p s. filling-one (f .lines p s) last room (omega arith) (stands p s) a }
+      let left : 4001 - d ≡ suc (4001 - (d + 1)) = omega arith in
+      let on : (p : List Spell) → Shows ix p → taken (4001 - d) d n p ≡ suc (taken (4001 - (d + 1)) (d + 1) n′ p)
+      = λ p s. rw (left, le-leb n 57344 room, a .place, is p s, add-one d) in
+      record {
+        inside = omega (arith, a .place);
+        text = f .text ++ drop r buf;
+        put = appends-on (omega arith) (f .put) (omega arith) a;
+        part = λ p s. f .part p s ∙ rw (on p s, is p s, append-assoc, add-one d);
+        next = λ p s. omega (arith, f .next p s, on p s);
+      }
 
+  -- no room for a line more, or no day left
   pub filled-all : (4000 < d) ⊎ (57344 < n) → PartStands ix from entry (record { bytes = n; next = d }) out
+  unfolding linesOf
   filled-all over =
-      let part : (p : List Spell) → Shows ix p → Stands p from entry (record { bytes = n; next = d }) out
-      = λ p shows. filling-all (f .lines p shows) over in
-      let next = part (g .list) (g .shows) .next in
+      let none : (p : List Spell) → taken (4001 - d) d n p ≡ 0
+      = λ p. let t = taken-so (4001 - d) d n p in ⊎-elim (λ h. omega arith) (t .1) over in
+      let all : (p : List Spell) → Shows ix p → partOf from p ≡ f .text = λ p s. f .part p s ∙ rw (none p, append-nil) in
+      let next : (p : List Spell) → Shows ix p → d ≡ nextOf from p = λ p s. omega (arith, f .next p s, none p) in
+      let so = taken-so (4001 - from) from 0 (g .list) in
+      let to = next (g .list) (g .shows) in
       record {
         inside = f .inside;
-        onward = λ h. omega (arith, days-some from (g .list) h);
-        within = λ h. omega (arith, days-le from (g .list) h);
-        part = part;
+        onward = λ h. omega (arith, so .2 (omega arith) (omega arith));
+        within = λ h. omega arith;
+        part = λ p s. record { bytes = rw (all p s) (omega (arith, f .put .place)); next = next p s; places = rw (all p s) (f .put .places) };
       }
 
 -- ---- The whole text
@@ -122,9 +94,9 @@ come-to : {p : List Spell} {d : ℕ} {text : List ℕ} → Come p d text → (d 
 come-to none = (omega arith, refl)
 come-to {p} (more {d} {text} c) =
     let so = come-to c in
-    let upto = days-le d p (so .0) in
+    let few = taken-so (4001 - d) d 0 p .0 in
     let days : 4001 - d ≡ partDays d p + (4001 - nextOf d p) = omega arith in
-    (upto, rw (append-assoc, ← lines-join (partDays d p) (4001 - nextOf d p) d p, ← days) (so .1))
+    (omega arith, rw (append-assoc, ← lines-join (partDays d p) (4001 - nextOf d p) d p, ← days) (so .1))
 
 -- parts, one after another from day 1 until the day to go on with is 4,001, make the text of all days
 pub come-whole : {p : List Spell} {text : List ℕ} → Come p 4001 text → text ≡ textOf p
@@ -134,27 +106,18 @@ come-whole c = rw append-nil at (come-to c .1)
 -- ---- What is printed
 
 -- over whatever published list the index shows, parts have come to a day
-pub record Printing (ix : List ℕ) (d : ℕ) : Type 0 where
-  pub upto : d ≤ 4001
-  pub reached : (p : List Spell) → Shows ix p → Reached p d
-
-pub printing-none : (ix : List ℕ) → Printing ix 1
-printing-none ix = record { upto = omega arith; reached = λ p shows. record { text = []; come = none } }
+abbrev pub Printing : List ℕ → ℕ → Type 0
+Printing ix d = (p : List Spell) → Shows ix p → Reached p d
 
 module _ {ix : List ℕ} {d : ℕ} (f : Printing ix d) where
   pub printing-one : {entry exit : List ℕ} {r : Part} → PartStands ix d entry r exit → Printing ix (r .next)
-  printing-one {entry} {exit} {r} s = record {
-    upto = s .within (f .upto);
-    reached = λ p shows.
-        let so = f .reached p shows in
-        record { text = so .text ++ partOf d p; come = rw (s .part p shows .next) (more (so .come)) };
-  }
+  printing-one s p shows = let so = f p shows in record { text = so .text ++ partOf d p; come = rw (s .part p shows .next) (more (so .come)) }
 
   pub printing-all : 4000 < d → PrintedOn ix d true
-  printing-all h p shows = record { reached = f .reached p shows; all = λ _. omega (arith, f .upto) }
+  printing-all h p shows = record { reached = f p shows; all = λ _. omega (arith, come-to (f p shows .come) .0) }
 
   pub printing-some : PrintedOn ix d false
-  printing-some p shows = record { reached = f .reached p shows; all = λ e. absurd (clash e refl) }
+  printing-some p shows = record { reached = f p shows; all = λ e. absurd (clash e refl) }
 
 -- where all parts are printed, they are the text of all days
 pub printed-whole : {p : List Spell} {next : ℕ} (s : Printed p next true) → s .reached .text ≡ textOf p

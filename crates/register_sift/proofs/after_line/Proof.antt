@@ -1,6 +1,6 @@
 -- `register_sift::after_line` meets its contract: what follows the line is what follows it from the place i on. Assumes nothing.
 use Rattle.basis.proofs.Prelude.{_≡_, _-_, _≤_, drop, length, arith, needs}
-use Rattle.register_sift.proofs.{Names.afterLine, Passing.{ends-here, goes-on, ends-text}, after_line.{Statement.statement, Tie.close, Tie.spec}}
+use Rattle.register_sift.proofs.{Names.afterLine, Judging.{ends-here, goes-on, ends-text}, after_line.{Statement.statement, Tie.close, Tie.spec}}
 
 pub after-line-spec : {M : Type 1} → statement M
 after-line-spec = close (spec

@@ -6,16 +6,6 @@ pub sift-lines-spec : {M : Type 1} → statement M
 sift-lines-spec = close (spec
     (λ text met₀ spells₀ seen₀ count₀ lines₀ at₀ met spells seen count lines at. State text met₀ met spells seen count lines at)
     (λ text _ _ _ _ _ _ _ _ _ _ _ at. length text - at)
-    (λ c κs. tt) (λ c. begins _ _ (c .blank .ensures) (c .before .before .before .pre .1))
-    (λ c κs. tt) (λ c. omega arith) (λ c. omega arith) (λ c. omega arith)  -- met[lines]
-    (λ c κs. c .before .before .before .loop .inv .inside)
-    (λ c. omega (arith, c .before .before .after-line .ensures .further (c .before .before .before .before .before .loop-test .taken)))
-    (λ c. search drops)
-    -- a line that is kept: spells[count] and seen[n]
-    (λ c. search needs)
-    (λ c. omega (arith, c .before .before .before .before .before .judge .ensures .room (omega (arith, c .before .before .if1 .left))))
-    (λ c. omega (arith, c .before .before .before .before .before .judge .ensures .room (omega (arith, c .before .before .if1 .left))))
-    (λ c. search needs)
-    (λ c. omega (arith, c .before .before .before .before .before .judge .ensures .room (omega (arith, c .before .before .if1 .left))))
-    (λ c. omega (arith, c .before .before .before .before .after-line .ensures .further (c .before .before .before .before .before .before .before .loop-test .taken)))
-    (λ c. search (keeps-one, needs)) (λ c. search arith) (λ c. search ends))
+    (λ c κs. tt) (λ c. search (begins, needs)) (λ c κs. omega arith) (λ c. omega arith) (λ c. omega arith) (λ c. omega arith) (λ c κs. omega arith)
+    (λ c. omega arith) (λ c. search drops) (λ c. search needs) (λ c. omega arith) (λ c. omega arith) (λ c. search needs) (λ c. omega arith)
+    (λ c. omega arith) (λ c. search (keeps-one, needs)) (λ c. search arith) (λ c. search ends))

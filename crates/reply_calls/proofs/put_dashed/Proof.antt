@@ -1,6 +1,6 @@
 -- `reply_calls::put_dashed` meets its contract. Assumes nothing.
 use Rattle.basis.proofs.Prelude.{needs}
-use Rattle.replies.{specs.Replies.dashedText, proofs.Placing.placing}
+use Rattle.replies.{specs.Replies.dashedText, proofs.Sending.placing}
 use Rattle.reply_calls.proofs.put_dashed.{Statement.statement, Tie.{close, spec}}
 
 pub put-dashed-spec : {M : Type 1} → statement M

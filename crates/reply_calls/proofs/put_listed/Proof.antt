@@ -1,6 +1,6 @@
 -- `reply_calls::put_listed` meets its contract. Assumes nothing.
 use Rattle.basis.proofs.Prelude.{needs}
-use Rattle.replies.{specs.Replies.listedText, proofs.Placing.placing}
+use Rattle.replies.{specs.Replies.listedText, proofs.Sending.placing}
 use Rattle.reply_calls.proofs.put_listed.{Statement.statement, Tie.{close, spec}}
 
 pub put-listed-spec : {M : Type 1} → statement M

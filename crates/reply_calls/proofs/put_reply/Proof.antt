@@ -1,6 +1,6 @@
 -- `reply_calls::put_reply` meets its contract: what fits its lists, and what does not. Assumes nothing.
 use Rattle.basis.proofs.Prelude.{needs}
-use Rattle.replies.proofs.{Placing.placing, Fitting.{fitted, put-whole, put-nothing}}
+use Rattle.replies.proofs.{Sending.placing, Fitting.{fitted, put-whole, put-nothing}}
 use Rattle.reply_calls.proofs.put_reply.{Statement.statement, Tie.{close, spec}}
 
 pub put-reply-spec : {M : Type 1} → statement M

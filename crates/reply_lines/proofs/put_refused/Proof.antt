@@ -1,6 +1,6 @@
 -- `reply_lines::put_refused` meets its contract. Assumes nothing.
 use Rattle.basis.proofs.Prelude.{needs}
-use Rattle.replies.{specs.Replies.refusedText, proofs.Placing.placing}
+use Rattle.replies.{specs.Replies.refusedText, proofs.Sending.placing}
 use Rattle.reply_lines.proofs.put_refused.{Statement.statement, Tie.{close, spec}}
 
 pub put-refused-spec : {M : Type 1} → statement M

@@ -1,6 +1,6 @@
 -- `reply_lines::put_refused_line` meets its contract. Assumes nothing.
 use Rattle.basis.proofs.Prelude.{needs}
-use Rattle.replies.{specs.Replies.refusedLine, proofs.Placing.placing}
+use Rattle.replies.{specs.Replies.refusedLine, proofs.Sending.placing}
 use Rattle.reply_lines.proofs.put_refused_line.{Statement.statement, Tie.{close, spec}}
 
 pub put-refused-line-spec : {M : Type 1} → statement M

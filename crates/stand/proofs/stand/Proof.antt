@@ -2,13 +2,7 @@
 use Rattle.basis.proofs.Prelude.{[], refl, needs}
 use Rattle.service.proofs.{Beginning.{publishes-given, publishes-met}, Represented.represented}
 use Rattle.stand_text.proofs.Parts.{printed-of, refused-none}
-use Rattle.stand.proofs.stand.{Statement.statement, Tie.{Need-returns-2, close, spec}}
-
-returns-2 : Need-returns-2
-returns-2 c =
-    let begun = c .before .before .before .before .before .before .before .read .ensures .represents in
-    let met = publishes-met (c .before .before .publish .ensures) [] [] [] (represented begun) in
-    printed-of _ (c .print-days .ensures) (met .after _ begun .shows)
+use Rattle.stand.proofs.stand.{Statement.statement, Tie.{close, spec}}
 
 pub stand-spec : {M : Type 1} → statement M
 stand-spec = close (spec
@@ -16,4 +10,7 @@ stand-spec = close (spec
     (λ c κs.
     let read = c .before .before .before .before .before .before .read .ensures in
     publishes-given (c .before .publish .ensures) refl (read .represents .valid) .published)
-    returns-2)
+    (λ c.
+    let begun = c .before .before .before .before .before .before .before .read .ensures .represents in
+    let met = publishes-met (c .before .before .publish .ensures) [] [] [] (represented begun) in
+    printed-of _ (c .print-days .ensures) (met .after _ begun .shows)))
