@@ -1,5 +1,7 @@
 -- What holds of each element of a list. Assumes nothing.
-use Rattle.basis.proofs.Prelude.{_≡_, ap, refl, _∙_, ℕ, zero, suc, _<_, List, [], _∷_, _++_, map, getD, length, arith}
+use Rattle.basis.proofs.Prelude.{_≡_, ap, refl, _∙_, ℕ, zero, suc, _<_, List, [], _∷_, _++_, map, getD, length, length-map, List·getD-map, drop-cons, arith}
+
+pub use mathlib.Core.List.{map-map, map-id}
 
 -- P holds of each
 abbrev pub Each : {A : Type 0} → (A → Type 0) → List A → Type 0
@@ -25,16 +27,6 @@ pub map-same : {A B : Type 0} (f g : A → B) (P : A → Type 0) → ((x : A) �
 map-same f g P agree [] k = refl
 map-same f g P agree (x ∷ l) k = ap (λ z. z ∷ map f l) (agree x (k .0)) ∙ ap (λ r. g x ∷ r) (map-same f g P agree l (k .1))
 
-pub map-map : {A B C : Type 0} (f : B → C) (g : A → B) (l : List A) → map f (map g l) ≡ map (λ x. f (g x)) l
-map-map f g [] = refl
-map-map f g (x ∷ l) = ap (λ r. f (g x) ∷ r) (map-map f g l)
-
-pub map-id : {A : Type 0} (l : List A) → map (λ x. x) l ≡ l
-map-id [] = refl
-map-id (x ∷ l) = ap (λ r. x ∷ r) (map-id l)
-
 -- a mapped list at a place that it has
 pub map-at : {A B : Type 0} (f : A → B) (l : List A) (i : ℕ) (d : A) (e : B) → i < length l → getD (map f l) i e ≡ f (getD l i d)
-map-at f [] i d e h = absurd (omega arith)
-map-at f (x ∷ l) zero d e h = refl
-map-at f (x ∷ l) (suc i) d e h = map-at f l i d e (omega arith)
+map-at f l i d e h = let k : i < length (map f l) = rw length-map h in cc (drop-cons (map f l) i e k, drop-cons (map f l) i (f d) k, List·getD-map f l i d)

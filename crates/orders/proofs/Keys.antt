@@ -23,11 +23,7 @@ pub key-last : (x y : ℕ) → ltb x y ≡ cond (eqb x y) false (ltb x y)
 key-last x y = by-test (eqb x y) (λ e. rw (e, eqb-true x y e) (le-ltb y y (omega arith))) (λ e. rw e)
 
 pub numbers : Total ltb
-numbers = record {
-  asym = λ x y h. le-ltb y x (omega (arith, ltb-true x y h));
-  trans = λ x y z h k. le-ltb z x (omega (arith, ltb-false y x h, ltb-false z y k));
-  one = λ x y h k. omega (arith, ltb-false x y h, ltb-false y x k);
-}
+numbers = omega (arith, le-ltb, ltb-true, ltb-false)
 
 -- ---- Any keys
 

@@ -1,16 +1,10 @@
 -- Insertion sort by a test that is a total order. Assumes nothing.
-use Rattle.basis.proofs.Prelude.{_≡_, refl, sym, ap, _∙_, ℕ, suc, _+_, _≤_, _<_, List, [], _∷_, _++_, append-nil, map, Bool, true, false, not, cond, _&&_, getD, length, drop, length-drop, drop-cons, add-one, arith, both, by-cases, by-test, clash, not-true, untrue}
+use Rattle.basis.proofs.Prelude.{_≡_, refl, sym, ap, _∙_, ℕ, suc, _+_, _≤_, _<_, List, [], _∷_, _++_, append-nil, map, Bool, true, false, not, cond, _&&_, getD, length, drop, drop-of-length-le, drop-cons, ltb, ltb-true, ltb-false, add-one, arith, both, by-cases, by-test, clash, not-true, untrue}
 use Rattle.orders.specs.Orders.{insertBy, sortedBy, inOrderBy}
 use Rattle.orders.proofs.Each.{Each, each-weaken}
 
 module _ {A : Type 0} (t : A → A → Bool) where
   -- ---- One element put in
-
-  pub hit : (x y : A) (l : List A) → t y x ≡ false → insertBy t x (y ∷ l) ≡ x ∷ y ∷ l
-  hit x y l e = unfold insertBy in rw e
-
-  pub miss : (x y : A) (l : List A) → t y x ≡ true → insertBy t x (y ∷ l) ≡ y ∷ insertBy t x l
-  miss x y l e = unfold insertBy in rw e
 
   pub each-inserted : (P : A → Type 0) (x : A) (l : List A) → P x → Each P l → Each P (insertBy t x l)
   unfolding insertBy
@@ -26,10 +20,7 @@ module _ {A : Type 0} (t : A → A → Bool) where
   pub inserted-first : (x : A) (l : List A) → Each (λ y. t y x ≡ false) l → insertBy t x l ≡ x ∷ l
   unfolding insertBy
   inserted-first x [] k = refl
-  inserted-first x (y ∷ l) k = hit x y l (k .0)
-
-  pub sorted-first : (x : A) (l : List A) → Each (λ y. t y x ≡ false) l → sortedBy t (x ∷ l) ≡ x ∷ sortedBy t l
-  sorted-first x l k = unfold sortedBy in inserted-first x (sortedBy t l) (each-sorted (λ y. t y x ≡ false) l k)
+  inserted-first x (y ∷ l) k = rw (k .0)
 
   pub inserted-length : (x : A) (l : List A) → length (insertBy t x l) ≡ suc (length l)
   unfolding insertBy
@@ -56,27 +47,17 @@ module _ {A : Type 0} (t : A → A → Bool) where
   unfolding sortedBy inOrderBy insertBy
   in-order-sorted [] h = refl
   in-order-sorted (x ∷ []) h = refl
-  in-order-sorted (x ∷ y ∷ l) h = let p = first-two x y l h in ap (insertBy t x) (in-order-sorted (y ∷ l) (p .1)) ∙ hit x y l (p .0)
+  in-order-sorted (x ∷ y ∷ l) h = let p = first-two x y l h in ap (insertBy t x) (in-order-sorted (y ∷ l) (p .1)) ∙ rw (p .0)
 
   -- a pass over the list, at the place i: the two there are in order, or not, or there are no two
   module _ (d : A) where
-    pass : (l : List A) (i : ℕ) → i + 1 < length l → inOrderBy t (drop i l) ≡ not (t (getD l (i + 1) d) (getD l i d)) && inOrderBy t (drop (i + 1) l)
+    pub pass : (l : List A) (i : ℕ) → i + 1 < length l → inOrderBy t (drop i l) ≡ not (t (getD l (i + 1) d) (getD l i d)) && inOrderBy t (drop (i + 1) l)
     pass l i h = unfold inOrderBy in rw (drop-cons l i d (omega arith), ← add-one i, drop-cons l (i + 1) d h)
 
-    pub pass-on : (l : List A) (i : ℕ) → i + 1 < length l → t (getD l (i + 1) d) (getD l i d) ≡ false → inOrderBy t (drop i l) ≡ inOrderBy t (drop (i + 1) l)
-    pass-on l i h e = pass l i h ∙ rw e
-
-    pub pass-off : (l : List A) (i : ℕ) → i + 1 < length l → t (getD l (i + 1) d) (getD l i d) ≡ true → inOrderBy t (drop i l) ≡ false
-    pass-off l i h e = pass l i h ∙ rw e
-
-  pub pass-end : (l : List A) (i : ℕ) → length l ≤ i + 1 → inOrderBy t (drop i l) ≡ true
-  unfolding inOrderBy
-  pass-end l i h = short (drop i l) (omega (arith, length-drop i l))
-    where
-      short : (m : List A) → length m ≤ 1 → inOrderBy t m ≡ true
-      short [] k = refl
-      short (x ∷ []) k = refl
-      short (x ∷ y ∷ m) k = absurd (omega arith)
+    pub pass-end : (l : List A) (i : ℕ) → length l ≤ i + 1 → inOrderBy t (drop i l) ≡ true
+    pass-end l i h = unfold inOrderBy in by-test (ltb i (length l))
+        (λ e. rw (drop-cons l i d (ltb-true i (length l) e), drop-of-length-le l {i = suc i} (omega arith)))
+        (λ e. rw (drop-of-length-le l {i = i} (ltb-false i (length l) e)))
 
 -- ---- A sort and a map
 
@@ -114,10 +95,6 @@ module _ {A : Type 0} {t : A → A → Bool} (o : Total t) where
   pub irrefl : (x : A) → t x x ≡ false
   irrefl x = untrue (t x x) (λ e. clash e (o .asym x x e))
 
-  -- one of two different elements comes before the other
-  pub either-first : (x y : A) → (x ≡ y → ⊥) → t y x ≡ false → t x y ≡ true
-  either-first x y d e = by-test (t x y) (λ h. h) (λ h. absurd (d (o .one x y h e)))
-
   pub later : (x y z : A) → t x y ≡ true → t y z ≡ true → t x z ≡ true
   later x y z h k = by-test (t x z) (λ e. e) (λ e. absurd (clash k (o .trans z x y e (o .asym x y h))))
 
@@ -137,11 +114,9 @@ module _ {A : Type 0} {t : A → A → Bool} (o : Total t) where
   unfolding insertBy inOrderBy
   inserted-in-order x [] h = refl
   inserted-in-order x (y ∷ l) h =
-      let first = in-order-first y l h in
+      let first = in-order-first y l h in let rest = inserted-in-order x l (in-order-tail t y l h) in
       by-cases (λ (r : List A). inOrderBy t r ≡ true) (t y x)
-      (λ e.
-      let others = each-inserted t (λ z. t z y ≡ false) x l (o .asym y x e) first in
-      in-order-cons y (insertBy t x l) others (inserted-in-order x l (in-order-tail t y l h)))
+      (λ e. in-order-cons y (insertBy t x l) (each-inserted t (λ z. t z y ≡ false) x l (o .asym y x e) first) rest)
       (λ e. in-order-cons x (y ∷ l) (e, each-after x y l e first) h)
 
   -- what sorting gives is in order

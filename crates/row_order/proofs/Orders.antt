@@ -1,6 +1,6 @@
 -- The orders of positions, and a sort of different numbers: the place of a number tells as much as the test. Assumes nothing.
-use Rattle.basis.proofs.Prelude.{by-eq, le-refl, eq-eqb, ne-eqb, ℕ, zero, suc, _+_, _*_, _<_, arith, _≡_, refl, sym, ap, _∙_, Bool, true, cond, List, [], _∷_, lt-ltb, le-ltb, ltb-true, ltb-false, ltb, eqb, length, getD, by-test}
-use Rattle.orders.{specs.Orders.{lexical, insertBy}, proofs.{Each.{Each, each-at, each-weaken}, Sorting.{Total, hit, miss, each-inserted, irrefl, either-first, later}, Keys.{key-last, by-keys}}}
+use Rattle.basis.proofs.Prelude.{by-cases, by-eq, ℕ, zero, suc, _+_, _*_, _<_, arith, _≡_, refl, sym, ap, _∙_, Bool, true, cond, List, [], _∷_, lt-ltb, le-ltb, ltb-true, ltb-false, ltb, eqb, length, getD, by-test}
+use Rattle.orders.{specs.Orders.{lexical, insertBy}, proofs.{Each.{Each, each-at, each-weaken}, Sorting.{Total, each-inserted, irrefl, later}, Keys.{key-is, key-is-not, key-last, by-keys}}}
 use Rattle.row_order.specs.Arranged.{byMinor, byBoth}
 
 -- three ways in which two numbers stand
@@ -23,12 +23,9 @@ by-place minor p q = unfold byMinor lexical in ap (λ (b : Bool). cond (eqb (get
 
 -- two keys in one number
 pub packed : (x y p q : ℕ) → p < 1024 → q < 1024 → ltb (x * 1024 + p) (y * 1024 + q) ≡ cond (eqb x y) (ltb p q) (ltb x y)
-packed x y p q h k = three x y
-    (λ l. rw (ne-eqb x y (λ z. omega arith), lt-ltb x y l) (lt-ltb (x * 1024 + p) (y * 1024 + q) (omega arith)))
-    (λ z. rw (eq-eqb x y z) (by-test (ltb p q)
-    (λ d. rw d (lt-ltb (x * 1024 + p) (y * 1024 + q) (omega (arith, ltb-true p q d))))
-    (λ d. rw d (le-ltb (x * 1024 + p) (y * 1024 + q) (omega (arith, ltb-false p q d))))))
-    (λ l. rw (ne-eqb x y (λ z. omega arith), le-ltb x y (omega arith)) (le-ltb (x * 1024 + p) (y * 1024 + q) (omega arith)))
+packed x y p q h k = by-test (ltb (x * 1024 + p) (y * 1024 + q))
+    (λ e. e ∙ sym (key-is x y _ (omega (arith, ltb-true)) (λ z. lt-ltb p q (omega (arith, ltb-true)))))
+    (λ e. e ∙ sym (key-is-not x y _ (omega (arith, ltb-false)) (λ z. le-ltb p q (omega (arith, ltb-false)))))
 
 -- ---- A list of different numbers, sorted
 
@@ -41,11 +38,10 @@ module _ {t : ℕ → ℕ → Bool} (o : Total t) where
   pub inserted-strict : (x : ℕ) (l : List ℕ) → Each (λ y. x < y) l → Strict t l → Strict t (insertBy t x l)
   unfolding insertBy
   inserted-strict x [] d k = (tt, tt)
-  inserted-strict x (y ∷ l) d k = by-test (t y x)
-      (λ e. rw (miss t x y l e) (each-inserted t (λ z. t y z ≡ true) x l e (k .0), inserted-strict x l (d .1) (k .1)))
-      (λ e.
-      let f : t x y ≡ true = either-first o x y (λ z. omega (arith, d .0)) e in
-      rw (hit t x y l e) ((f, each-weaken (λ z. t y z ≡ true) (λ z. t x z ≡ true) (λ z. later o x y z f) l (k .0)), k))
+  inserted-strict x (y ∷ l) d k = by-cases (Strict t) (t y x)
+      (λ e. (each-inserted t (λ z. t y z ≡ true) x l e (k .0), inserted-strict x l (d .1) (k .1)))
+      (λ e. let f : t x y ≡ true = by-test (t x y) (λ g. g) (λ g. absurd (omega (arith, d .0, o .one x y g e))) in
+      ((f, each-weaken (λ z. t y z ≡ true) (λ z. t x z ≡ true) (λ z. later o x y z f) l (k .0)), k))
 
   strict-at : (l : List ℕ) (r s : ℕ) → Strict t l → r < s → s < length l → t (getD l r 0) (getD l s 0) ≡ true
   strict-at [] r s k h i = absurd (omega arith)
@@ -54,7 +50,5 @@ module _ {t : ℕ → ℕ → Bool} (o : Total t) where
   strict-at (x ∷ l) (suc r) (suc s) k h i = strict-at l r s (k .1) (omega arith) (omega arith)
 
   pub rank : (l : List ℕ) → Strict t l → (r s : ℕ) → r < length l → s < length l → ltb r s ≡ t (getD l r 0) (getD l s 0)
-  rank l k r s hr hs = three r s
-      (λ h. lt-ltb r s h ∙ sym (strict-at l r s k h hs))
-      (λ z. rw z (le-ltb s s (le-refl s) ∙ sym (irrefl o (getD l s 0))))
-      (λ h. le-ltb r s (omega arith) ∙ sym (o .asym (getD l s 0) (getD l r 0) (strict-at l s r k h hr)))
+  rank l k r s hr hs = by-test (ltb r s) (λ e. e ∙ sym (strict-at l r s k (ltb-true r s e) hs))
+      (λ e. e ∙ sym (by-eq s r (ltb-false r s e) (λ z. rw z (irrefl o (getD l r 0))) (λ h. o .asym _ _ (strict-at l s r k h hr))))

@@ -1,6 +1,6 @@
 -- Positions sorted by an order; columns below a limit; positions in order, two by two. Assumes nothing.
 use Rattle.basis.proofs.Prelude.{both, ℕ, zero, suc, _+_, _≤_, _<_, arith, add-one, zero-add, _≡_, sym, _∙_, Bool, true, false, List, [], _∷_, lt-ltb, le-ltb, ltb-true, ltb, length, getD, take, drop, drop-of-length-le, drop-cons, getD-take, length-take-le}
-use Rattle.orders.{specs.Orders.{sortedBy, inOrderBy}, proofs.Sorting.{Total, each-sorted, pass-on, pass-off, pass-end}}
+use Rattle.orders.{specs.Orders.{sortedBy, inOrderBy}, proofs.Sorting.{Total, each-sorted, pass, pass-end}}
 use Rattle.columns.{specs.Columns.positions, proofs.Filling.{positions-length, positions-at, positions-from}}
 use Rattle.row_order.specs.Arranged.{allBelow, limit}
 use Rattle.row_order.proofs.Orders.{Strict, inserted-strict}
@@ -42,10 +42,10 @@ module _ (t : ℕ → ℕ → Bool) (n p : ℕ) (so : inOrderBy t (positions 0 n
   two h e d = rw (positions-at 0 n p (omega arith), positions-at 0 n (p + 1) h, zero-add p, zero-add (p + 1)) (sym e ∙ d)
 
   pub row-on : {r : Bool} → p + 1 < n → r ≡ t (p + 1) p → r ≡ false → inOrderBy t (positions 0 n) ≡ inOrderBy t (drop (p + 1) (positions 0 n))
-  row-on h e d = so ∙ pass-on t 0 (positions 0 n) p (omega (arith, positions-length 0 n)) (two h e d)
+  row-on h e d = so ∙ pass t 0 (positions 0 n) p (omega (arith, positions-length 0 n)) ∙ rw (two h e d)
 
   pub row-off : {r : Bool} → p + 1 < n → r ≡ t (p + 1) p → r ≡ true → false ≡ inOrderBy t (positions 0 n)
-  row-off h e d = sym (so ∙ pass-off t 0 (positions 0 n) p (omega (arith, positions-length 0 n)) (two h e d))
+  row-off h e d = sym (so ∙ pass t 0 (positions 0 n) p (omega (arith, positions-length 0 n)) ∙ rw (two h e d))
 
   pub row-end : n ≤ p + 1 → true ≡ inOrderBy t (positions 0 n)
-  row-end h = sym (so ∙ pass-end t (positions 0 n) p (omega (arith, positions-length 0 n)))
+  row-end h = sym (so ∙ pass-end t 0 (positions 0 n) p (omega (arith, positions-length 0 n)))

@@ -1,6 +1,7 @@
--- Where the builder answers true, what it leaves is the block of its rows. Assumes nothing.
-use Rattle.stabbing_cases.proofs.Names.{_∙_, _≡_, refl, sym, _≤_, ℕ, List, Bool, true, false, leb, length, take, length-take-le, arith, leb-true, both, clash}
-use Rattle.stabbing.{specs.Index.{rowsOk, Block, Built}, proofs.Block.block-of}
+-- Where the builder answers true, what it leaves is the block of its rows; and row after row is seen to have a number of its own. Assumes
+-- nothing.
+use Rattle.stabbing_cases.proofs.Names.{_∙_, _≡_, refl, sym, _+_, _<_, _≤_, suc, zero-le, ℕ, List, Bool, true, false, leb, getD, length, take, length-take-le, arith, leb-true, both, by-eq, clash, needs}
+use Rattle.stabbing.{specs.Index.{rowsOk, rows, numbers, markIn, Block, Built}, proofs.Block.{block-of, fs-rows, block-holds}}
 use Rattle.stabbing_index.specs.Build.{publishable, Builds}
 
 pub block : {number first last : List ℕ} {n : ℕ} {entry exit : List ℕ} {r : Bool} → Builds number first last n entry r exit → r ≡ true
@@ -15,3 +16,21 @@ block {number} {first} {last} {n} {entry} b t numbers firsts =
 
 pub unbuilt : {ix : List ℕ} → false ≡ true → Built ix
 unbuilt e = absurd (clash e refl)
+
+-- the numbers of the first k rows lead to them
+pub record Owning (ix : List ℕ) (k : ℕ) : Type 0 where
+  pub within : k ≤ rows ix
+  pub leads : (p : ℕ) → p < k → markIn ix (getD (numbers ix) p 0) ≡ suc p
+
+pub none : {ix : List ℕ} → Owning ix 0
+none = record { within = zero-le; leads = λ p h. absurd (omega arith) }
+
+-- one row more
+pub more : {ix : List ℕ} {k m : ℕ} → Block ix → Owning ix k → k < rows ix → m ≡ markIn ix (getD ix k 0) → m ≡ k + 1 → Owning ix (k + 1)
+more {ix} {k} b o h e z = let leads : (p : ℕ) → p < k + 1 → markIn ix (getD (numbers ix) p 0) ≡ suc p = λ p g. by-eq p k (omega arith)
+    (λ y. rw (y, ← block-holds ix b .numbers k (omega (arith, fs-rows ix b)), ← e) (z ∙ omega arith)) (o .leads p) in search arith
+
+pub all : {ix : List ℕ} {k n : ℕ} → Owning ix k → n ≤ k → Block ix → n ≡ rows ix → Built ix
+all o h b count = record { block = b; own = λ p g. o .leads p (omega arith) }
+
+pub ruleset owning = (none, all, unbuilt, needs)

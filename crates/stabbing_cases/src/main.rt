@@ -39,13 +39,6 @@ struct Line {
     c: u16,
 }
 
-// The next byte; a space past the end.
-fn read_byte() -> u8 {
-    let mut byte = [32u8; 1];
-    io::read_full(STDIN_FILENO, &mut byte);
-    byte[0]
-}
-
 // The number v with a digit more, or as it is where the byte is none.
 fn digit(v: u16, b: u8) -> u16 {
     if b <= 32 {
@@ -54,15 +47,12 @@ fn digit(v: u16, b: u8) -> u16 {
     ((v as u32 * 10 + b as u32 % 16) % 65536) as u16
 }
 
-// The number in the next six places.
+// The number in the next six places. Past the end they are spaces.
 fn read_number() -> u16 {
-    let mut v: u16 = 0;
-    let mut i: usize = 0;
-    while i < 6 {
-        v = digit(v, read_byte());
-        i += 1;
-    }
-    v
+    let mut t = [32u8; 6];
+    io::read_full(STDIN_FILENO, &mut t);
+    let hundreds = digit(digit(digit(0, t[0]), t[1]), t[2]);
+    digit(digit(digit(hundreds, t[3]), t[4]), t[5])
 }
 
 fn read_line() -> Line {
@@ -73,16 +63,30 @@ fn read_line() -> Line {
     }
 }
 
+// Prints a byte of a name; a space is none.
+fn print_letter(b: u8) {
+    if 32 < b {
+        print(&[b]);
+    }
+}
+
+// Prints what the next six places have of a name.
+fn print_letters() {
+    let mut t = [32u8; 6];
+    io::read_full(STDIN_FILENO, &mut t);
+    print_letter(t[0]);
+    print_letter(t[1]);
+    print_letter(t[2]);
+    print_letter(t[3]);
+    print_letter(t[4]);
+    print_letter(t[5]);
+}
+
 // Prints the name in the next line.
 fn print_name() {
-    let mut i: usize = 0;
-    while i < 18 {
-        let b = read_byte();
-        if 32 < b {
-            print(&[b]);
-        }
-        i += 1;
-    }
+    print_letters();
+    print_letters();
+    print_letters();
 }
 
 // The numbers of the next n lines, in three columns.
@@ -151,7 +155,7 @@ fn several(index: &[u16; INDEX], a: u16, b: u16, n: u16, out: &mut [u16]) -> Lis
         d = std::num::wrapping_add_u16(d, step);
         i += 1;
     }
-    stabbing_days::days(index, &days[..m], out)
+    stabbing_days::days(index, &days[0..m], out)
 }
 
 // A question of a kind: a day, a span, a cover, or several days.
@@ -172,7 +176,7 @@ fn hear(index: &[u16; INDEX], kind: u16, q: Line, room: usize, hash: u64) -> Hea
 {
     let mut out = [MARK; 1025];
     let m = room % 1026;
-    let r = put(index, kind, q, &mut out[..m]);
+    let r = put(index, kind, q, &mut out[0..m]);
     let k = r.count;
     let comparisons = r.comparisons as u64;
     let a = mix(hash, to_u64(r.refusal));

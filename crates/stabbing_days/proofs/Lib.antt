@@ -1,3 +1,2 @@
 pub mod Skipping
-pub mod Closing
 pub mod Several

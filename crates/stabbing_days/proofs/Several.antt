@@ -1,12 +1,12 @@
 -- The steps of the days question, apart from the code. Assumes nothing.
-use Rattle.basis.proofs.Prelude.{_∙_, _≡_, ap, refl, sym, _+_, _-_, _<_, _≤_, zero-le, ℕ, List, [], _++_, _∷_, append-assoc, append-nil, map, map-append, Bool, false, true, ltb, drop, drop-of-length-le, getD, length, length-append, length-drop, length-map, take, take-append-drop, drop-at, drop-cons, drop-drop, getD-drop, length-take-le, take-all, take-at, add-one, arith, le-ltb, lt-ltb, ltb-true, both, not, not-false, not-true, length-take}
+use Rattle.basis.proofs.Prelude.{_∙_, _≡_, ap, refl, sym, _*_, _+_, _-_, _<_, _≤_, zero-le, ℕ, List, [], _++_, _∷_, append-assoc, append-nil, map, map-append, Bool, false, true, ltb, drop, drop-of-length-le, getD, length, length-append, length-drop, length-map, take, take-append-drop, drop-at, drop-cons, drop-drop, getD-drop, length-take-le, take-all, take-at, add-one, arith, le-ltb, lt-ltb, ltb-true, both, not, not-false, not-true, length-take}
 use borrow.Rule.Slice.PartMut.{putMid, postOf}
-use Rattle.stabbing.{specs.{Tree.{keep, fitsAt, start, formula}, Index.{latestTable, Built, numbers, firsts, lasts}, Answer.{Reported, Gave, give, question, risingFrom, containsAny, dayIn, daysOf, daysIn}, Contracts.{Holds, from}}, specs.Stored.latest, specs.declared.Listed.Listed, proofs.Starts.latest-is, proofs.Steps.keep-room, proofs.Block.built-holds, proofs.Days.{added, added-room, added-none, added-all, latest-none}}
+use Rattle.stabbing.{specs.{Tree.{keep, fitsAt, start, formula}, Index.{latestTable, Built, numbers, firsts, lasts}, Answer.{Reported, Gave, give, question, risingFrom, containsAny, dayIn, daysOf, daysIn}, Contracts.from}, specs.Stored.latest, specs.declared.Listed.Listed, proofs.Starts.latest-is, proofs.Steps.keep-room, proofs.Block.built-holds, proofs.Listing.lists, proofs.Days.{added, added-room, added-none, added-all, latest-none}}
 use Rattle.buffer.{specs.Buffer.overlaid, proofs.Overlaid.overlaid-all}
 use Rattle.calendar.{specs.Calendar.{isDay, daysOk}, proofs.Calendar.dated}
-use Rattle.stabbing_query.{specs.Contracts.numbered, proofs.Answering.{give-all, give-none, refusal, keep-map, day-in}}
+use Rattle.stabbing_query.{specs.Contracts.numbered, proofs.Answering.{give-all, give-none, on, refusal, keep-map, day-in}}
 use Rattle.stabbing_days.specs.Contracts.{Skips, Parted, dayFrom, daysFrom, asked, askedAll, AddAsks, GatherAsks, Added, Gathered}
-use Rattle.stabbing_days.proofs.{Skipping.{drop-map, rest-from, kept-rows}, Closing.closed}
+use Rattle.stabbing_days.proofs.Skipping.{drop-map, rest-from, closed}
 
 -- ---- The checks, day by day: what is said of the days from the place i on is what is said of all
 split : (ds : List ℕ) (i : ℕ) → i < length ds → drop i ds ≡ getD ds i 0 ∷ drop (i + 1) ds
@@ -73,7 +73,8 @@ module _ {ix : List ℕ} {d : ℕ} {part : List ℕ} (q : AddAsks ix d part) whe
     -- with the place that is reached by skipping
     module _ {m f : ℕ} (z : Skips ix (take (r .count) xs) m f) where
       parted : Parted m f finds
-      parted = z .skips finds (kept-rows ix (fitsAt (firsts ix) (lasts ix) d d)) found-is
+      parted = let l = lists (fitsAt (firsts ix) (lasts ix) d d) (length (firsts ix)) in
+          z .skips finds (record { inside = λ k h. l .passes k h .0; rises = l .rises }) found-is
 
       pub f-in : f ≤ r .count
       f-in = omega (arith, parted .within, count-is, room-for)
@@ -107,22 +108,12 @@ pub record Going (ix ds answer₀ answer : List ℕ) (m at i : ℕ) : Type 0 whe
   pub places : askedAll ix 0 ds answer₀ ≡ take at answer ++ askedAll ix m (drop i ds) (drop at answer)
 
 pub begins : {ix ds answer : List ℕ} → GatherAsks ix ds 0 answer → Going ix ds answer answer 0 0 0
-begins q = record {
-  same = refl;
-  within = zero-le;
-  few = zero-le;
-  asks = q;
-  part = refl;
-  places = refl;
-}
+begins q = search zero-le
 
 module _ {ix ds answer₀ answer : List ℕ} {m at i : ℕ} (g : Going ix ds answer₀ answer m at i) where
-  holds : Holds ix (numbers ix) (firsts ix) (lasts ix)
-  holds = built-holds ix (g .asks .built)
-
   pub ends : length ds ≤ i → Gathered ix ds answer₀ answer at
   ends h = unfold askedAll in let n : drop i ds ≡ [] = drop-of-length-le ds {i = i} h in
-      let z : take at answer ≡ daysFrom ix 0 ds = sym (g .part ∙ rw (n, added-none (firsts ix) (lasts ix) (holds .sorted) m, append-nil)) in record {
+      let z : take at answer ≡ daysFrom ix 0 ds = sym (g .part ∙ rw (n, added-none (firsts ix) (lasts ix) (built-holds ix (g .asks .built) .sorted) m, append-nil)) in record {
         count = sym (length-take-le at answer (g .within)) ∙ ap length z;
         first = z;
         places = sym (g .places ∙ rw n (take-append-drop at answer));
@@ -140,18 +131,15 @@ module _ {ix ds answer₀ answer : List ℕ} {m at i : ℕ} (g : Going ix ds ans
     rises = unfold risingFrom in both (ltb (g .asks .b) x) (risingFrom x (drop (i + 1) ds)) (ap (risingFrom (g .asks .b)) (sym (split ds i h)) ∙ g .asks .rising)
 
     asks-x : AddAsks ix x (drop at answer)
-    asks-x = let w : m ≤ length (firsts ix) = rw (g .asks .begun) (latest-is (firsts ix) (lasts ix) (holds .sorted) (g .asks .b) .within) in
+    asks-x = let w : m ≤ length (firsts ix) = rw (g .asks .begun) (latest-is (firsts ix) (lasts ix) (built-holds ix (g .asks .built) .sorted) (g .asks .b) .within) in
         record { built = g .asks .built; dated = dates .0; room = omega (arith, g .asks .room) }
 
     -- as they are lent
     pub some-left : 0 < length (take (length ds - i) (drop i ds))
     some-left = rw (lent ds i) (omega (arith, length-drop i ds))
 
-    today : getD (take (length ds - i) (drop i ds)) 0 0 ≡ x
-    today = rw (lent ds i, split ds i h)
-
     pub asks-day : AddAsks ix (getD (take (length ds - i) (drop i ds)) 0 0) (take (length answer - at) (drop at answer))
-    asks-day = rw (today, lent answer at) asks-x
+    asks-day = rw (lent ds i, split ds i h, lent answer at) asks-x
 
     -- how many rows begin by it, as it is stored
     pub begun-word : {y : ℕ} → y ≡ x → (w : ℕ) → 18242 ≤ w → y + latestTable < w
@@ -159,20 +147,20 @@ module _ {ix ds answer₀ answer : List ℕ} {m at i : ℕ} (g : Going ix ds ans
 
     module _ {ys : List ℕ} {k : ℕ} (a′ : Added (dayFrom ix m (getD (take (length ds - i) (drop i ds)) 0 0)) (asked ix (getD (take (length ds - i) (drop i ds)) 0 0) (take (length answer - at) (drop at answer))) ys k) where
       a : Added (dayFrom ix m x) (asked ix x (drop at answer)) ys k
-      a = rw (today, lent answer at) at a′
+      a = rw (lent ds i, split ds i h, lent answer at) at a′
 
       abbrev M : ℕ
       M = latest (firsts ix) (lasts ix) x
 
       M-in : M ≤ length (firsts ix)
-      M-in = latest-is (firsts ix) (lasts ix) (holds .sorted) x .within
+      M-in = latest-is (firsts ix) (lasts ix) (built-holds ix (g .asks .built) .sorted) x .within
 
       room : k + m ≤ M
       room = let l = length-map (keep (from m (fitsAt (firsts ix) (lasts ix) x x)) (length (firsts ix))) (λ (p : ℕ). getD ix p 0) in
-          rw (a .count ∙ l, g .asks .begun) (added-room (firsts ix) (lasts ix) (holds .sorted) (g .asks .b) x (ltb-true _ x (rises .0)))
+          rw (a .count ∙ l, g .asks .begun) (added-room (firsts ix) (lasts ix) (built-holds ix (g .asks .built) .sorted) (g .asks .b) x (ltb-true _ x (rises .0)))
 
       pub small : (w : ℕ) → 1024 < w → at + k < w
-      small w n = omega (arith, room, g .few, M-in, holds .few)
+      small w n = omega (arith, room, g .few, M-in, built-holds ix (g .asks .built) .few)
 
       -- what stands then in the answer: what is written, and the part that is left
       abbrev so-far : List ℕ
@@ -191,31 +179,20 @@ module _ {ix ds answer₀ answer : List ℕ} {m at i : ℕ} (g : Going ix ds ans
 
       -- what it adds, and what the rest does
       both-are : daysFrom ix m (drop i ds) ≡ dayFrom ix m x ++ daysFrom ix M (drop (i + 1) ds)
-      both-are = rw (split ds i h, g .asks .begun, added (firsts ix) (lasts ix) (holds .sorted) (g .asks .b) x (ltb-true _ x (rises .0)) (drop (i + 1) ds) (rises .1), map-append)
-
-      written : take (at + k) (so-far ++ left) ≡ so-far
-      written = take-at so-far left (at + k) long
-
-      unwritten : drop (at + k) (so-far ++ left) ≡ left
-      unwritten = drop-at so-far left (at + k) long
+      both-are = rw (split ds i h, g .asks .begun, added (firsts ix) (lasts ix) (built-holds ix (g .asks .built) .sorted) (g .asks .b) x (ltb-true _ x (rises .0)) (drop (i + 1) ds) (rises .1), map-append)
 
       pub goes-on : {y M′ : ℕ} → y ≡ x → M′ ≡ getD ix (y + latestTable) 0 → Going ix ds answer₀ (putMid at (length answer - at) answer ys) M′ (at + k) (i + 1)
-      goes-on {y} {M′} z u = let e : M′ ≡ M = u ∙ rw z (holds .begun x (dated x (dates .0) .1)) in
-          rw (e, after-is) (record {
-            same = rw length-append (omega (arith, long, length-drop k (asked ix x (drop at answer)), asked-length asks-x, room, M-in, asks-x .room, length-drop at answer, g .within, g .same));
-            within = rw length-append (omega (arith, long));
-            few = omega (arith, room, g .few);
-            asks = rw unwritten (record {
-              built = g .asks .built;
-              dated = dates .1;
-              b = x;
-              rising = rises .1;
-              begun = refl;
-              room = omega (arith, length-drop k (asked ix x (drop at answer)), asked-length asks-x, room, g .asks .room);
-            });
-            part = g .part ∙ rw (both-are, written) (sym (append-assoc (take at answer) (dayFrom ix m x) _));
-            places = unfold askedAll in g .places ∙ rw (split ds i h, ← a .count, written, unwritten) (sym (append-assoc (take at answer) (dayFrom ix m x) _));
-          })
+      goes-on {y} {M′} z u = unfold askedAll in let e : M′ ≡ M = u ∙ rw z (built-holds ix (g .asks .built) .begun x (dated x (dates .0) .1)) in
+          let w = room in let j = M-in in let n = asked-length asks-x in let d = length-drop k (asked ix x (drop at answer)) in
+          let o = length-drop at answer in let l = long in let p = length-append so-far left in let q = asks-x .room in
+          let written = take-at so-far left (at + k) long in let unwritten = drop-at so-far left (at + k) long in
+          let dated = dates .1 in let rising = rises .1 in let free : 2 * length (firsts ix) ≤ M + length left = omega arith in
+          let asks : GatherAsks ix (drop (i + 1) ds) M (drop (at + k) (so-far ++ left)) = rw unwritten (search) in
+          let part : daysFrom ix 0 ds ≡ take (at + k) (so-far ++ left) ++ daysFrom ix M (drop (i + 1) ds)
+          = g .part ∙ rw (both-are, written) (sym (append-assoc (take at answer) (dayFrom ix m x) _)) in
+          let places : askedAll ix 0 ds answer₀ ≡ take (at + k) (so-far ++ left) ++ askedAll ix M (drop (i + 1) ds) (drop (at + k) (so-far ++ left))
+          = g .places ∙ rw (split ds i h, ← a .count, written, unwritten) (sym (append-assoc (take at answer) (dayFrom ix m x) _)) in
+          rw (e, after-is) (search arith)
 
 -- ---- The answer
 
@@ -227,39 +204,23 @@ module _ {ix ds answer after : List ℕ} {k : ℕ} (a : Gathered ix ds answer af
   pub part-in : k ≤ length after
   part-in = omega (arith, part-count, length-take k after)
 
--- the days pass the checks, or do not
-module _ (ix ds : List ℕ) {t : Bool} (e : t ≡ daysOk ds) where
-  pub days-off : not t ≡ true → (out : List ℕ) {r : Listed} → r ≡ record { refusal = 3; count = 0; comparisons = 0 } → Gave r out (daysIn ix ds out)
-  days-off f out = unfold daysOf in refusal (rw (sym e ∙ not-true t f, daysOf))
+-- the days pass the checks
+module _ (ix ds : List ℕ) {t : Bool} (e : t ≡ daysOk ds) (f : not t ≡ false) {t′ : Bool} (e′ : t′ ≡ risingFrom 0 ds) (f′ : not t′ ≡ false) (b : Built ix) where
+  pub asks-gather : {answer : List ℕ} → length answer ≡ 2048 → GatherAsks ix ds 0 answer
+  asks-gather {answer} n = let s = built-holds ix b in let begun = sym (latest-none (firsts ix) (lasts ix) (s .sorted) (s .begins)) in
+      let dated = on e f in let rising = on e′ f′ in
+      let room : 2 * length (firsts ix) ≤ 0 + length answer = omega arith in search
 
-  module _ (f : not t ≡ false) {t′ : Bool} (e′ : t′ ≡ risingFrom 0 ds) where
-    pub days-back : not t′ ≡ true → (out : List ℕ) {r : Listed} → r ≡ record { refusal = 10; count = 0; comparisons = 0 } → Gave r out (daysIn ix ds out)
-    days-back f′ out = unfold daysOf in refusal (rw (sym e ∙ not-false t f, daysOf) (rw (sym e′ ∙ not-true t′ f′, daysOf)))
+  given-is : (out : List ℕ) → daysIn ix ds out ≡ give (daysFrom ix 0 ds) 0 out
+  given-is out = unfold daysOf in rw (on e f, daysOf) (rw (on e′ f′, daysOf)
+      (rw (added-all (firsts ix) (lasts ix) (built-holds ix b .sorted) ds, keep-map (λ p. getD ix p 0) (λ p. getD (numbers ix) p 0) (containsAny (firsts ix) (lasts ix) ds) (length (firsts ix)) (built-holds ix b .numbers))))
 
-    module _ (f′ : not t′ ≡ false) (b : Built ix) where
-      holding : Holds ix (numbers ix) (firsts ix) (lasts ix)
-      holding = built-holds ix b
+  module _ {answer after : List ℕ} {k : ℕ} (a : Gathered ix ds answer after k) (out : List ℕ) where
+    pub too-many : {r : Listed} → length out < k → r ≡ record { refusal = 11; count = 0; comparisons = 0 } → Gave r out (daysIn ix ds out)
+    too-many h = refusal (given-is out ∙ give-none (daysFrom ix 0 ds) 0 out (rw (a .count) at h))
 
-      pub asks-gather : {answer : List ℕ} → length answer ≡ 2048 → GatherAsks ix ds 0 answer
-      asks-gather n = record {
-        built = b;
-        dated = sym e ∙ not-false t f;
-        b = 0;
-        rising = sym e′ ∙ not-false t′ f′;
-        begun = sym (latest-none (firsts ix) (lasts ix) (holding .sorted) (holding .begins));
-        room = omega (arith, n, holding .few);
-      }
-
-      given-is : (out : List ℕ) → daysIn ix ds out ≡ give (daysFrom ix 0 ds) 0 out
-      given-is out = unfold daysOf in rw (sym e ∙ not-false t f, daysOf) (rw (sym e′ ∙ not-false t′ f′, daysOf)
-          (rw (added-all (firsts ix) (lasts ix) (holding .sorted) ds, keep-map (λ p. getD ix p 0) (λ p. getD (numbers ix) p 0) (containsAny (firsts ix) (lasts ix) ds) (length (firsts ix)) (holding .numbers))))
-
-      module _ {answer after : List ℕ} {k : ℕ} (a : Gathered ix ds answer after k) (out : List ℕ) where
-        pub too-many : {r : Listed} → length out < k → r ≡ record { refusal = 11; count = 0; comparisons = 0 } → Gave r out (daysIn ix ds out)
-        too-many h = refusal (given-is out ∙ give-none (daysFrom ix 0 ds) 0 out (rw (a .count) at h))
-
-        pub all-written : k ≤ length out → {end : List ℕ} → end ≡ overlaid (take k after) out → Gave (record { refusal = 0; count = k; comparisons = 0 }) end (daysIn ix ds out)
-        all-written h z = rw (given-is out ∙ give-all (daysFrom ix 0 ds) 0 out (rw (a .count) at h)) (record {
-          result = rw (a .count);
-          out = z ∙ rw (a .first) (overlaid-all (daysFrom ix 0 ds) out (rw (a .count) at h));
-        })
+    pub all-written : k ≤ length out → {end : List ℕ} → end ≡ overlaid (take k after) out → Gave (record { refusal = 0; count = k; comparisons = 0 }) end (daysIn ix ds out)
+    all-written h z = rw (given-is out ∙ give-all (daysFrom ix 0 ds) 0 out (rw (a .count) at h)) (record {
+      result = rw (a .count);
+      out = z ∙ rw (a .first) (overlaid-all (daysFrom ix 0 ds) out (rw (a .count) at h));
+    })

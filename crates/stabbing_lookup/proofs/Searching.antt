@@ -2,22 +2,13 @@
 use Rattle.basis.proofs.Prelude.{_∙_, _≡_, ap, refl, sym, _%_, _+_, _-_, _<_, _≤_, suc, ℕ, List, Bool, _≢_, eqb, getD, length, arith, eq-eqb, eqb-true, ne-eqb}
 use Rattle.stabbing.{specs.{Tree.below, Index.{bucketCount, bucketTable, lowerColumn, bucketOf, inBucket, named, numbers, firsts, lasts, markIn, rows, Block}}, proofs.{Marks.{Below, below-is, below-hit, below-miss, below-skip}, Block.{block-holds, fs-rows, bucket-word, lower-word}}}
 
--- the row p has the number x, and the bucket of x
+-- the row p has the number x
 abbrev sought : List ℕ → ℕ → ℕ → Bool
 sought ns x p = eqb (getD ns p 0) x
 
-abbrev near : List ℕ → ℕ → ℕ → Bool
-near ns x p = eqb (bucketOf (getD ns p 0)) (bucketOf x)
-
--- the rows with a number are among those of its bucket: what is sought below k is sought below the latest of the bucket
-module _ (ns : List ℕ) (x k : ℕ) where
-  latest : Below (near ns x) k (inBucket ns (bucketOf x) k)
-  unfolding inBucket
-  latest = below-is (near ns x) k
-
-  down : below (sought ns x) k ≡ below (sought ns x) (inBucket ns (bucketOf x) k)
-  down = below-skip (sought ns x) (inBucket ns (bucketOf x) k) k (latest .within) (λ p g h e.
-      latest .miss p g h (eq-eqb _ _ (ap bucketOf (eqb-true (getD ns p 0) x e))))
+latest : (ns : List ℕ) (x k : ℕ) → Below (λ p. eqb (bucketOf (getD ns p 0)) (bucketOf x)) k (inBucket ns (bucketOf x) k)
+unfolding inBucket
+latest ns x k = below-is _ k
 
 -- the search has come to the mark m: what it seeks is at or below it, in the bucket of x
 pub record Searching (ix : List ℕ) (x m : ℕ) : Type 0 where
@@ -27,14 +18,12 @@ pub record Searching (ix : List ℕ) (x m : ℕ) : Type 0 where
   pub bucket : (p : ℕ) → m ≡ suc p → bucketOf (getD (numbers ix) p 0) ≡ bucketOf x
 
 module _ {ix : List ℕ} {x : ℕ} where
-  -- at the latest row of the bucket below k, where all that is sought lies below k
+  -- at the latest row of the bucket below k, where all that is sought lies below k: the rows with a number are among those of its bucket
   at-latest : Block ix → (k : ℕ) → k ≤ rows ix → markIn ix x ≡ below (sought (numbers ix) x) k → {m : ℕ} → m ≡ inBucket (numbers ix) (bucketOf x) k → Searching ix x m
-  at-latest b k h e {m} z = record {
-    block = b;
-    within = omega (arith, z, latest (numbers ix) x k .within);
-    is = e ∙ down (numbers ix) x k ∙ ap (below (sought (numbers ix) x)) (sym z);
-    bucket = λ p y. eqb-true _ _ (latest (numbers ix) x k .hit p (sym z ∙ y));
-  }
+  at-latest b k h e {m} z = let l = latest (numbers ix) x k in
+      let is : markIn ix x ≡ below (sought (numbers ix) x) m 
+      = e ∙ rw z (below-skip (sought (numbers ix) x) _ k (l .within) (λ p g h e. l .miss p g h (eq-eqb _ _ (ap bucketOf (eqb-true _ x e))))) in
+      let bucket : (p : ℕ) → m ≡ suc p → bucketOf (getD (numbers ix) p 0) ≡ bucketOf x = λ p y. eqb-true _ _ (l .hit p (sym z ∙ y)) in search arith
 
   pub begins : Block ix → {i m : ℕ} → i ≡ x → m ≡ getD ix (i % bucketCount + bucketTable) 0 → Searching ix x m
   unfolding named
