@@ -1,11 +1,38 @@
--- Every list of calls has words. Assumes nothing.
-use Rattle.basis.proofs.Prelude.{_∙_, _≡_, ap, fun-ext, refl, sym, _*_, _+_, _<_, _≤_, suc, ℕ, List, [], _++_, _∷_, append-assoc, getD, length, length-append, drop-at, getD-append-add, take-at, mod-eq-of-lt, zero-add, arith, le-leb}
+-- The calls that are still coded, at a code that is one and at one that is none; and every list of calls has words. Assumes nothing.
+use Rattle.basis.proofs.Prelude.{_∙_, _≡_, refl, sym, suc, zero, ℕ, List, [], _∷_, Bool, cond, false, true, leb, drop, length, take, leb-true, ap, _*_, _<_, _≤_, _++_, append-assoc, length-append, drop-at, getD-append-add, take-at, mod-eq-of-lt, arith, le-leb}
+use Rattle.model.specs.{declared.{Call.{Call, the-variants.{Enter, Amend, Strike, TakeBack, Publish, Write, Ask}}, Question.the-variants.{Day, Span, Cover, Days, Mask}}, Model.Request}
+use Rattle.coding.specs.{declared.{Code.Code, Next.{Next, the-variants.{Stop, Go}}}, Coded.{codeAt, nextOf, decodeFrom, codeWidth, low16, urgencyOf, callOf, Value, urgent, masked, Fields, spellFields, fieldsOf, opOf, wholeOf}, Coding.{Wide, Fits, Codable, daysOf, numbersOf, textOf, Coding}, Contracts.Room}
 use lib.Ieee.{binary32, Bits.{ofBits-toBits, toBits-lt}}
 use Rattle.spell.specs.declared.{Urgency.{Urgency, the-variants.{Grade, Reading}}, Spell.Spell}
 use Rattle.packing.specs.{Words.{kindOf, valueOf, Narrow}, Blocks.{written, Every}}
-use Rattle.model.specs.{declared.{Call.{Call, the-variants.{Enter, Amend, Strike, TakeBack, Publish, Write, Ask}}, Question.the-variants.{Day, Span, Cover, Days, Mask}}, Model.Request}
-use Rattle.coding.specs.{declared.{Code.Code, Next.the-variants.Go}, Coded.{codeWidth, low16, urgencyOf, word, codeAt, callOf, Value, urgent, masked, Fields, spellFields, fieldsOf, opOf, nextOf, decodeFrom, wholeOf}, Coding.{Wide, Fits, Codable, Coding}}
-use Rattle.coding.proofs.Decoding.{decode-go}
+
+-- ---- A call is found only where there is room
+
+picked : (b : Bool) (y : Next) (q : Call) → cond b y Stop ≡ Go q → b ≡ true
+picked true y q e = refl
+picked false y q e = cc
+
+pub next-room : {c : Code} {days numbers text : ℕ} {x : Next} {q : Call} → x ≡ nextOf c days numbers text → x ≡ Go q → Room c days numbers text
+next-room {c} {days} {numbers} {text} {q = q} e go = unfold nextOf in
+    let d : leb (c .days) days ≡ true = picked (leb (c .days) days) _ q (sym e ∙ go) in
+    let n : leb (c .numbers) numbers ≡ true = picked (leb (c .numbers) numbers) _ q (rw d at (sym e ∙ go)) in
+    let t : leb (c .text) text ≡ true = picked (leb (c .text) text) _ q (rw (d, n) at (sym e ∙ go)) in
+    search leb-true
+
+-- ---- The calls that are still coded
+
+module _ (codes days numbers text : List ℕ) (k : ℕ) where
+  pub decode-stop : (n : ℕ) → nextOf (codeAt codes k) (length days) (length numbers) (length text) ≡ Stop
+      → decodeFrom codes n k days numbers text ≡ []
+  unfolding decodeFrom
+  decode-stop zero e = refl
+  decode-stop (suc n) e = simp e
+
+  pub decode-go : (n : ℕ) (c : Code) (q : Call) → c ≡ codeAt codes k → nextOf c (length days) (length numbers) (length text) ≡ Go q
+      → decodeFrom codes (suc n) k days numbers text
+      ≡ record { call = q; days = take (c .days) days; numbers = take (c .numbers) numbers; text = take (c .text) text }
+      ∷ decodeFrom codes n (suc k) (drop (c .days) days) (drop (c .numbers) numbers) (drop (c .text) text)
+  decode-go n c q ec e = unfold decodeFrom in rw (← ec) (simp e)
 
 -- ---- The words of a call
 
@@ -52,33 +79,12 @@ call-back (Ask (Cover k)) d n t rest f = (rw (mod-eq-of-lt (f .number)), omega a
 call-back (Ask Days) d n t rest f = (refl, omega arith)
 call-back (Ask (Mask b k)) d n t rest f = (rw (mod-eq-of-lt (f .first)), omega arith)
 
--- and with room for its lists the call is made
-next-back : (q : Request) (rest : List ℕ) (d n t : ℕ) → Fits (fieldsOf (q .call))
-    → length (q .days) ≤ d → length (q .numbers) ≤ n → length (q .text) ≤ t
-    → nextOf (codeAt (requestWords q ++ rest) 0) d n t ≡ Go (q .call)
-next-back q rest d n t f hd hn ht = unfold codeAt nextOf in
-    rw (le-leb (length (q .days)) d hd, le-leb (length (q .numbers)) n hn, le-leb (length (q .text)) t ht)
-    (call-back (q .call) (length (q .days)) (length (q .numbers)) (length (q .text)) rest f .0)
-
 -- ---- A code after others
 
-word-at : (pre r : List ℕ) (k j : ℕ) → length pre ≡ codeWidth * k → word (pre ++ r) k j ≡ word r 0 j
-word-at pre r k j e =
-    ap (λ (n : ℕ). getD (pre ++ r) (n + j) 0) (sym e) ∙ getD-append-add pre r j 0 ∙ ap (λ (n : ℕ). getD r n 0) (sym (zero-add j))
-
 code-at : (pre r : List ℕ) (k : ℕ) → length pre ≡ codeWidth * k → codeAt (pre ++ r) k ≡ codeAt r 0
-code-at pre r k e = unfold codeAt in simp (word-at pre r k)
+code-at pre r k e = unfold codeAt in rw (← e) (simp getD-append-add)
 
 -- ---- A list of calls
-
-abbrev pub daysOf : List Request → List ℕ
-daysOf qs = written (λ (q : Request). q .days) qs
-
-abbrev pub numbersOf : List Request → List ℕ
-numbersOf qs = written (λ (q : Request). q .numbers) qs
-
-abbrev pub textOf : List Request → List ℕ
-textOf qs = written (λ (q : Request). q .text) qs
 
 abbrev codesOf : List Request → List ℕ
 codesOf qs = written requestWords qs
@@ -86,16 +92,19 @@ codesOf qs = written requestWords qs
 -- after the codes of k calls, those of qs are qs
 from : (qs : List Request) (pre : List ℕ) (k : ℕ) → length pre ≡ codeWidth * k → Every Codable qs
     → decodeFrom (pre ++ codesOf qs) (length qs) k (daysOf qs) (numbersOf qs) (textOf qs) ≡ qs
-unfolding written Every decodeFrom codeAt
+unfolding written Every decodeFrom codeAt nextOf
 from [] pre k e f = refl
 from (q ∷ qs) pre k e f =
     let r : List ℕ = codesOf qs in
     let w : List ℕ = requestWords q in
     let next : decodeFrom (pre ++ (w ++ r)) (length qs) (suc k) (daysOf qs) (numbersOf qs) (textOf qs) ≡ qs =
     rw append-assoc at (from qs (pre ++ w) (suc k) (omega (arith, length-append pre w)) (f .1)) in
+    let d : length (q .days) ≤ length (q .days ++ daysOf qs) = omega (arith, length-append (q .days) (daysOf qs)) in
+    let n : length (q .numbers) ≤ length (q .numbers ++ numbersOf qs) = omega (arith, length-append (q .numbers) (numbersOf qs)) in
+    let t : length (q .text) ≤ length (q .text ++ textOf qs) = omega (arith, length-append (q .text) (textOf qs)) in
     decode-go (pre ++ (w ++ r)) (q .days ++ daysOf qs) (q .numbers ++ numbersOf qs) (q .text ++ textOf qs) k (length qs) (codeAt (w ++ r) 0) (q .call)
     (sym (code-at pre (w ++ r) k e))
-    (next-back q r _ _ _ (f .0 .call) (omega (arith, length-append (q .days) (daysOf qs))) (omega (arith, length-append (q .numbers) (numbersOf qs))) (omega (arith, length-append (q .text) (textOf qs))))
+    (rw (le-leb _ _ d, le-leb _ _ n, le-leb _ _ t) (call-back (q .call) (length (q .days)) (length (q .numbers)) (length (q .text)) r (f .0 .call) .0))
     ∙ simp (take-at, drop-at, next)
 
 codes-long : (qs : List Request) → length (codesOf qs) ≡ codeWidth * length qs

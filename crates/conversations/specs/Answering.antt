@@ -1,9 +1,8 @@
 -- The postcondition of a request. Assumes nothing.
-use Prim.Native.Nat.{ℕ, _≤_}
+use Prim.Native.Nat.{ℕ, _≤_, min}
 use mathlib.Core.Path.{_≡_}
 use mathlib.Core.Bool.{Bool, true, false, cond}
 use mathlib.Core.List.{List, [], _∷_, _++_}
-use lib.Dec.{leb}
 use lib.ListN.{take, drop}
 use Rattle.model.specs.declared.Call.{Call}
 use Rattle.model.specs.declared.Call.the-variants.{Enter, Amend, Strike, TakeBack, Publish, Write, Ask}
@@ -71,8 +70,8 @@ abbrev pub Carries : Service → Blocks → ℕ → Demand → List ℕ → List
 Carries sv bs room q numbers text out r bs′ numbers′ text′ out′ = (payload : List ℕ) → Answers sv bs room q payload numbers text out r bs′ numbers′ text′ out′
 
 -- a room above 65,536 counts as 65,536
-unfoldable pub roomOf : ℕ → ℕ
-roomOf n = cond (leb n 65536) n 65536
+abbrev pub roomOf : ℕ → ℕ
+roomOf n = min n 65536
 
 -- the same of a request's bytes, with every place of the list lent for days
 pub record Served (sv : Service) (bs : Blocks) (room : ℕ) (line payload days numbers text out : List ℕ) (r : Answered) (bs′ : Blocks) (days′ numbers′ text′ out′ : List ℕ) : Type 0 where

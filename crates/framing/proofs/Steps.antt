@@ -1,6 +1,6 @@
 -- The laws that the code follows: a byte put into its place, a byte of a line, a byte of a text. Assumes nothing.
 use Rattle.basis.proofs.Prelude.{Bool, not, not-false, not-true, false, true, _≡_, sym, _∙_, refl, _+_, _-_, _<_, _≤_, suc, ℕ, List, [], _++_, _∷_, drop, drop-of-length-le, getD, length, length-append, set, take, drop-cons, drop-set-lt, drop-drop, length-take-le, take-all, take-append-seam, take-length, take-suc-set, add-one, arith, eq-eqb, ne-eqb}
-use Rattle.streams.specs.{declared.{Advanced.Advanced, Frame.Frame, Framed.{Framed, the-variants.{Whole, Part}}}, Stream.{Partial, inLine, inText, kept, wants, settled, lineFed, feed}, Advancing.{Progress, going, done, sentOf, through, next, after, partOf, partialOf, progressOf, Kept, Advances, ready, advancedOf, refusedFrame, HostAdvances}}
+use Rattle.streams.specs.{declared.{Advanced.Advanced, Frame.Frame, Framed.{Framed, the-variants.{Whole, Part}}}, Stream.{Partial, inLine, inText, kept, wants, settled, lineFed, feed}, Advancing.{Progress, going, done, sentOf, through, next, after, partOf, partialOf, progressOf, lineIn, Kept, Advances, ready, advancedOf, refusedFrame, HostAdvances}}
 use Rattle.framing.specs.{declared.Taken.Taken, Contracts.{Puts, PlaceIn, takenOf, TakesLine, TakesText}}
 
 -- ---- A byte put into its place
@@ -80,12 +80,7 @@ module _ (f : Frame) {a line : List ℕ} (payload : List ℕ) {from n start : �
 
     pub line-advances : t .whole ≡ true → {w : ℕ} → w ≡ wants (take (t .line) line′) → {r : Framed} {payload′ : List ℕ}
         → TakesText (t .line) 0 w a (t .next) payload r payload′ → Advances f a from line payload r line′ payload′
-    line-advances e i p = record {
-      progress = rw i at (p .progress line′) ∙ rw e at line-goes;
-      within = p .within;
-      line-rest = rw (p .line) (k .rest);
-      text-rest = p .rest;
-    }
+    line-advances e i {r} p = let goes = rw i at (p .progress line′) ∙ rw e at line-goes in let rest : Kept (lineIn r) line line′ = rw (p .line) (k .rest) in search
 
     pub part-goes : t .whole ≡ false → going (inLine (take (t .line) line′)) ≡ next (partialOf f line payload) (drop from a)
     part-goes e = rw e at line-goes

@@ -5,6 +5,7 @@ ghost use Prim.Native.Nat.{_≤_, _<_};
 ghost use lib.ListN.{length};
 ghost use Rattle.service.specs.Packed.{unpacked};
 ghost use Rattle.service.specs.Service.{blocks, Given, Valid};
+ghost use Rattle.conversations.specs.Answering.{askedIn};
 ghost use Rattle.sharing.specs.Words.{questionWord, callWord, wordIn, powerOf, changedAt};
 ghost use Rattle.sharing.specs.Carrying.{heldAt, Requested};
 ghost use Rattle.sharing.specs.Contracts.{wantedWord, EditTurn, EditsIn, Changing, RequestedOf};
@@ -141,7 +142,7 @@ fn edit(
     requires { ⌜ Valid (unpacked (now words)) ⌝ }
     requires { ⌜ word ≡ wantedWord wanted ⌝ }
     requires { ⌜ (16 ≤ word) × (word < 20) ⌝ }
-    ensures { λ r. ⌜ EditsIn wanted word (now (words .entry)) room (now (numbers .entry)) (now (text .entry)) (now (out .entry)) r (now (words .exit)) (now (out .exit)) ⌝ }
+    ensures { λ r. ⌜ EditsIn wanted (now (words .entry)) room (now (numbers .entry)) (now (text .entry)) (now (out .entry)) r (now (words .exit)) (now (out .exit)) ⌝ }
 {
     match wanted {
         Wanted::Call(call, _) => {
@@ -176,7 +177,7 @@ fn change(
 ) -> Carried
     requires { ⌜ Given (unpacked (now words)) (blocks (now index)) ⌝ }
     requires { ⌜ (word ≡ wantedWord wanted) × (power ≡ powerOf word) ⌝ }
-    ensures { λ r. ⌜ Changing wanted word power (now (words .entry)) (blocks (now (index .entry))) room (now (payload .entry)) (now (days .entry)) (now (numbers .entry)) (now (text .entry)) (now (out .entry)) r (now (words .exit)) (blocks (now (index .exit))) (now (numbers .exit)) (now (text .exit)) (now (out .exit)) ⌝ }
+    ensures { λ r. ⌜ Changing (askedIn wanted (now (days .entry))) (now (words .entry)) (blocks (now (index .entry))) room (now (payload .entry)) (now (numbers .entry)) (now (text .entry)) (now (out .entry)) r (now (words .exit)) (blocks (now (index .exit))) (now (numbers .exit)) (now (text .exit)) (now (out .exit)) ⌝ }
 {
     let service = service::unpack(words);
     let r = wire::carry(
@@ -225,7 +226,7 @@ fn carry(
     out: &mut [u8; OUT],
 ) -> Carried
     requires { ⌜ Given (unpacked (now words)) (blocks (now index)) ⌝ }
-    ensures { λ r. ⌜ RequestedOf wanted (now (words .entry)) (blocks (now (index .entry))) room allowed (now (payload .entry)) (now (days .entry)) (now (numbers .entry)) (now (text .entry)) (now (out .entry)) r (now (words .exit)) (blocks (now (index .exit))) (now (numbers .exit)) (now (text .exit)) (now (out .exit)) ⌝ }
+    ensures { λ r. ⌜ RequestedOf (askedIn wanted (now (days .entry))) (now (words .entry)) (blocks (now (index .entry))) room allowed (now (payload .entry)) (now (numbers .entry)) (now (text .entry)) (now (out .entry)) r (now (words .exit)) (blocks (now (index .exit))) (now (numbers .exit)) (now (text .exit)) (now (out .exit)) ⌝ }
 {
     let word = wanted_word(wanted);
     let power = power_of(word);

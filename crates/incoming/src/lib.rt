@@ -22,7 +22,7 @@ fn write_first(gathered: &[u8], n: usize) -> bool {
     if gathered.len() < n {
         return false;
     }
-    output::write(STDOUT_FILENO, &gathered[..n], b"serve: standard output")
+    output::write(STDOUT_FILENO, &gathered[0..n], b"serve: standard output")
 }
 
 // Puts the answer that ends `out` after those that are gathered, which are written first where there is no room for it.

@@ -1,7 +1,7 @@
 -- Every list of calls has words, so that the contract of `run` speaks of every list. Assumes nothing.
 use Rattle.basis.proofs.Prelude.{_*_, _≤_, ℕ, List, Bool, length}
 use Rattle.model.specs.Model.{Request, run}
-use Rattle.coding.{specs.Coded.resultWidth, specs.Coding.Coding, proofs.Claims.{daysOf, numbersOf, textOf}}
+use Rattle.coding.specs.{Coded.resultWidth, Coding.{daysOf, numbersOf, textOf, Coding}}
 use Rattle.replay.specs.{declared.Ran.Ran, Replayed.{Holds, beginning, Replayed}}
 
 -- THE CLAIM is one about every list: run on its coding, its answers are those of the account's own run of it

@@ -1,4 +1,3 @@
-pub mod PutUpTo
 pub mod Runs
 pub mod Claims
 pub mod Tied

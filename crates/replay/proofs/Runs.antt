@@ -1,142 +1,121 @@
--- The loop of `calls`: what is still to come, and what a turn does to it. Assumes nothing.
-use Rattle.basis.proofs.Prelude.{_∙_, _≡_, ap, refl, sym, _*_, _+_, _-_, _/_, _<_, _≤_, min, suc, ℕ, List, [], _++_, _∷_, Bool, false, true, drop, length, length-drop, take, drop-drop, add-one, arith}
-use Rattle.service.{specs.declared.Service.Service, specs.declared.Stepped.Stepped, specs.Service.{Blocks, Represents, Given, Met, Begins}}
-use Rattle.model.{specs.declared.Call.Call, specs.Model.{State, fresh, Request, Answer, step, run}}
+-- The loop of `calls`: what is done, and what is still to come. Assumes nothing.
+use Rattle.basis.proofs.Prelude.{_∙_, _≡_, refl, sym, _*_, _+_, _-_, _/_, _<_, _≤_, min, suc, ℕ, List, [], _++_, _∷_, append-assoc, append-nil, append-snoc, Bool, false, true, drop, length, length-append, length-drop, length-take, take, drop-at, drop-drop, take-at, add-one, arith}
+use Rattle.buffer.specs.Buffer.{over}
+use Rattle.service.specs.{declared.Service.Service, Service.{Blocks, Represents, Given, Begins}}
+use Rattle.model.specs.{declared.Call.Call, Model.{State, fresh, Request, Answer, step, run}}
 use Rattle.register.specs.Text.{readText}
 use Rattle.packing.specs.Blocks.{written}
-use Rattle.outcomes.specs.Outcomes.{answerOf}
-use Rattle.coding.{specs.declared.Code.Code, specs.{declared.Next.{Next, the-variants.{Stop, Go}}, Coded.{codeWidth, resultWidth, codeAt, nextOf, decodeFrom, decode, told, resultsOf, numbersOf, textsOf}}, proofs.Decoding.{Room, next-room, decode-stop, decode-go}}
-use Rattle.replay.specs.Replayed.{tellAt, Holds, Answered, Replayed}
-use Rattle.replay.proofs.PutUpTo.{PutUpTo, upto-done, Part, put-drop, put-length, upto-more, part-back}
+use Rattle.outcomes.specs.Outcomes.{answerOf, asking}
+use Rattle.coding.{specs.{declared.{Code.Code, Next.{Next, the-variants.{Stop, Go}}}, Coded.{codeWidth, resultWidth, codeAt, nextOf, decodeFrom, told, resultsOf, numbersOf, textsOf}}, proofs.Claims.{next-room, decode-stop, decode-go}}
+use Rattle.replay.specs.{declared.Made.Made, Replayed.{Holds, Answered, Replayed}, Contracts.{part, putBack, Makes}}
+
+-- ---- A list that is filled from the front, part after part
+
+-- u is in its places up to the place at, and the later ones keep what they held
+pub record Filled (u : List ℕ) (at : ℕ) (l₀ l : List ℕ) : Type 0 where
+  pub long : length u ≡ at
+  pub is : l ≡ over u l₀
+
+module _ {u : List ℕ} {at : ℕ} {l₀ l : List ℕ} (f : Filled u at l₀ l) where
+  filled-rest : drop at l ≡ drop at l₀
+  filled-rest = rw (f .is) (drop-at u (drop (length u) l₀) at (f .long) ∙ rw (f .long))
+
+  filled-more : (w : List ℕ) (k : ℕ) {l′ : List ℕ} → length w ≡ k → l′ ≡ (take at l ++ w) ++ drop (at + k) l → Filled (u ++ w) (at + k) l₀ l′
+  filled-more w k h e =
+      let front : take at l ≡ u = rw (f .is) (take-at u (drop (length u) l₀) at (f .long)) in
+      let rest : drop (at + k) l ≡ drop (at + k) l₀ = rw (← drop-drop k at l, ← drop-drop k at l₀, filled-rest) in
+      let all : length (u ++ w) ≡ at + k = omega (arith, f .long, length-append u w) in
+      record { long = all; is = e ∙ rw (front, rest, all) }
+
+written-snoc : {A : Type 0} (f : A → List ℕ) (l : List A) (x : A) → written f (l ++ x ∷ []) ≡ written f l ++ f x
+unfolding written
+written-snoc f [] x = append-nil (f x)
+written-snoc f (y ∷ l) x = rw (written-snoc f l x, append-assoc)
+
+-- a part that is lent and comes back with u in it
+lent : (n k : ℕ) → n + k - n ≡ k
+lent n k = omega arith
+
+back : (n k : ℕ) (u l : List ℕ) → putBack n k u l ≡ (take n l ++ u) ++ drop (n + k) l
+back n k u l = rw (lent n k, drop-drop, append-assoc)
 
 -- ---- The loop's invariant
 
 -- before the loop: the blocks, the codes, the days, the three lent lists; and how many codes are whole
 module _ (sv₀ : Service) (bs₀ : Blocks) (codes days results₀ numbers₀ text₀ : List ℕ) (whole : ℕ) where
-  -- all the answers from the state m₀
-  abbrev answers : State → List Answer
-  answers m₀ = run m₀ (decodeFrom codes whole 0 days numbers₀ text₀)
+  -- the calls that are still to come
+  abbrev left : ℕ → ℕ → ℕ → ℕ → List Request
+  left made d n t = decodeFrom codes (whole - made) made (drop d days) (drop n numbers₀) (drop t text₀)
 
-  -- and those that are still to come from the state m
-  abbrev coming : State → List ℕ → List ℕ → ℕ → ℕ → ℕ → ℕ → List Answer
-  coming m numbers text made d n t = run m (decodeFrom codes (whole - made) made (drop d days) (drop n numbers) (drop t text))
-
-  -- What is done, followed by what is still to come from the state that service and blocks stand for, is the whole.
+  -- the answers from the state m₀: those that are given and stand in the lists, and those from the state for which service and blocks stand
   pub record Reached (m₀ : State) (sv : Service) (bs : Blocks) (results numbers text : List ℕ) (made d n t : ℕ) : Type 0 where
+    pub done : List Answer
     pub state : State
     pub represents : Represents sv bs state
-    pub count : made + length (coming state numbers text made d n t) ≡ length (answers m₀)
-    pub told : PutUpTo results₀ results (resultWidth * made) (resultsOf (coming state numbers text made d n t)) (resultsOf (answers m₀))
-    pub listed : PutUpTo numbers₀ numbers n (numbersOf (coming state numbers text made d n t)) (numbersOf (answers m₀))
-    pub written : PutUpTo text₀ text t (textsOf (coming state numbers text made d n t)) (textsOf (answers m₀))
+    pub answers : run m₀ (decodeFrom codes whole 0 days numbers₀ text₀) ≡ done ++ run state (left made d n t)
+    pub count : made ≡ length done
+    pub told : Filled (resultsOf done) (resultWidth * made) results₀ results
+    pub listed : Filled (numbersOf done) n numbers₀ numbers
+    pub written : Filled (textsOf done) t text₀ text
 
-  -- the places reached are in their lists, which are as long as they were
-  pub record Within (results numbers text : List ℕ) (made d n t : ℕ) : Type 0 where
-    pub made-in : made ≤ whole
-    pub d-in : d ≤ length days
-    pub n-in : n ≤ length numbers
-    pub t-in : t ≤ length text
-    pub results-long : length results ≡ length results₀
-    pub numbers-long : length numbers ≡ length numbers₀
-    pub text-long : length text ≡ length text₀
-
-  -- THE LOOP'S INVARIANT
+  -- THE LOOP'S INVARIANT: the places reached are in their lists, which are as long as they were
   pub record Going (sv : Service) (bs : Blocks) (results numbers text : List ℕ) (made d n t : ℕ) : Type 0 where
     pub given : Given sv bs
-    pub within : Within results numbers text made d n t
+    pub all : whole ≡ min (length codes / codeWidth) (length results₀ / resultWidth)
+    pub within : (made ≤ whole) × (d ≤ length days) × (n ≤ length numbers) × (t ≤ length text)
+    pub long : (length results ≡ length results₀) × (length numbers ≡ length numbers₀) × (length text ≡ length text₀)
     pub so-far : (m₀ : State) → Represents sv₀ bs₀ m₀ → Reached m₀ sv bs results numbers text made d n t
 
   -- before the first turn
-  pub starts : Given sv₀ bs₀ → Going sv₀ bs₀ results₀ numbers₀ text₀ 0 0 0 0
-  starts g = let z : whole - 0 ≡ whole = omega arith in record {
-    given = g;
-    within = omega arith;
-    so-far = λ m₀ r. record { state = m₀; represents = r; count = rw z (omega arith); told = rw z; listed = rw z; written = rw z };
-  }
+  pub starts : Given sv₀ bs₀ → whole ≡ min (length codes / codeWidth) (length results₀ / resultWidth) → Going sv₀ bs₀ results₀ numbers₀ text₀ 0 0 0 0
+  starts g all = unfold written in let z : whole - 0 ≡ whole = omega arith in let none : (l : List ℕ) → Filled [] 0 l l = λ l. record { long = refl; is = refl } in
+      record { given = g; all = all; within = omega arith; long = omega arith; so-far = λ m₀ r.
+      record { done = []; state = m₀; represents = r; answers = rw z; count = refl; told = none _; listed = none _; written = none _ } }
 
   module _ (sv : Service) (bs : Blocks) (results numbers text : List ℕ) (made d n t : ℕ) (g : Going sv bs results numbers text made d n t) where
     -- nothing is still to come
-    ended : decodeFrom codes (whole - made) made (drop d days) (drop n numbers) (drop t text) ≡ []
-        → (m₀ : State) → Represents sv₀ bs₀ m₀ → Holds (answers m₀) results₀ numbers₀ text₀ made results numbers text
-    ended e m₀ r = unfold run written in let f = g .so-far m₀ r in
-        let none : coming (f .state) numbers text made d n t ≡ [] = ap (run (f .state)) e in record {
-          count = omega (arith, rw none at (f .count));
-          told = upto-done results₀ results (resultsOf (answers m₀)) (resultWidth * made) (rw none at (f .told));
-          listed = upto-done numbers₀ numbers (numbersOf (answers m₀)) n (rw none at (f .listed));
-          written = upto-done text₀ text (textsOf (answers m₀)) t (rw none at (f .written));
-        }
+    ended : left made d n t ≡ [] → (m₀ : State) → Represents sv₀ bs₀ m₀
+        → Holds (run m₀ (decodeFrom codes whole 0 days numbers₀ text₀)) results₀ numbers₀ text₀ made results numbers text
+    ended e m₀ r = unfold run in let f = g .so-far m₀ r in rw (f .answers, e, append-nil) (search)
 
-    pub ended-all : whole ≡ min (length codes / codeWidth) (length results₀ / resultWidth) → whole ≤ made
+    pub ended-all : whole ≤ made → Answered sv₀ bs₀ codes days results₀ numbers₀ text₀ made results numbers text
+    ended-all h = unfold decodeFrom in let z : whole - made ≡ 0 = omega arith in rw (← g .all) (ended (rw z))
+
+    -- the code that comes next, with the lists as long as they were
+    next-is : (c : Code) {x y : Next} → x ≡ nextOf c (length days - d) (length numbers - n) (length text - t) → x ≡ y
+        → nextOf c (length (drop d days)) (length (drop n numbers₀)) (length (drop t text₀)) ≡ y
+    next-is c e is = simp length-drop (rw (g .long .1, g .long .2) at (sym e ∙ is))
+
+    pub ended-stop : {c : Code} {x : Next} → c ≡ codeAt codes made → x ≡ nextOf c (length days - d) (length numbers - n) (length text - t) → x ≡ Stop
         → Answered sv₀ bs₀ codes days results₀ numbers₀ text₀ made results numbers text
-    ended-all is h = unfold decodeFrom in let z : whole - made ≡ 0 = omega arith in rw (← is) (ended (rw z))
+    ended-stop ec e stop = rw (← g .all) (ended (decode-stop codes (drop d days) (drop n numbers₀) (drop t text₀) made (whole - made) (rw ec at (next-is _ e stop))))
 
-    pub ended-stop : {c : Code} {x : Next} → whole ≡ min (length codes / codeWidth) (length results₀ / resultWidth) → c ≡ codeAt codes made
-        → x ≡ nextOf c (length days - d) (length numbers - n) (length text - t) → x ≡ Stop
-        → Answered sv₀ bs₀ codes days results₀ numbers₀ text₀ made results numbers text
-    ended-stop is ec e stop =
-        rw (← is) (ended (decode-stop codes (drop d days) (drop n numbers) (drop t text) made (whole - made) (simp length-drop (rw ec at (sym e ∙ stop)))))
-
-    -- A turn: the call q of the code c is made, and gives r, with bs′ in the blocks, and ns and ts in the parts that it was lent
-    module _ (c : Code) {x : Next} {q : Call} (r : Stepped) (bs′ : Blocks) (ns ts results′ : List ℕ)
-        (h : made < whole)
-        (room : resultWidth * made + resultWidth ≤ length results)
-        (ec : c ≡ codeAt codes made)
-        (is : x ≡ nextOf c (length days - d) (length numbers - n) (length text - t))
-        (go : x ≡ Go q)
-        (ln : length ns ≡ length (take (n + c .numbers - n) (drop n numbers)))
-        (lt : length ts ≡ length (take (t + c .text - t) (drop t text)))
-        (er : results′ ≡ tellAt made (r .outcome) results)
-        (met : Met sv bs (record { call = q; days = take (d + c .days - d) (drop d days); numbers = take (n + c .numbers - n) (drop n numbers); text = take (t + c .text - t) (drop t text) }) r bs′ ns ts) where
-      abbrev numbers′ : List ℕ
-      numbers′ = take n numbers ++ (ns ++ drop (n + c .numbers - n) (drop n numbers))
-
-      abbrev text′ : List ℕ
-      text′ = take t text ++ (ts ++ drop (t + c .text - t) (drop t text))
-
-      fit : Room c (length days - d) (length numbers - n) (length text - t)
-      fit = next-room c _ _ _ q (sym is ∙ go)
-
-      told-part : Part results (told (answerOf (r .outcome) ns ts)) (resultWidth * made) resultWidth results′
-      told-part = record { room = room; long = refl; put = er }
-
-      numbers-part : Part numbers ns n (c .numbers) numbers′
-      numbers-part = part-back numbers ns n (c .numbers) (omega (arith, fit, g)) ln
-
-      text-part : Part text ts t (c .text) text′
-      text-part = part-back text ts t (c .text) (omega (arith, fit, g)) lt
-
-      same : (a k : ℕ) → a + k - a ≡ k
-      same a k = omega arith
-
-      -- what is still coded is this call, and what is still coded after it
-      coded : decodeFrom codes (whole - made) made (drop d days) (drop n numbers) (drop t text)
-          ≡ record { call = q; days = take (d + c .days - d) (drop d days); numbers = take (n + c .numbers - n) (drop n numbers); text = take (t + c .text - t) (drop t text) }
-          ∷ decodeFrom codes (whole - (made + 1)) (made + 1) (drop (d + c .days) days) (drop (n + c .numbers) numbers′) (drop (t + c .text) text′)
-      coded = let z : whole - made ≡ suc (whole - (made + 1)) = omega arith in
-          rw (z, put-drop numbers-part, put-drop text-part, same d (c .days), same n (c .numbers), same t (c .text), ← drop-drop (c .days) d days)
-          (decode-go codes (drop d days) (drop n numbers) (drop t text) made (whole - (made + 1)) c q ec (simp length-drop (sym is ∙ go)) ∙ rw add-one)
-
-      turn-reached : (m₀ : State) → Represents sv₀ bs₀ m₀ → Reached m₀ (r .service) bs′ results′ numbers′ text′ (made + 1) (d + c .days) (n + c .numbers) (t + c .text)
-      turn-reached m₀ rp = unfold run written in let f = g .so-far m₀ rp in
-          let m = f .state in
-          let after : State = step m _ .state in
-          let more : List Answer = coming after numbers′ text′ (made + 1) (d + c .days) (n + c .numbers) (t + c .text) in
-          let key : coming m numbers text made d n t ≡ answerOf (r .outcome) ns ts ∷ more = ap (run m) coded ∙ ap (λ (a : Answer). a ∷ more) (sym (met .answer m (f .represents))) in
-          let next : resultWidth * (made + 1) ≡ resultWidth * made + resultWidth = omega arith in record {
-            state = after;
-            represents = met .after m (f .represents);
-            count = omega (arith, rw key at (f .count));
-            told = rw next (upto-more told-part results₀ (resultsOf more) (resultsOf (answers m₀)) (rw key at (f .told)));
-            listed = upto-more numbers-part numbers₀ (numbersOf more) (numbersOf (answers m₀)) (rw key at (f .listed));
-            written = upto-more text-part text₀ (textsOf more) (textsOf (answers m₀)) (rw key at (f .written));
+    -- A turn: the call q of the code c is made
+    module _ {c : Code} {x : Next} {q : Call} {r : Made} {bs′ : Blocks} {results′ numbers′ text′ : List ℕ} (h : made < whole) (ec : c ≡ codeAt codes made)
+        (is : x ≡ nextOf c (length days - d) (length numbers - n) (length text - t)) (go : x ≡ Go q)
+        (p : Makes sv bs q c made d n t days results numbers text r bs′ results′ numbers′ text′) where
+      turn-reached : (m₀ : State) → Represents sv₀ bs₀ m₀
+          → Reached m₀ (p .stepped .service) bs′ results′ numbers′ text′ (made + 1) (d + c .days) (n + c .numbers) (t + c .text)
+      turn-reached m₀ rp = unfold run in let f = g .so-far m₀ rp in
+          let fit = next-room is go in
+          let a : Answer = answerOf (p .stepped .outcome) (p .ns) (p .ts) in
+          let met = rw (lent d (c .days), lent n (c .numbers), lent t (c .text), filled-rest (f .listed), filled-rest (f .written)) at (p .met) in
+          let z : whole - made ≡ suc (whole - (made + 1)) = omega arith in
+          let next : resultWidth * (made + 1) ≡ resultWidth * made + resultWidth = omega arith in
+          let coded = decode-go codes (drop d days) (drop n numbers₀) (drop t text₀) made (whole - (made + 1)) c q ec (next-is c is go) in record {
+            done = f .done ++ a ∷ [];
+            state = step (f .state) (asking q (take (c .days) (drop d days)) (take (c .numbers) (drop n numbers₀)) (take (c .text) (drop t text₀))) .state;
+            represents = met .after (f .state) (f .represents);
+            answers = f .answers ∙ rw (z, coded, ← met .answer (f .state) (f .represents)) (simp (append-snoc, drop-drop, add-one));
+            count = omega (arith, f .count, length-append (f .done) (a ∷ []));
+            told = rw (written-snoc, next) (filled-more (f .told) (told a) resultWidth refl (p .lists .0));
+            listed = rw written-snoc (filled-more (f .listed) (p .ns) (c .numbers) (p .long .0 ∙ simp (length-take, length-drop) (omega (arith, fit, g))) (p .lists .1 ∙ back n (c .numbers) (p .ns) numbers));
+            written = rw written-snoc (filled-more (f .written) (p .ts) (c .text) (p .long .1 ∙ simp (length-take, length-drop) (omega (arith, fit, g))) (p .lists .2 ∙ back t (c .text) (p .ts) text));
           }
 
-      pub turned : Going (r .service) bs′ results′ numbers′ text′ (made + 1) (d + c .days) (n + c .numbers) (t + c .text)
-      turned = record {
-        given = met .given;
-        within = omega (arith, fit, g, put-length told-part, put-length numbers-part, put-length text-part);
-        so-far = turn-reached;
-      }
+      pub turned : length results′ ≡ length results → length numbers′ ≡ length numbers → length text′ ≡ length text
+          → Going (r .service) bs′ results′ numbers′ text′ (r .made) (r .days) (r .numbers) (r .text)
+      turned kr kn kt = let fit = next-room is go in rw (p .service, p .next .0, p .next .1, p .next .2, p .next .3) (record { given = p .met .given; all = g .all; within = omega (arith, fit, g); long = omega (arith, g); so-far = turn-reached })
 
 -- ---- The beginning
 

@@ -1,23 +1,17 @@
 -- What a list of calls leaves in the lent lists. Assumes nothing.
-use Prim.Native.Nat.{ℕ, _+_, _*_}
+use Prim.Native.Nat.{ℕ}
 use mathlib.Core.Path.{_≡_}
 use mathlib.Core.Bool.{Bool, cond}
-use mathlib.Core.List.{List, [], _++_}
-use lib.ListN.{length, take, drop}
+use mathlib.Core.List.{List}
+use lib.ListN.{length}
 use Rattle.refusal.specs.Table.{accepted}
 use Rattle.register.specs.Text.{readText}
 use Rattle.buffer.specs.Buffer.{over}
 use Rattle.model.specs.Model.{State, fresh, begun, refusalIn, lineIn, Answer, run}
 use Rattle.service.specs.declared.Service.{Service}
-use Rattle.outcomes.specs.declared.Outcome.{Outcome}
-use Rattle.outcomes.specs.Outcomes.{answerOf}
 use Rattle.service.specs.Service.{Blocks, Represents}
-use Rattle.coding.specs.Coded.{resultWidth, decode, told, resultsOf, numbersOf, textsOf}
+use Rattle.coding.specs.Coded.{decode, resultsOf, numbersOf, textsOf}
 use Rattle.replay.specs.declared.Ran.{Ran}
-
--- a list with the results of the call k in their places
-abbrev pub tellAt : ℕ → Outcome → List ℕ → List ℕ
-tellAt k o l = (take (resultWidth * k) l ++ told (answerOf o [] [])) ++ drop (resultWidth * k + resultWidth) l
 
 -- so many calls were made, and results, numbers and text hold these answers
 pub record Holds (answers : List Answer) (results numbers text : List ℕ) (made : ℕ) (results′ numbers′ text′ : List ℕ) : Type 0 where

@@ -1,12 +1,15 @@
 // A whole coded list of calls, run through the public functions of `service` alone: its claim follows from their contracts.
 ghost use mathlib.Core.Path.{_≡_};
-ghost use Prim.Native.Nat.{_+_, _*_, _≤_, _<_, _/_, min};
+ghost use Prim.Native.Nat.{_+_, _-_, _*_, _≤_, _<_, _/_, min};
 ghost use lib.ListN.{length};
 ghost use Rattle.service.specs.Service.{blocks, Given};
 ghost use Rattle.coding.specs.Coded.{codeWidth, resultWidth, word, codeAt};
-ghost use Rattle.replay.specs.Replayed.{tellAt, Answered, Replayed};
+ghost use Rattle.coding.specs.Contracts.{Room};
+ghost use Rattle.replay.specs.Replayed.{Answered, Replayed};
+ghost use Rattle.replay.specs.Contracts.{tellAt, Makes};
 use coding::Code;
 use coding::Next;
+use model::Call;
 use outcomes::Outcome;
 use service::Service;
 use stabbing::INDEX;
@@ -75,6 +78,59 @@ fn tell(results: &mut [u64], k: usize, o: Outcome)
     results[at + 4] = o.ticked as u64;
 }
 
+// The service after a call, how many calls are made, and the places of the lists after those that it was lent.
+struct Made {
+    service: Service,
+    made: usize,
+    days: usize,
+    numbers: usize,
+    text: usize,
+}
+
+// The call of a code, made as the k-th: it is lent the lists' places from `d`, `n` and `t` on, as many as its code says.
+fn make(
+    service: Service,
+    index: &mut [u16; INDEX],
+    call: Call,
+    c: Code,
+    k: usize,
+    d: usize,
+    n: usize,
+    t: usize,
+    days: &[u16],
+    results: &mut [u64],
+    numbers: &mut [u16],
+    text: &mut [u8],
+) -> Made
+    requires { ⌜ Given service (blocks (now index)) ⌝ }
+    requires { ⌜ (d ≤ length (now days)) × (n ≤ length (now numbers)) × (t ≤ length (now text)) ⌝ }
+    requires { ⌜ Room c (length (now days) - d) (length (now numbers) - n) (length (now text) - t) ⌝ }
+    requires { ⌜ resultWidth * k + resultWidth ≤ length (now results) ⌝ }
+    ensures { λ r. ⌜ Makes service (blocks (now (index .entry))) call c k d n t (now (days .entry)) (now (results .entry)) (now (numbers .entry)) (now (text .entry)) r (blocks (now (index .exit))) (now (results .exit)) (now (numbers .exit)) (now (text .exit)) ⌝ }
+{
+    let made = k + 1;
+    let to_days = d + c.days;
+    let to_numbers = n + c.numbers;
+    let to_text = t + c.text;
+    let r = service::step(
+        service,
+        index,
+        call,
+        &days[d..to_days],
+        &mut numbers[n..to_numbers],
+        &mut text[t..to_text],
+    );
+    tell(results, k, r.outcome);
+    let next = r.service;
+    Made {
+        service: next,
+        made,
+        days: to_days,
+        numbers: to_numbers,
+        text: to_text,
+    }
+}
+
 // The calls made on a service, and how many.
 fn calls(
     service: Service,
@@ -100,20 +156,12 @@ fn calls(
         else {
             return made;
         };
-        let r = service::step(
-            s,
-            index,
-            call,
-            &days[d..d + c.days],
-            &mut numbers[n..n + c.numbers],
-            &mut text[t..t + c.text],
-        );
-        tell(results, made, r.outcome);
+        let r = make(s, index, call, c, made, d, n, t, days, results, numbers, text);
         s = r.service;
-        made += 1;
-        d += c.days;
-        n += c.numbers;
-        t += c.text;
+        made = r.made;
+        d = r.days;
+        n = r.numbers;
+        t = r.text;
     }
     made
 }

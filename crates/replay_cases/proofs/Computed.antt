@@ -14,17 +14,16 @@ use Rattle.replay.specs.Replayed.{Holds}
 
 -- ---- The program's calls
 
+-- the code of an `enter`
+abbrev enter : ℕ → ℕ → ℕ → ℕ → ℕ → ℕ → List ℕ
+enter number candidate first last kind value = 1 ∷ number ∷ candidate ∷ first ∷ last ∷ kind ∷ value ∷ replicate 3 0
+
 abbrev calls : List ℕ
-calls = (1 ∷ 13 ∷ 9 ∷ 5 ∷ 8 ∷ 0 ∷ 1 ∷ 0 ∷ 0 ∷ 0 ∷ [])
-    ++ (1 ∷ 14 ∷ 9 ∷ 5 ∷ 6 ∷ 1 ∷ 0x3F80_0000 ∷ 0 ∷ 0 ∷ 0 ∷ [])
-    ++ (1 ∷ 13 ∷ 7 ∷ 1 ∷ 9 ∷ 0 ∷ 2 ∷ 0 ∷ 0 ∷ 0 ∷ [])
-    ++ (5 ∷ 1 ∷ 0 ∷ 0 ∷ 0 ∷ 0 ∷ 0 ∷ 0 ∷ 0 ∷ 0 ∷ [])
+calls = enter 13 9 5 8 0 1 ++ enter 14 9 5 6 1 0x3F80_0000 ++ enter 13 7 1 9 0 2
+    ++ (5 ∷ 1 ∷ replicate 8 0)
     ++ (7 ∷ 0 ∷ 0 ∷ 5 ∷ 0 ∷ 0 ∷ 0 ∷ 0 ∷ 3 ∷ 0 ∷ [])
     ++ (7 ∷ 0 ∷ 0 ∷ 5 ∷ 0 ∷ 0 ∷ 0 ∷ 0 ∷ 1 ∷ 0 ∷ [])
-    ++ (4 ∷ 0 ∷ 0 ∷ 0 ∷ 0 ∷ 0 ∷ 0 ∷ 0 ∷ 0 ∷ 0 ∷ [])
-    ++ (6 ∷ 0 ∷ 0 ∷ 0 ∷ 0 ∷ 0 ∷ 0 ∷ 0 ∷ 0 ∷ 14 ∷ [])
-    ++ (4 ∷ 0 ∷ 0 ∷ 0 ∷ 0 ∷ 0 ∷ 0 ∷ 0 ∷ 0 ∷ 0 ∷ [])
-    ++ (4 ∷ 0 ∷ 0 ∷ 0 ∷ 0 ∷ 0 ∷ 0 ∷ 0 ∷ 0 ∷ 0 ∷ [])
+    ++ (4 ∷ replicate 9 0) ++ (6 ∷ replicate 8 0 ++ 14 ∷ []) ++ (4 ∷ replicate 9 0) ++ (4 ∷ replicate 9 0)
 
 -- a run of them left so many answers, and these results, numbers and text
 abbrev Left : ℕ → List ℕ → List ℕ → List ℕ → Type 0
@@ -32,18 +31,13 @@ Left = Holds (run fresh (decode calls [] (replicate 55 77) (replicate 5 99) (rep
 
 -- ---- What it leaves
 
+-- the results of a call that tells its refusal alone
+abbrev refused : ℕ → List ℕ
+refused n = n ∷ replicate 4 0
+
 abbrev told : List ℕ
-told = (0 ∷ 0 ∷ 0 ∷ 0 ∷ 0 ∷ [])
-    ++ (0 ∷ 0 ∷ 0 ∷ 0 ∷ 0 ∷ [])
-    ++ (6 ∷ 0 ∷ 0 ∷ 0 ∷ 0 ∷ [])
-    ++ (0 ∷ 0 ∷ 0 ∷ 0 ∷ 0 ∷ [])
-    ++ (0 ∷ 2 ∷ 1 ∷ 0 ∷ 0 ∷ [])
-    ++ (11 ∷ 0 ∷ 0 ∷ 0 ∷ 0 ∷ [])
-    ++ (0 ∷ 0 ∷ 0 ∷ 0 ∷ 0 ∷ [])
-    ++ (0 ∷ 0 ∷ 0 ∷ 13 ∷ 0 ∷ [])
-    ++ (0 ∷ 0 ∷ 0 ∷ 0 ∷ 0 ∷ [])
-    ++ (9 ∷ 0 ∷ 0 ∷ 0 ∷ 0 ∷ [])
-    ++ (77 ∷ 77 ∷ 77 ∷ 77 ∷ 77 ∷ [])
+told = refused 0 ++ refused 0 ++ refused 6 ++ refused 0 ++ (0 ∷ 2 ∷ 1 ∷ 0 ∷ 0 ∷ []) ++ refused 11
+    ++ refused 0 ++ (0 ∷ 0 ∷ 0 ∷ 13 ∷ 0 ∷ []) ++ refused 0 ++ refused 9 ++ replicate 5 77
 
 abbrev listed : List ℕ
 listed = 14 ∷ 13 ∷ 99 ∷ 99 ∷ 99 ∷ []

@@ -7,7 +7,7 @@ use Rattle.service.{specs.{Packed.unpacked, Service.{Blocks, Represents}}, proo
 use Rattle.conversations.specs.Answering.{roomOf}
 use Rattle.replies.proofs.Sending.{sends-bytes}
 use Rattle.hosting.specs.History.{Opens}
-use Rattle.sharing.specs.{declared.Carried.Carried, Carrying.Carries, History.{Posted, eventsIn, allEvents, replies, Shared, none, carried, held}}
+use Rattle.sharing.specs.{History.{Posted, eventsIn, allEvents, replies, Shared, none, carried, held}}
 use Rattle.sharing.proofs.Words.{turn-left}
 
 left-append : (m : State) (es fs : List Event) → left m (es ++ fs) ≡ left (left m es) fs
@@ -15,21 +15,15 @@ unfolding left
 left-append m [] fs = refl
 left-append m (e ∷ es) fs = left-append (next m e) es fs
 
--- a request that is carried out leaves words and blocks that stand for the state after it
-carried-after : {words words′ : List ℕ} {bs bs′ : Blocks} {m : State} (p : Posted) {days numbers text out days′ numbers′ text′ out′ : List ℕ} {r : Carried}
-    → Represents (unpacked words) bs m → Carries words bs (p .room) (p .line) (p .payload) days numbers text out r words′ bs′ days′ numbers′ text′ out′
-    → Represents (unpacked words′) bs′ (left m (eventsIn p))
-carried-after {m = m} p s c = rw (← turn-left m (p .payload) (roomOf (p .room)) (askedOf 32768 (p .line))) (c .served .answers .turned .taken m s .after)
-
 -- what requests are answered, and what words and blocks they leave
 shared-led : {words words′ : List ℕ} {bs bs′ : Blocks} {ps : List Posted} {rs : List (List ℕ)} (m : State) → Represents (unpacked words) bs m
     → Shared words bs ps rs words′ bs′ → (rs ≡ replies m ps) × Represents (unpacked words′) bs′ (left m (allEvents ps))
 unfolding replies allEvents left
 shared-led m s none = (refl, s)
 shared-led m s (carried {p = p} {ps} allowed r days numbers text out words′ bs′ days′ numbers′ text′ out′ within met more) =
-    let c = rw within at (met (represented s)) in
-    let led = shared-led (left m (eventsIn p)) (carried-after p s c) more in
-    (rw (sends-bytes (c .served .answers .turned .taken m s .sends), led .0), rw (left-append m (eventsIn p) (allEvents ps)) (led .1))
+    let c = rw within at (met (represented s)) in let taken = c .served .answers .turned .taken m s in
+    let led = shared-led (left m (eventsIn p)) (rw (turn-left m (p .payload) (roomOf (p .room)) (askedOf 32768 (p .line))) at (taken .after)) more in
+    (rw (sends-bytes (taken .sends), led .0), rw (left-append m (eventsIn p) (allEvents ps)) (led .1))
 shared-led m s (held p allowed r days numbers text out words′ bs′ days′ numbers′ text′ out′ beyond met more) =
     let h = rw beyond at (met (represented s)) in
     shared-led m (rw (h .words-kept, h .blocks-kept) s) more

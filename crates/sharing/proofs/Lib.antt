@@ -1,4 +1,3 @@
 pub mod Words
 pub mod Carrying
-pub mod Editing
 pub mod Claims

@@ -1,27 +1,14 @@
 -- What a request's word may do is what its event does. Assumes nothing.
-use Rattle.basis.proofs.Prelude.{_∙_, _≡_, ap, refl, sym, _-_, _<_, _≤_, ℕ, _≢_, List, [], _∷_, Bool, cond, false, false≢true, true, eqb, ltb, getD, length, length-append, take, getD-at, length-take-le, arith, le-ltb, lt-ltb, ne-eqb, by-test}
+use Rattle.basis.proofs.Prelude.{_∙_, _≡_, ap, refl, sym, _-_, _<_, _≤_, ℕ, _≢_, List, [], _∷_, Bool, cond, false, false≢true, true, eqb, ltb, getD, length, length-append, take, getD-at, length-take-le, take-all, arith, le-ltb, lt-ltb, ne-eqb, by-test}
 use Rattle.refusal.specs.Table.{accepted}
 use Rattle.fields.specs.Fields.{isAt}
 use Rattle.model.{specs.{declared.{Call.{Call, the-variants.{Enter, Amend, Strike, TakeBack, Publish, Write, Ask}}}, Model.{State, Answer, step}, Journal.{reads, call, left, journal}}, proofs.Journal.journal-left}
-use Rattle.requests.specs.{Requests.{Demand, asksCall, asksRoom, asksRead, malformed}, Parsing.requestOf}
+use Rattle.requests.specs.Requests.{Demand, asksCall, asksRoom, asksRead, malformed}
 use Rattle.replies.specs.{Replies.{okText, refusedText, shapeOf, shapeText, callText}, Sending.Sends}
 use Rattle.conversations.specs.{Conversation.{turnOf, callOf}, Answering.{conv, onlyReads}}
-use Rattle.sharing.specs.{Words.{callWord, wordOf, wordIn, powerOf, changedAt}, Carrying.eventsOf}
+use Rattle.sharing.specs.{Words.{callWord, wordOf, powerOf, changedAt}, Carrying.eventsOf}
 
--- the word of the program's form of what is asked
-pub word-parsed : (q : Demand) → wordIn (requestOf q) ≡ wordOf q
-word-parsed (asksCall c ds) = refl
-word-parsed (asksRoom n) = refl
-word-parsed (asksRead n) = refl
-word-parsed malformed = refl
-
--- ---- What a word may do, as the code tests it
-
-pub power-read : (w : ℕ) → w ≡ 2 → 2 ≡ powerOf w
-power-read w e = unfold powerOf in rw e
-
-pub power-low : (w : ℕ) → w ≢ 2 → w < 16 → 0 ≡ powerOf w
-power-low w other low = unfold powerOf in rw (ne-eqb w 2 other, lt-ltb w 16 low)
+-- ---- What a word may do
 
 pub power-mid : (w : ℕ) → 16 ≤ w → w < 32 → 1 ≡ powerOf w
 power-mid w low high = unfold powerOf in rw (ne-eqb w 2 (λ e. omega (arith, e)), le-ltb w 16 low, lt-ltb w 32 high)
@@ -31,12 +18,6 @@ power-high w high = unfold powerOf in rw (ne-eqb w 2 (λ e. omega (arith, e)), l
 
 -- and whether it did, by the first byte of the answer
 module _ (p : ℕ) (out : List ℕ) (place : ℕ) where
-  pub changed-none : p ≡ 0 → 0 ≡ changedAt p out place
-  changed-none e = unfold changedAt in rw e
-
-  pub changed-read : p ≡ 2 → 1 ≡ changedAt p out place
-  changed-read e = unfold changedAt in rw e
-
   pub changed-yes : {b : Bool} → p ≢ 0 → p ≢ 2 → b ≡ isAt out place 111 → b ≡ true → 1 ≡ changedAt p out place
   changed-yes f g e t = unfold changedAt in rw (ne-eqb p 0 f, ne-eqb p 2 g, sym e ∙ t)
 
@@ -66,10 +47,6 @@ power-onlyReads malformed e = refl
 
 -- ---- Requests
 
-pub length-none : {A : Type 0} (l : List A) → length l ≡ 0 → l ≡ []
-length-none [] e = refl
-length-none (x ∷ l) e = absurd (omega (arith, e))
-
 module _ (m : State) (payload : List ℕ) (room : ℕ) where
   -- the state after a request is that after its event
   pub turn-left : (q : Demand) → turnOf q payload (conv m room) .next .state ≡ left m (eventsOf q payload room)
@@ -79,17 +56,9 @@ module _ (m : State) (payload : List ℕ) (room : ℕ) where
   turn-left (asksRead n) = refl
   turn-left malformed = refl
 
-  -- a journal keeps nothing of one whose word leaves the state
-  pub power-none : (q : Demand) → powerOf (wordOf q) ≡ 0 → journal m (eventsOf q payload room) ≡ []
-  unfolding journal powerOf
-  power-none (asksCall c ds) none = by-test (reads c) (λ e. rw e) (λ e. let one : powerOf (callWord c) ≡ 1 = call-acts c .0 ∙ rw e in absurd (omega (arith, none)))
-  power-none (asksRoom n) none = refl
-  power-none (asksRead n) none = absurd (omega (arith, none))
-  power-none malformed none = refl
-
   -- of which a journal keeps nothing, the state is as it was
-  pub unkept : (q : Demand) → journal m (eventsOf q payload room) ≡ [] → turnOf q payload (conv m room) .next .state ≡ m
-  unkept q none = unfold left in turn-left q ∙ sym (journal-left m (eventsOf q payload room)) ∙ ap (left m) none
+  pub unkept : (q : Demand) → length (journal m (eventsOf q payload room)) ≡ 0 → turnOf q payload (conv m room) .next .state ≡ m
+  unkept q none = unfold left in turn-left q ∙ sym (journal-left m (eventsOf q payload room)) ∙ ap (left m) (sym (take-all 0 (journal m (eventsOf q payload room)) (omega (arith, none))))
 
 -- ---- The first byte of an answer
 

@@ -8,7 +8,8 @@ use Rattle.model.specs.declared.Call.{Call}
 use Rattle.model.specs.declared.Call.the-variants.{Enter, Amend, Strike, TakeBack, Publish, Write, Ask}
 use Rattle.model.specs.declared.Question.{Question}
 use Rattle.coding.specs.Coded.{questionNumber}
-use Rattle.requests.specs.Requests.{Demand, asksCall, asksRoom, asksRead, malformed}
+use Rattle.requests.specs.Requests.{Demand}
+use Rattle.requests.specs.Parsing.{requestOf}
 use Rattle.requests.specs.declared.Request.{Request}
 use Rattle.requests.specs.declared.Request.the-variants.{Call as RequestCall, Room as RequestRoom, Read as RequestRead, Malformed as RequestMalformed}
 
@@ -26,18 +27,15 @@ callWord Write = 32
 callWord (Ask w) = questionWord w
 
 -- the number of a request's word; 0 for a line of no form
-abbrev pub wordOf : Demand → ℕ
-wordOf (asksCall c ds) = callWord c
-wordOf (asksRoom n) = 1
-wordOf (asksRead n) = 2
-wordOf malformed = 0
-
--- the same of the program's form of it
 abbrev pub wordIn : Request → ℕ
 wordIn (RequestCall c k) = callWord c
 wordIn (RequestRoom n) = 1
 wordIn (RequestRead n) = 2
 wordIn RequestMalformed = 0
+
+-- the same of what is asked
+abbrev pub wordOf : Demand → ℕ
+wordOf q = wordIn (requestOf q)
 
 -- what a word may do: 2, it replaces the state; 1, it changes it; 0, it leaves it
 unfoldable pub powerOf : ℕ → ℕ

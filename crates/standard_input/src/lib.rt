@@ -15,9 +15,9 @@ pub fn read(text: &mut [u8], usage: &[u8], name: &[u8]) -> Input
         return Input::Failed;
     }
     let got = input::fill(STDIN_FILENO, text);
-    let Input::Read(n) = got else {
-        os::fail(name);
-        return Input::Failed;
-    };
-    Input::Read(n)
+    match got {
+        Input::Read(_) => {}
+        Input::Failed => os::fail(name),
+    }
+    got
 }

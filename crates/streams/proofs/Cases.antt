@@ -2,7 +2,7 @@
 use Rattle.basis.proofs.Prelude.{_≡_, refl, ℕ, List, [], _++_, _∷_}
 use Rattle.fields.specs.Fields.{passed, readDigits, readDecimal}
 use Rattle.requests.specs.{Words.{table, begins, headOf}, Requests.{askedBy, askedOf, following}}
-use Rattle.streams.specs.Stream.{begun, kept, wants, settled, lineFed, feed, onward, cutFrom, cut, leftBy, left, cutPieces}
+use Rattle.streams.specs.Stream.{kept, wants, settled, lineFed, feed, onward, cutFrom, cut}
 
 -- `publish`
 abbrev publishLine : List ℕ
@@ -16,17 +16,7 @@ readLine = 114 ∷ 101 ∷ 97 ∷ 100 ∷ 9 ∷ 51 ∷ 10 ∷ []
 abbrev three : List ℕ
 three = 97 ∷ 10 ∷ 99 ∷ []
 
--- `da`, and no more
-abbrev rest : List ℕ
-rest = 100 ∷ 97 ∷ []
-
--- two requests, the second with the bytes after it, and a third that is not whole
-pub stream-cut : cut (publishLine ++ readLine ++ three ++ rest) ≡ record { line = publishLine; payload = [] } ∷ record { line = readLine; payload = three } ∷ []
+-- two requests, the second with the bytes after it, and a third that is not whole, `da`
+pub stream-cut : cut (publishLine ++ readLine ++ three ++ 100 ∷ 97 ∷ []) ≡ record { line = publishLine; payload = [] } ∷ record { line = readLine; payload = three } ∷ []
 unfolding kept following wants settled lineFed feed onward cutFrom table begins headOf askedBy askedOf passed readDigits readDecimal
 stream-cut = refl
-
--- the same in three pieces, cut within a line and within a text
-pub pieces-cut : cutPieces begun ((112 ∷ 117 ∷ []) ∷ (98 ∷ 108 ∷ 105 ∷ 115 ∷ 104 ∷ 10 ∷ 114 ∷ 101 ∷ 97 ∷ 100 ∷ 9 ∷ 51 ∷ 10 ∷ 97 ∷ []) ∷ (10 ∷ 99 ∷ 100 ∷ 97 ∷ []) ∷ [])
-    ≡ record { line = publishLine; payload = [] } ∷ record { line = readLine; payload = three } ∷ []
-unfolding kept following wants settled lineFed feed onward cutFrom leftBy left cutPieces table begins headOf askedBy askedOf passed readDigits readDecimal
-pieces-cut = refl

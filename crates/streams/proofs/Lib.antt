@@ -1,5 +1,3 @@
-pub mod Cutting
 pub mod Claims
 pub mod Shapes
-pub mod Hosting
 pub mod Cases

@@ -58,22 +58,6 @@ cutFrom p (b ∷ s) = onward (feed p b) (λ p′. cutFrom p′ s)
 abbrev pub cut : List ℕ → List Sent
 cut = cutFrom begun
 
--- ---- A stream in pieces
-
-unfoldable pub leftBy : Step → (Partial → Partial) → Partial
-leftBy (whole q) more = more begun
-leftBy (part p) more = more p
-
--- the part of a request that bytes leave
-unfoldable pub left : Partial → List ℕ → Partial
-left p [] = p
-left p (b ∷ s) = leftBy (feed p b) (λ p′. left p′ s)
-
--- the requests of pieces, each gone on with from the part that the one before it left
-unfoldable pub cutPieces : Partial → List (List ℕ) → List Sent
-cutPieces p [] = []
-cutPieces p (s ∷ ss) = cutFrom p s ++ cutPieces (left p s) ss
-
 -- ---- For its laws
 
 -- bytes that are none of them LF

@@ -9,18 +9,4 @@ call-of-spec = close (spec
     (λ c κs. search needs) (λ c κs. search needs) (λ c. simp (c .before .match .keys1, ← c .spell-of .ensures))
     (λ c. simp (c .before .match .keys2, ← c .spell-of2 .ensures)) (λ c. simp (c .match .keys3)) (λ c. simp (c .match .keys4))
     (λ c. simp (c .match .keys5)) (λ c. simp (c .match .keys6)) (λ c. simp (c .match .keys7)) (λ c. simp (c .match .keys8))
-    (λ c. simp (c .match .keys9)) (λ c. simp (c .match .keys10)) (λ c. simp (c .match .keys11))
-    -- none
-    (λ c. let r = c .match .rest in simp (
-      ne-eqb _ _ (r .1),
-      ne-eqb _ _ (r .0 .1),
-      ne-eqb _ _ (r .0 .0 .1),
-      ne-eqb _ _ (r .0 .0 .0 .1),
-      ne-eqb _ _ (r .0 .0 .0 .0 .1),
-      ne-eqb _ _ (r .0 .0 .0 .0 .0 .1),
-      ne-eqb _ _ (r .0 .0 .0 .0 .0 .0 .1),
-      ne-eqb _ _ (r .0 .0 .0 .0 .0 .0 .0 .1),
-      ne-eqb _ _ (r .0 .0 .0 .0 .0 .0 .0 .0 .1),
-      ne-eqb _ _ (r .0 .0 .0 .0 .0 .0 .0 .0 .0 .1),
-      ne-eqb _ _ (r .0 .0 .0 .0 .0 .0 .0 .0 .0 .0 .1),
-    )))
+    (λ c. simp (c .match .keys9)) (λ c. simp (c .match .keys10)) (λ c. simp (c .match .keys11)) (λ c. search ne-eqb))

@@ -1,6 +1,6 @@
 -- `host_wire::edit_turn` meets its contract. Assumes nothing.
 use Rattle.basis.proofs.Prelude.{needs}
-use Rattle.sharing.proofs.Editing.{lent, edit-turned}
+use Rattle.sharing.proofs.Carrying.{lent, edit-turned}
 use Rattle.host_wire.proofs.edit_turn.{Statement.statement, Tie.{close, spec}}
 
 pub edit-turn-spec : {M : Type 1} → statement M

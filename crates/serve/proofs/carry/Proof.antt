@@ -1,6 +1,6 @@
 -- `serve::carry` meets its contract. Assumes nothing.
 use Rattle.basis.proofs.Prelude.{sym, length-take-le, arith, needs}
-use Rattle.conversations.proofs.Serving.{carried-served}
+use Rattle.conversations.proofs.Claims.{carried-served}
 use Rattle.serve.proofs.carry.{Statement.statement, Tie.{close, spec}}
 
 pub carry-spec : {M : Type 1} → statement M
