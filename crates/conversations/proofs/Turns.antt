@@ -5,7 +5,7 @@ use Rattle.spell.specs.{declared.Spell.Spell, Listing.Good}
 use Rattle.register.{specs.Text.{writeAll, Register, readText, Register.bad}, proofs.Texts.written-width}
 use Rattle.model.{specs.{declared.{Call.{Call, the-variants.{Enter, Amend, Strike, TakeBack, Publish, Write, Ask}}, Question.Question}, Questions.listed, Effects.{After, gave}, Model.{State, Request, Answer, effectOf, step, fresh, begun}}, proofs.{Bridge.comparisons-le, Effects.every, Filter.listed-few, Call.the-type}}
 use Rattle.service.{specs.{declared.{Service.Service, Stepped.Stepped, Started.Started}, Service.{Blocks, Given, Met, Represents, Begins, blocks}}, proofs.{Represented.{stateOf, stands, represented}, Asking.asked-met}}
-use Rattle.outcomes.specs.{Outcomes.{asking, answerOf}, declared.Outcome.Outcome}
+use Rattle.outcomes.specs.{Outcomes.{asking}, declared.Outcome.Outcome}
 use Rattle.replies.{specs.{Sending.{Sends, replyText}, Fitting.Fits, Replies.{okText, malformedText, refusedLine, readingText}}, proofs.Fitting.replied}
 use Rattle.conversations.specs.{Conversation.{callOf, turnBy, registerOf, turnOf}, Contracts.{CallTurn, AskTurn}, declared.{Answered.Answered, Wanted.{Wanted, the-variants.{Call as WantedCall, Read as WantedRead}}, Looked.Looked}, Answering.{Taken, Restarted, Answers, Carries, askedIn, beside, lentOf, roomOf, isQuestion, wantedIn, wantedBy, LooksAt, Looks}}
 use Rattle.conversations.proofs.Shown.{Same, same-settle, same-call}

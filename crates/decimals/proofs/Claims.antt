@@ -1,8 +1,6 @@
 -- What the decimals are for: a decimal that is written is read back, whatever follows it, and one that is read is what
 -- is written of its value. Assumes nothing.
-use Rattle.basis.proofs.Prelude.{_≡_, _<_, _≤_, ℕ, List, arith}
-use Rattle.fields.specs.Fields.{found, decimalOf, readNumber, readLength, numberText, wideText}
-use Rattle.decimals.proofs.Decimals.{write-number, read-length, length-back}
+use Rattle.decimals.proofs.{Decimals.{length-back, read-length, write-number}, Names.{List, _<_, _≡_, _≤_, arith, decimalOf, found, numberText, readLength, readNumber, wideText, ℕ}}
 
 -- a decimal up to 65,535, ended by a byte below the digits
 pub number-read : (e n : ℕ) (rest : List ℕ) → e < 48 → n ≤ 65535 → readNumber e (numberText n e rest) ≡ found n rest

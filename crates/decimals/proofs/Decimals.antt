@@ -1,7 +1,5 @@
 -- A decimal is read as it was written, and what is read is what is written. Assumes nothing.
-use Prim.Native.Nat.{_^_}
-use Rattle.basis.proofs.Prelude.{_∙_, _≡_, refl, sym, _%_, _*_, _+_, _-_, _/_, _<_, _≤_, suc, zero, ℕ, List, [], _∷_, true, eqb, leb, ltb, arith, eq-eqb, eqb-false, eqb-true, le-leb, le-ltb, leb-true, lt-leb, lt-ltb, ltb-false, ltb-true, ne-eqb, by-test}
-use Rattle.fields.{specs.Fields.{found, passed, isDigit, readDigits, readDecimal, readLength, readNumber, digitsOf, decimalOf}, proofs.{Bytes.{never, digit-is, digit-range, ended-back}, Widths.more}}
+use Rattle.decimals.proofs.Names.{List, [], _%_, _*_, _+_, _-_, _/_, _<_, _^_, _∙_, _∷_, _≡_, _≤_, arith, by-test, decimalOf, digit-is, digit-range, digitsOf, ended-back, eq-eqb, eqb, eqb-false, eqb-true, found, isDigit, le-leb, le-ltb, leb, leb-true, lt-leb, lt-ltb, ltb, ltb-false, ltb-true, more, ne-eqb, never, passed, readDecimal, readDigits, readLength, readNumber, refl, suc, sym, true, zero, ℕ}
 
 -- ---- one more digit
 pub digits-one : (k n : ℕ) (rest : List ℕ) → n < 10 → digitsOf k n rest ≡ (48 + n) ∷ rest

@@ -1,6 +1,5 @@
 -- What a reader of decimals finds at a place of a text, as its tests say. Assumes nothing.
-use Rattle.basis.proofs.Prelude.{_∙_, _≡_, sym, _*_, _+_, _-_, _/_, _<_, _≤_, ℕ, List, Bool, false, not, true, drop, getD, length, arith, eq-eqb, le-leb, lt-leb, ne-eqb, not-false, not-true}
-use Rattle.fields.{specs.{declared.Length.{Length, the-variants.Malformed}, Fields.{Found, found, unreadable, onward, passed, isDigit, readDigits, readDecimal, readLength}, Answers.{lengthAt, lengthOf, Reads}}, proofs.{Bytes.digit-range, Places.{here, past-end}}}
+use Rattle.decimals.proofs.Names.{Bool, Found, Length, List, Malformed, Reads, _*_, _+_, _-_, _/_, _<_, _∙_, _≡_, _≤_, arith, digit-range, drop, eq-eqb, false, found, getD, here, isDigit, le-leb, length, lengthAt, lengthOf, lt-leb, ne-eqb, not, not-false, not-true, onward, passed, past-end, readDecimal, readDigits, readLength, sym, true, unreadable, ℕ}
 
 -- the digits from the place i on, v read so far: x is what was to be read
 module _ (s : List ℕ) (i top v : ℕ) (x : Found ℕ) (e : x ≡ readDigits top v (drop i s)) where

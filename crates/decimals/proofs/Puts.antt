@@ -1,9 +1,5 @@
 -- The digits of a number, put into a list from the last to the first. Assumes nothing.
-use Prim.Native.Nat.{_^_}
-use Rattle.basis.proofs.Prelude.{_≡_, ap, _%_, _+_, _-_, _/_, _<_, _≤_, suc, ℕ, List, drop, length, length-drop, set, arith}
-use Rattle.fields.{specs.{Fields.digitsOf, Answers.Puts}, proofs.{Puts.{Put, put-end, put-one, put-on, put-place, puts-room}, Widths.digits-width}}
-use Rattle.decimals.specs.Contracts.{digitsText}
-use Rattle.decimals.proofs.Decimals.{digits-one, digits-more}
+use Rattle.decimals.proofs.{Decimals.{digits-more, digits-one}, Names.{List, Put, Puts, _%_, _+_, _-_, _/_, _<_, _^_, _≡_, _≤_, ap, arith, digits-width, digitsOf, digitsText, drop, length, length-drop, put-end, put-on, put-one, put-place, puts-room, set, suc, ℕ}}
 
 -- the digits of n, at most k + 1, before what stands from `start` on: those of v are still to be put before the place i
 pub record Digits (k n : ℕ) (entry : List ℕ) (start : ℕ) (buf : List ℕ) (i v : ℕ) : Type 0 where

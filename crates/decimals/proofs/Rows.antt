@@ -1,6 +1,5 @@
 -- Decimals parted by tabs, put into a list from the last to the first. Assumes nothing.
-use Rattle.basis.proofs.Prelude.{_∙_, _≡_, _*_, _-_, _/_, _<_, _≤_, suc, ℕ, List, _∷_, drop, getD, length, length-drop, drop-cons, drop-length, arith}
-use Rattle.fields.{specs.{Fields.{numberText, endBefore, numbersText}, Answers.Puts}, proofs.{Puts.{Put, put-none, put-on, put-place, field-put, puts-room}, Widths.{decimal-wide, number-width}}}
+use Rattle.decimals.proofs.Names.{List, Put, Puts, _*_, _-_, _/_, _<_, _∙_, _∷_, _≡_, _≤_, arith, decimal-wide, drop, drop-cons, drop-length, endBefore, field-put, getD, length, length-drop, number-width, numberText, numbersText, put-none, put-on, put-place, puts-room, suc, ℕ}
 
 -- the decimals from i on stand in front of what stood from `at` on, in at most six places each
 pub record Rest (ns entry : List ℕ) (at : ℕ) (buf : List ℕ) (place i : ℕ) : Type 0 where

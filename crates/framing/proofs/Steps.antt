@@ -1,7 +1,5 @@
 -- The laws that the code follows: a byte put into its place, a byte of a line, a byte of a text. Assumes nothing.
-use Rattle.basis.proofs.Prelude.{Bool, not, not-false, not-true, false, true, _≡_, sym, _∙_, refl, _+_, _-_, _<_, _≤_, suc, ℕ, List, [], _++_, _∷_, drop, drop-of-length-le, getD, length, length-append, set, take, drop-cons, drop-set-lt, drop-drop, length-take-le, take-all, take-append-seam, take-length, take-suc-set, add-one, arith, eq-eqb, ne-eqb}
-use Rattle.streams.specs.{declared.{Advanced.Advanced, Frame.Frame, Framed.{Framed, the-variants.{Whole, Part}}}, Stream.{Partial, inLine, inText, kept, wants, settled, lineFed, feed}, Advancing.{Progress, going, done, sentOf, through, next, after, partOf, partialOf, progressOf, lineIn, Kept, Advances, ready, advancedOf, refusedFrame, HostAdvances}}
-use Rattle.framing.specs.{declared.Taken.Taken, Contracts.{Puts, PlaceIn, takenOf, TakesLine, TakesText}}
+use Rattle.framing.proofs.Names.{Advanced, Advances, Bool, Frame, Framed, HostAdvances, Kept, List, Part, Partial, PlaceIn, Progress, Puts, Taken, TakesLine, TakesText, Whole, [], _++_, _+_, _-_, _<_, _∙_, _∷_, _≡_, _≤_, add-one, advancedOf, after, arith, done, drop, drop-cons, drop-drop, drop-of-length-le, drop-set-lt, eq-eqb, false, feed, getD, going, inLine, kept, length, length-append, length-take-le, lineFed, lineIn, ne-eqb, next, not, not-false, not-true, partOf, partialOf, progressOf, ready, refl, refusedFrame, sentOf, set, settled, suc, sym, take, take-all, take-append-seam, take-length, take-suc-set, takenOf, through, true, wants, ℕ}
 
 -- ---- A byte put into its place
 

@@ -1,7 +1,7 @@
 -- A text put after others in a list. Assumes nothing.
-use Rattle.basis.proofs.Prelude.{_≡_, refl, sym, _+_, _-_, _<_, _≤_, ℕ, List, [], _++_, append-assoc, append-nil, cond, _⊎_, ⊎-elim, leb, drop, drop-at, drop-drop, drop-of-length-le, length, length-append, length-drop, take, take-all, take-append-drop, take-at, take-length, length-take-le, arith, by-cases, by-test, le-leb, leb-true, lt-leb}
+use Rattle.basis.proofs.Prelude.{_≡_, refl, sym, _+_, _-_, _<_, _≤_, ℕ, List, _++_, append-assoc, append-nil, _⊎_, ⊎-elim, leb, drop, drop-at, drop-drop, drop-of-length-le, length, length-append, length-drop, take, take-all, take-append-drop, take-at, take-length, length-take-le, arith, by-test, le-leb, leb-true, lt-leb}
 use borrow.Rule.Slice.PartMut.{midOf, putMid, post-is, mid-len}
-use Rattle.gathering.specs.Gathering.{Appends, Leaves, Appended}
+use Rattle.gathering.specs.Gathering.{Appends, Appended}
 
 module _ (list : List ℕ) (n : ℕ) (from : List ℕ) (at : ℕ) where
   -- a text of no bytes is put anywhere, and nothing is written

@@ -1,10 +1,6 @@
 -- The step of `Shared` is the contract of `phayaklit_request` itself, as the prover reads it; and what it asks. Assumes nothing.
-use Rattle.basis.proofs.Prelude.{refl, ℕ, List}
-use contract.Lifetimes.{Lfts}
-use denote.Ref.{RefT, now}
-use Rattle.service.{specs.{Packed.unpacked, Service.{blocks, Given}}, proofs.Tied.Is}
-use Rattle.sharing.specs.{declared.Carried.Carried, Carrying.Requested}
 use Rattle.host_wire.proofs.phayaklit_request.Reads as request-reads
+use Rattle.host_wire.proofs.Names.{Carried, Given, Is, Lfts, List, RefT, Requested, blocks, now, refl, unpacked, ℕ}
 
 pub request-is : (κs : Lfts 8) (room allowed : ℕ) (r : Carried) (words words′ index index′ line payload days days′ numbers numbers′ text text′ out out′ : RefT (List ℕ))
     → Is (request-reads.Pre κs) (request-reads.Post κs) (words, (index, (room, (allowed, (line, (payload, (days, (numbers, (text, (out, tt)))))))))) r

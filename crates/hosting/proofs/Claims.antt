@@ -1,7 +1,7 @@
 -- What the library is for: whoever makes the calls, through the exported functions and on words that a host lent, the answers
 -- are the account's. Assumes nothing.
 use Rattle.basis.proofs.Prelude.{_∙_, _≡_, ap, refl, sym, ℕ, List, [], false, true, eqb}
-use Rattle.spell.{specs.{declared.{Spell.Spell, Urgency.the-variants.Grade}, Listing.Sound}, proofs.Order.answer-order}
+use Rattle.spell.{specs.{declared.{Spell.Spell}, Listing.Sound}, proofs.Order.answer-order}
 use Rattle.refusal.specs.Table.{accepted}
 use Rattle.register.specs.Text.{readText}
 use Rattle.model.{specs.{Model.{State, withStanding, fresh, begun, refusalIn, lineIn, Request, Answer, run}, declared.Call.{Call, the-variants.Amend}, Edits.idle}, proofs.Edits.orderly-none}
@@ -10,7 +10,7 @@ use Rattle.standing.{specs.Standing.{listOf, pasts}, proofs.Packed.packing-iden
 use Rattle.published_index.specs.Index.{indexOf}
 use Rattle.service.{specs.{declared.Service.Service, Places.{serviceOf, readService, leavesOf, leaves}, Packed.{packed, unpacked}, Service.{Blocks, Valid, Represents, Given, Met, Changed, Begins}}, proofs.{Represented.represented, Asking.asked-met, Beginning.{publishes-met, publishes-refused}, Claims.{made-run, made-given, idle-left}}}
 use Rattle.service.specs.History as history
-use Rattle.hosting.specs.{declared.{Entry.Entry, Reply.Reply, Opened.Opened}, Host.{Held, Laid, spellIn, steppedOf, startedOf}, History.{Opens, Called, edited, published, wrote, asked, Hosted, none, then}}
+use Rattle.hosting.specs.{declared.{Reply.Reply, Opened.Opened}, Host.{Held, Laid, spellIn, steppedOf, startedOf}, History.{Opens, Called, edited, published, wrote, asked, Hosted, none, then}}
 
 -- PACKING IS THE IDENTITY: the words of a service read back as it. `pack` ensures it of every one that it is given.
 pub packed-back : (sv : Service) → Valid sv → Every (λ s. Narrow (s .urgency)) (sv .standing .spells)

@@ -1,8 +1,7 @@
 -- A call on the service of a block of words is a call on the block. Assumes nothing.
 use Rattle.basis.proofs.Prelude.{_∙_, _≡_, ap, refl, sym, ℕ, List}
-use Rattle.model.specs.{declared.{Call.Call, Question.Question}, Model.State}
-use Rattle.service.{specs.{declared.{Service.Service, Stepped.Stepped}, Packed.{packed, unpacked, Packs}, Service.{Blocks, Valid, Represents, Changes, Publishes, Wrote, Begins}}, proofs.Editing.changes}
-use Rattle.register.specs.Text.{Register}
+use Rattle.model.specs.{declared.{Call.Call, Question.Question}}
+use Rattle.service.{specs.{declared.{Service.Service, Stepped.Stepped}, Packed.{packed, unpacked, Packs}, Service.{Blocks, Valid, Changes, Publishes, Wrote}}, proofs.Editing.changes}
 use Rattle.standing.specs.Standing.{listOf}
 use Rattle.published_index.specs.Index.{indexBy}
 use Rattle.questions.specs.Asked.{Asked}

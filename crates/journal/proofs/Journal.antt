@@ -1,5 +1,5 @@
 -- The journal with one more entry, and without its newest. Assumes nothing.
-use Rattle.basis.proofs.Prelude.{_∙_, _≡_, ap, refl, sym, _-_, _<_, _≤_, suc, zero, ℕ, List, [], _++_, _∷_, reverse, reverse-append, reverse-cons, reverse-reverse, drop, drop-of-length-le, length, length-reverse, length-set, length-take, set, take, drop-set-lt, take-all, take-at, take-suc, take-suc-set, arith}
+use Rattle.basis.proofs.Prelude.{_∙_, _≡_, ap, refl, sym, _-_, _<_, _≤_, suc, zero, ℕ, List, [], _∷_, reverse, reverse-append, reverse-cons, reverse-reverse, drop, drop-of-length-le, length, length-reverse, length-set, length-take, set, take, drop-set-lt, take-all, take-at, take-suc, take-suc-set, arith}
 use Rattle.buffer.{specs.Buffer.over, proofs.Over.over-is}
 use Rattle.spell_places.proofs.Lists.{front, closed, front-length, closed-length}
 use Rattle.journal.specs.{declared.Undo.Undo, Journal.{blankEntry, newestFirst, newestOf, noted, noting}}

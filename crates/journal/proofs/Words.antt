@@ -1,5 +1,5 @@
 -- An entry's words read back as the entry. Assumes nothing.
-use Rattle.basis.proofs.Prelude.{_∙_, _≡_, ap, refl, sym, _+_, _<_, _≤_, suc, ℕ, List, _++_, Bool, cond, false, not, true, eqb, drop, getD, length, length-append, length-drop, length-set, set, drop-drop, getD-drop, add-zero, add-one, add-two, arith, le-leb, lt-leb, by-test}
+use Rattle.basis.proofs.Prelude.{_∙_, _≡_, ap, refl, sym, _+_, _<_, _≤_, suc, ℕ, List, Bool, cond, false, not, true, eqb, drop, getD, length, length-drop, length-set, set, drop-drop, getD-drop, add-zero, add-one, add-two, arith, le-leb, lt-leb, by-test}
 use mir.Val.{Val, boolByte}
 use denote.Laws.{Is}
 use Rattle.packing.{specs.{Blocks.put, Words.{spellWords, spellOf}}, proofs.{Blocks.put-sets, Words.{spell-back, spell-held, spell-long}}}

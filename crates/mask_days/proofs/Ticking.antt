@@ -1,6 +1,6 @@
 -- Whether every ticked day is on the calendar, by the lowest and the highest; and the ticked days put one by one into the first places of a
 -- list. Assumes nothing.
-use Rattle.basis.proofs.Prelude.{_≡_, sym, ap, _∙_, ℕ, zero, suc, _+_, _-_, _/_, _%_, _≤_, _<_, List, [], _∷_, _++_, append-assoc, Bool, true, false, not, _&&_, leb, length, take, drop, set, length-set, drop-drop, drop-set-lt, take-append-drop, take-suc-set, add-one, div-eq-of-lt, arith, eqb-true, le-leb, leb-false, lt-leb, not-true, not-false, both, by-cases, by-eq, by-test}
+use Rattle.basis.proofs.Prelude.{_≡_, sym, ap, _∙_, ℕ, zero, suc, _+_, _-_, _/_, _%_, _≤_, _<_, List, _∷_, _++_, append-assoc, Bool, true, false, not, leb, length, take, drop, set, length-set, drop-drop, drop-set-lt, take-append-drop, take-suc-set, add-one, div-eq-of-lt, arith, eqb-true, le-leb, leb-false, lt-leb, not-true, not-false, both, by-cases, by-eq, by-test}
 use mathlib.Core.Bool.{and-true}
 use Prim.Native.Nat.{_^_}
 use native.Mathlib.Nat.{div-one}

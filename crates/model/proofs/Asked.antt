@@ -1,5 +1,5 @@
 -- The questions, each in one place: what an accepted one lists, and what its line in document 01 says of a spell that is listed. Assumes nothing.
-use Rattle.basis.proofs.Prelude.{_≡_, refl, _≤_, ℕ, List, List·Memᴰ, _++_, Bool, true, _↔_, ⊎-elim, drop, length, arith, _∙_, ap, sym, List·Memᴰ·cases-cons, List·Memᴰ·head, List·Memᴰ·not-nil, List·Memᴰ·tail, [], _∷_, map, _&&_, _||_, false, false≢true, leb, length-map, le-leb, leb-true, both, either, by-cases, by-test}
+use Rattle.basis.proofs.Prelude.{_≡_, refl, _≤_, ℕ, List, List·Memᴰ, _++_, Bool, true, _↔_, ⊎-elim, drop, length, arith, _∙_, ap, sym, List·Memᴰ·cases-cons, List·Memᴰ·head, List·Memᴰ·not-nil, List·Memᴰ·tail, [], _∷_, map, _&&_, false, false≢true, leb, length-map, le-leb, leb-true, both, either, by-cases, by-test}
 use Rattle.model.proofs.{Names.{accepted, offCalendar, reversed, isDay, Spell, listedBefore, orderedBy, distinct, ticks, Ask, onDay, onSpan, covers, onAny, filter, listed, comparisonsOf, Effect, gives, settle, several, ask, effectOf, stepOf, Question, reaches, State, After, Request, Answer}, Effects.{checked, cover-does, several-does}, Claims.{listed-exactly, listed-ordered}, Filter.filter-distinct, Edits.one-spell}
 use Rattle.model.specs.declared.Question.the-variants.{Day, Span, Cover, Days, Mask}
 

@@ -1,5 +1,5 @@
 -- Positions and rows: the positions that pass a test lead to the rows that pass the same test. Assumes nothing.
-use Rattle.basis.proofs.Prelude.{_∙_, _≡_, ap, refl, sym, _*_, _<_, _≤_, suc, zero, ℕ, List, [], _++_, _∷_, append-assoc, map, map-append, Bool, cond, List·getD-map, getD, length, length-map, arith, by-test}
+use Rattle.basis.proofs.Prelude.{_∙_, _≡_, ap, refl, _*_, _<_, _≤_, suc, zero, ℕ, List, [], _++_, _∷_, append-assoc, map, map-append, Bool, cond, List·getD-map, getD, length, length-map, arith, by-test}
 use Rattle.orders.proofs.Each.{map-map}
 use Rattle.model.proofs.Names.{Spell, blank, keep, fitsAt, start, keep-hit, keep-miss, formula-le, reaches, filter, listed, firstsOf, lastsOf, comparisonsOf}
 

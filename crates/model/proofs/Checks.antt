@@ -1,6 +1,6 @@
 -- When the checks of an edit accept it. Assumes nothing.
-use Rattle.basis.proofs.Prelude.{_∙_, _≡_, refl, sym, _<_, ℕ, List, Bool, cond, false, true, _↔_, eqb, leb, length, arith, eq-eqb, eqb-false, eqb-true, leb-false, lt-leb, ne-eqb, by-test}
-use Rattle.model.proofs.Names.{accepted, duplicateNumber, unknownNumber, full, Spell, refusalOf, stands, needed, past, orElse, enterRefusal, amendRefusal, strikeRefusal}
+use Rattle.basis.proofs.Prelude.{_≡_, _<_, ℕ, List, false, true, _↔_, eqb, leb, length, eq-eqb, eqb-false, eqb-true, leb-false, lt-leb, ne-eqb, by-test}
+use Rattle.model.proofs.Names.{accepted, Spell, refusalOf, stands, needed, past, orElse, enterRefusal, amendRefusal, strikeRefusal}
 
 -- ---- Two checks, one after the other
 

@@ -2,7 +2,7 @@
 -- a call leaves as it is. The edits are in `Editing.antt`, the other questions in `Asked.antt`, whole lists of calls in `Runs.antt`.
 -- Assumes nothing.
 use Rattle.basis.proofs.Prelude.{_≡_, ap, refl, _*_, _<_, _≤_, suc, ℕ, List, List·Memᴰ, [], _++_, _∷_, Bool, cond, false, true, _↔_, _⊎_, inl, inr, ⊎-elim, drop, eqb, getD, leb, length, arith, le-leb, lt-leb, lt-ltb, by-test, clash}
-use Rattle.model.proofs.{Names.{accepted, noHistory, noSuchRule, offCalendar, shortBuffer, isRule, Spell, listedBefore, orderedBy, answer-order, distinct, Register, readText, writeAll, good, bad, text-again, daysOk, ticks, rises, empty, Ask, Publish, TakeBack, Write, publishedOf, onAny, rising, filter, listed, withStanding, withPublished, gives, writes, refuse, gave, wrote, settle, fresh, begun, takeBack, ask, effectOf, stepOf, step, reads, State, Request, Answer}, Effects.every, Filter.{filter-in, in-filter, filter-ordered}, Bridge.comparisons-le}
+use Rattle.model.proofs.{Names.{accepted, noHistory, noSuchRule, offCalendar, shortBuffer, isRule, Spell, listedBefore, orderedBy, answer-order, Register, readText, writeAll, good, bad, text-again, daysOk, ticks, rises, empty, Ask, Publish, TakeBack, Write, publishedOf, onAny, rising, filter, listed, withStanding, withPublished, gives, writes, refuse, gave, wrote, settle, fresh, begun, takeBack, ask, effectOf, stepOf, step, reads, State, Request, Answer}, Effects.every, Filter.{filter-in, in-filter, filter-ordered}, Bridge.comparisons-le}
 use Rattle.model.specs.declared.Question.the-variants.{Days, Mask}
 use Rattle.spell.proofs.Order.{comes-before, twins-rise}
 

@@ -1,6 +1,6 @@
 -- What the edits do, each claim one of every state. Assumes nothing.
-use Rattle.basis.proofs.Prelude.{_∙_, _≡_, ap, refl, sym, _≤_, ℕ, List, List·Memᴰ, _++_, _∷_, false, true, _↔_, _⊎_, inl, inr, drop, length, take, eqb, eqb-false, by-test}
-use Rattle.model.proofs.{Names.{accepted, duplicateNumber, unknownNumber, full, isRule, Spell, refusalOf, earlierOf, stands, distinct, writeAll, Enter, Amend, Strike, TakeBack, Publish, Write, Ask, insert, remove, replace, idle, enterRefusal, amendRefusal, strikeRefusal, remember, onDay, listed, publishedOf, withStanding, withPublished, After, Effect, refuse, settle, over, become, edit, effectOf, stepOf, Passes, State, Request}, Checks.{stops, passes, Enters, enter-accepted, Amends, amend-accepted, strike-accepted}, Edits.{in-insert, in-remove, idle-stands}, Effects.become-does, Claims.{back-takes, write-writes}, Asked.day-lists}
+use Rattle.basis.proofs.Prelude.{_∙_, _≡_, ap, refl, sym, ℕ, List, List·Memᴰ, _∷_, false, true, _↔_, _⊎_, length, take, by-test}
+use Rattle.model.proofs.{Names.{accepted, unknownNumber, isRule, Spell, refusalOf, earlierOf, stands, distinct, writeAll, Enter, Amend, Strike, TakeBack, Publish, Write, Ask, insert, remove, replace, idle, enterRefusal, amendRefusal, strikeRefusal, remember, onDay, listed, publishedOf, withStanding, withPublished, After, refuse, settle, over, become, edit, effectOf, stepOf, Passes, State, Request}, Checks.{stops, passes, Enters, enter-accepted, Amends, amend-accepted, strike-accepted}, Edits.{in-insert, in-remove, idle-stands}, Effects.become-does, Claims.{back-takes, write-writes}, Asked.day-lists}
 use mathlib.Core.Logic.{⊎-map}
 use Rattle.model.specs.declared.Question.the-variants.{Day}
 

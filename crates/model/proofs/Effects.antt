@@ -1,7 +1,7 @@
 -- All calls of the account gone through once, for any property of what comes of a call, and the questions for any property of what they do.
 -- Assumes nothing.
 use Rattle.basis.proofs.Prelude.{_≡_, refl, _≤_, ℕ, List, List·Memᴰ, List·Memᴰ·head, List·Memᴰ·tail, [], _∷_, Bool, _&&_, cond, false, true, eqb, leb, length, arith, eqb-false, eqb-true, by-cases}
-use Rattle.model.proofs.{Names.{accepted, offCalendar, reversed, unknownNumber, unsortedDays, shortBuffer, noSuchRule, isRule, publishedOf, stands, Spell, isDay, daysOk, writeAll, ticks, Call, Enter, Amend, Strike, TakeBack, Publish, Write, Ask, Question, insert, remove, replace, idle, enterRefusal, amendRefusal, strikeRefusal, takeBackRefusal, remember, frontOr, restOf, onAny, rising, listed, withStanding, After, Effect, refused, done, gives, writes, refuse, gave, wrote, settle, withPublished, become, edit, amend, takeBack, reaching, reaches, comparisonsOf, in-sheet, several, cover, ask, effectOf, stepOf, reads, State, Request}}
+use Rattle.model.proofs.{Names.{accepted, offCalendar, reversed, unknownNumber, unsortedDays, shortBuffer, noSuchRule, isRule, publishedOf, stands, Spell, isDay, daysOk, writeAll, ticks, Call, Enter, Amend, Strike, TakeBack, Publish, Write, Ask, Question, idle, enterRefusal, amendRefusal, strikeRefusal, takeBackRefusal, onAny, rising, listed, withStanding, After, Effect, refused, done, gives, refuse, gave, wrote, settle, withPublished, become, amend, takeBack, reaching, reaches, comparisonsOf, in-sheet, several, cover, ask, effectOf, stepOf, reads, State, Request}}
 use Rattle.model.specs.declared.Question.the-variants.{Day, Span, Cover, Days, Mask}
 
 -- ---- What a call does

@@ -1,5 +1,5 @@
 -- The spells of a list that pass a test: exactly those, in the order, each number once. Assumes nothing.
-use Rattle.basis.proofs.Prelude.{_∙_, _≡_, ap, refl, _≤_, suc, ℕ, List, List·Memᴰ, List·Memᴰ·cases-cons, List·Memᴰ·head, List·Memᴰ·not-nil, List·Memᴰ·tail, [], _∷_, Bool, false, true, ⊎-elim, length, length-map, arith, by-cases, by-test}
+use Rattle.basis.proofs.Prelude.{_∙_, _≡_, ap, refl, _≤_, List, List·Memᴰ, List·Memᴰ·cases-cons, List·Memᴰ·head, List·Memᴰ·not-nil, List·Memᴰ·tail, [], _∷_, Bool, true, ⊎-elim, length, length-map, arith, by-cases, by-test}
 use Rattle.model.proofs.Names.{Spell, orderedBy, stands, distinct, Each, OrderlyBy, StrictOrder, alone, none-stands, stands-none, ordered-tail, ordered-first, ordered-cons, filter, listed}
 
 module _ (t : Spell → Bool) where

@@ -1,8 +1,8 @@
 -- The lists of the account stay in the order, their numbers unique, through every call; and what is claimed of every list of calls,
 -- begun fresh or on any text. Assumes nothing.
-use Rattle.basis.proofs.Prelude.{by-cases, _≡_, ap, refl, _≤_, ℕ, List, List·Memᴰ, List·Memᴰ·cases-cons, List·Memᴰ·head, List·Memᴰ·not-nil, List·Memᴰ·tail, [], _++_, _∷_, true, _↔_, inl, inr, length, length-take, drop, take, take-append-drop, arith, false, true≢false, by-test, ⊎-elim}
+use Rattle.basis.proofs.Prelude.{by-cases, _≡_, ap, refl, _≤_, ℕ, List, List·Memᴰ, List·Memᴰ·cases-cons, List·Memᴰ·head, List·Memᴰ·not-nil, List·Memᴰ·tail, [], _∷_, true, _↔_, inl, inr, length, length-take, drop, take, take-append-drop, arith, false, true≢false, by-test, ⊎-elim}
 use mathlib.Core.List.{Memᴰ·append-left}
-use Rattle.model.proofs.{Names.{accepted, Spell, HeldUrgency, Sound, Good, Orderly, text-order, answer-order, each-member, each-map, cut-passes, cut-sound, Register, writeAll, readText, good, bad, text-again, list-again, Call, Enter, Amend, Strike, TakeBack, Publish, Write, Ask, Question, insert, remove, replace, idle, enterRefusal, amendRefusal, strikeRefusal, remember, After, Effect, begun, fresh, withStanding, settle, reads, edit, takeBack, effectOf, refuse, stepOf, step, run, Begun, afresh, after, Kept, Passes, Brings, isRule, State, Request, Answer}, Edits.{orderly-none, orderly-insert, orderly-remove, orderly-replace, idle-itself, idle-member}, Publishing.{Cuts, published-orderly}, Checks.{enters, amends, strike-accepted}, Effects.become-does, Claims.reads-keep, Asked.{Answered, answers}, Editing.idle-keeps}
+use Rattle.model.proofs.{Names.{accepted, Spell, HeldUrgency, Sound, Good, Orderly, text-order, answer-order, each-member, each-map, cut-passes, cut-sound, Register, writeAll, readText, good, bad, text-again, list-again, Call, Enter, Amend, Strike, TakeBack, Publish, Write, Ask, Question, insert, remove, replace, idle, enterRefusal, amendRefusal, strikeRefusal, remember, Effect, begun, fresh, withStanding, settle, reads, edit, takeBack, effectOf, refuse, stepOf, step, Begun, afresh, after, Kept, Passes, Brings, isRule, State, Request, Answer}, Edits.{orderly-none, orderly-insert, orderly-remove, orderly-replace, idle-itself, idle-member}, Publishing.{Cuts, published-orderly}, Checks.{enters, amends, strike-accepted}, Effects.become-does, Claims.reads-keep, Asked.{Answered, answers}, Editing.idle-keeps}
 use Rattle.model.specs.Reached.{reading}
 
 module _ (P : Spell → Type 0) where

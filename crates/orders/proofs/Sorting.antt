@@ -1,5 +1,5 @@
 -- Insertion sort by a test that is a total order. Assumes nothing.
-use Rattle.basis.proofs.Prelude.{_≡_, refl, sym, ap, _∙_, ℕ, suc, _+_, _≤_, _<_, List, [], _∷_, _++_, append-nil, map, Bool, true, false, not, cond, _&&_, getD, length, drop, drop-of-length-le, drop-cons, ltb, ltb-true, ltb-false, add-one, arith, both, by-cases, by-test, clash, not-true, untrue}
+use Rattle.basis.proofs.Prelude.{_≡_, refl, sym, ap, _∙_, ℕ, suc, _+_, _≤_, _<_, List, [], _∷_, _++_, append-nil, map, Bool, true, false, not, _&&_, getD, length, drop, drop-of-length-le, drop-cons, ltb, ltb-true, ltb-false, add-one, arith, both, by-cases, by-test, clash, not-true, untrue}
 use Rattle.orders.specs.Orders.{insertBy, sortedBy, inOrderBy}
 use Rattle.orders.proofs.Each.{Each, each-weaken}
 

@@ -1,5 +1,5 @@
 -- Values written one after the other, and read back: how a loop writes and reads them, and that reading gives back what was written. Assumes nothing.
-use Rattle.basis.proofs.Prelude.{_∙_, _≡_, ap, refl, sym, _*_, _+_, _<_, _≤_, suc, zero, ℕ, List, [], _++_, _∷_, append-assoc, append-nil, drop, drop-of-length-le, getD, length, length-append, length-drop, set, take, append-snoc, drop-append-add, drop-append-le, drop-at, drop-cons, drop-drop, length-sets, length-take-le, set-at, sets, sets-eq, take-all, take-at, take-suc, le-trans, mul-le-mul-right, suc-mul, zero-mul, add-zero, zero-add, add-one, getD-at, map, map-append, take-suc-set, _-_, arith, le-leb, leb, leb-true, lt-leb, by-test}
+use Rattle.basis.proofs.Prelude.{_∙_, _≡_, ap, refl, sym, _*_, _+_, _<_, _≤_, suc, zero, ℕ, List, [], _++_, _∷_, append-assoc, append-nil, drop, getD, length, length-append, length-drop, set, take, drop-append-le, drop-at, drop-drop, length-sets, length-take-le, sets, sets-eq, take-all, take-suc, mul-le-mul-right, suc-mul, zero-mul, add-zero, zero-add, add-one, getD-at, map, map-append, take-suc-set, _-_, arith, le-leb, leb, leb-true, lt-leb, by-test}
 use native.Mathlib.Nat.{add-comm, suc-add}
 use Rattle.packing.proofs.Names.{Every, Put, PutAll, over, parts, put, written}
 

@@ -1,5 +1,5 @@
 -- From what the rows tell to the account's answer and a question's postcondition. Assumes nothing.
-use Rattle.questions.proofs.Names.{_∙_, _≡_, ℕ, List, map, Bool, true, getD, length, length-map, Spell, distinct, Listed, keep, fitsAt, start, formula, numbers, firsts, lasts, Gave, give, question, Ask, Question, reaches, listed, firstsOf, lastsOf, comparisonsOf, State, Request, gives, settle, reaching, ask, effectOf, Agree, rows-kept, fits-agree, Outcome, foundOf, asking, told, give-told, numbersOf, shows-rows, Asked}
+use Rattle.questions.proofs.Names.{_∙_, _≡_, ℕ, List, map, Bool, true, getD, length, length-map, Spell, distinct, Listed, keep, numbers, firsts, lasts, Gave, give, question, Ask, Question, reaches, listed, firstsOf, lastsOf, comparisonsOf, State, Request, gives, settle, reaching, ask, effectOf, Agree, rows-kept, fits-agree, Outcome, foundOf, asking, told, give-told, numbersOf, shows-rows, Asked}
 use Rattle.stabbing.specs.Answer as rows
 
 -- a question that is known to be another is answered as that one, whatever days stand beside it where that one reads none

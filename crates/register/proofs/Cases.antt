@@ -1,9 +1,5 @@
 -- Document 01's Register A, read and written, and single refusals. Assumes nothing.
-use Rattle.basis.proofs.Prelude.{_≡_, refl, ℕ, List, [], _∷_}
-use lib.Ieee.{binary32, isNan, ofBits, toBits}
-use Rattle.spell.specs.{declared.{Urgency.{Urgency, the-variants.{Grade, Reading}}, Spell.Spell}, Order.earlierOf, Listing.stands}
-use Rattle.fields.specs.Fields.{digitsOf, decimalOf, hexDigit, hexOf, passed, readDigits, readDecimal, hexValue, readHex}
-use Rattle.register.specs.Text.{lineText, textOnto, writeAll, readLetter, readValue, readUrgency, readLine, follows, lineRefusal, good, bad, lineAnswer, nextLine, readLines, readText}
+use Rattle.register.proofs.Names.{Grade, List, Reading, Spell, Urgency, [], _∷_, _≡_, bad, binary32, decimalOf, digitsOf, earlierOf, follows, good, hexDigit, hexOf, hexValue, isNan, lineAnswer, lineRefusal, lineText, nextLine, ofBits, passed, readDecimal, readDigits, readHex, readLetter, readLine, readLines, readText, readUrgency, readValue, refl, stands, textOnto, toBits, writeAll, ℕ}
 
 abbrev spell : ℕ → ℕ → ℕ → ℕ → Urgency → Spell
 spell n c f l u = record { number = n; candidate = c; first = f; last = l; urgency = u }

@@ -1,8 +1,5 @@
 -- What the register text is for: the round trip of reading and writing, and the length of a text. Assumes nothing.
-use Rattle.basis.proofs.Prelude.{_≡_, _≤_, ℕ, List, [], length, arith, le-leb}
-use Rattle.spell.specs.{declared.Spell.Spell, Listing.Good}
-use Rattle.register.specs.Text.{writeAll, readText, good}
-use Rattle.register.proofs.{Texts.{read-lines, written-read, written-width}}
+use Rattle.register.proofs.{Names.{Good, List, Spell, [], _≡_, _≤_, arith, good, le-leb, length, readText, writeAll, ℕ}, Texts.{read-lines, written-read, written-width}}
 
 -- every good list is read back from its text
 pub list-again : (l : List Spell) → Good l → readText (writeAll l) ≡ good l

@@ -1,3 +1,4 @@
+pub mod Names
 pub mod Widths
 pub mod Ordered
 pub mod Lines

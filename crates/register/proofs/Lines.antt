@@ -1,11 +1,5 @@
 -- A line is read as it was written, and what is read is what is written. Assumes nothing.
-use Rattle.basis.proofs.Prelude.{_∙_, _≡_, refl, ℕ, List, [], _∷_, false, not, true, eqb, leb, arith, eqb-true, leb-true, both, by-test}
-use lib.Ieee.{binary32, isNan, toBits, ofBits, Bits.{ofBits-toBits, toBits-ofBits, ofBits-fits}}
-use Rattle.spell.{specs.{declared.{Urgency.{Urgency, the-variants.{Grade, Reading}}, Spell.Spell}, Entry.{refusalOf, urgencyOk}, Listing.{HeldUrgency, Sound}}, proofs.Entered.entered}
-use Rattle.fields.{specs.Fields.{Found, found, unreadable, onward, passed, readNumber, readBits}, proofs.Bytes.{never, ended-back}}
-use Rattle.register.specs.Text.{readLetter, readValue, readUrgency, readLine, urgencyText, lineText}
-use Rattle.decimals.proofs.{Claims.number-read, Decimals.write-number}
-use Rattle.hex.proofs.{Claims.bits-read, Hex.write-bits}
+use Rattle.register.proofs.Names.{Found, Grade, HeldUrgency, List, Reading, Sound, Spell, Urgency, [], _∙_, _∷_, _≡_, arith, binary32, bits-read, both, by-test, ended-back, entered, eqb, eqb-true, false, found, isNan, leb, leb-true, lineText, never, not, number-read, ofBits, ofBits-fits, ofBits-toBits, onward, passed, readBits, readLetter, readLine, readNumber, readUrgency, readValue, refl, refusalOf, toBits, toBits-ofBits, true, unreadable, urgencyOk, urgencyText, write-bits, write-number, ℕ}
 
 -- ---- what is written is read
 read-urgency : (u : Urgency) (rest : List ℕ) → HeldUrgency u → urgencyOk u ≡ true → readUrgency (urgencyText u rest) ≡ found u rest

@@ -1,7 +1,5 @@
 -- A list in order, and one spell more at its end. Assumes nothing.
-use Rattle.basis.proofs.Prelude.{_∙_, _≡_, refl, sym, List, [], _++_, _∷_, _&&_, true, both, by-test}
-use Rattle.spell.specs.{declared.Spell.Spell, Order.{earlierOf, ordered, orderedBy}}
-use Rattle.register.specs.Text.{follows}
+use Rattle.register.proofs.Names.{List, Spell, [], _&&_, _++_, _∙_, _∷_, _≡_, both, by-test, earlierOf, follows, ordered, orderedBy, refl, sym, true}
 
 ordered-append : (l : List Spell) (x : Spell) (m : List Spell) → ordered (l ++ x ∷ m) ≡ ordered l && (follows l x && ordered (x ∷ m))
 unfolding orderedBy follows

@@ -1,9 +1,5 @@
 -- A text is read as it was written, and what is read is what is written. Assumes nothing.
-use Rattle.basis.proofs.Prelude.{_∙_, _≡_, ap, refl, sym, _+_, _<_, _≤_, suc, zero, ℕ, List, [], _++_, _∷_, append-nil, false, true, eqb, leb, length, length-append, append-snoc, arith, eq-eqb, eqb-false, eqb-true, le-leb, by-test}
-use Rattle.spell.{specs.{declared.Spell.Spell, Entry.refusalOf, Order.{ordered, orderedBy}, Listing.{stands, distinct, Each, Sound, Good}}, proofs.Listing.{distinct-fresh, distinct-more}}
-use Rattle.fields.{specs.Fields.{found, unreadable, readDecimal}, proofs.Bytes.{by-found, never}}
-use Rattle.register.specs.Text.{readLine, lineText, textOnto, writeAll, follows, lineRefusal, Register, good, bad, lineAnswer, nextLine, readLines, readText}
-use Rattle.register.proofs.{Lines.{read-line, write-line}, Ordered.{ordered-follows, ordered-more}, Widths.sound-width}
+use Rattle.register.proofs.{Lines.{read-line, write-line}, Names.{Each, Good, List, Register, Sound, Spell, [], _++_, _+_, _<_, _∙_, _∷_, _≡_, _≤_, ap, append-nil, append-snoc, arith, bad, by-found, by-test, distinct, distinct-fresh, distinct-more, eq-eqb, eqb, eqb-false, eqb-true, false, follows, found, good, leb, length, length-append, lineAnswer, lineRefusal, lineText, never, nextLine, ordered, orderedBy, readDecimal, readLine, readLines, readText, refl, refusalOf, stands, suc, sym, textOnto, true, unreadable, writeAll, zero, ℕ}, Ordered.{ordered-follows, ordered-more}, Widths.sound-width}
 
 -- ---- what the lines give, by what comes next
 -- after a line that passes, where `room` more may stand

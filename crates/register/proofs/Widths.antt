@@ -1,9 +1,5 @@
 -- How long a written text is. Assumes nothing.
-use Rattle.basis.proofs.Prelude.{_≡_, _*_, _+_, _≤_, ℕ, List, [], _∷_, length, arith}
-use lib.Ieee.{binary32, toBits}
-use Rattle.spell.{specs.{declared.{Urgency.{Urgency, the-variants.{Grade, Reading}}, Spell.Spell}, Listing.{Each, Sound}}, proofs.Entered.entered}
-use Rattle.fields.{specs.Fields.decimalOf, proofs.Widths.{decimal-width, short-width, hex-width}}
-use Rattle.register.specs.Text.{urgencyText, lineText, textOnto}
+use Rattle.register.proofs.Names.{Each, Grade, List, Reading, Sound, Spell, Urgency, [], _*_, _+_, _∷_, _≤_, arith, binary32, decimal-width, decimalOf, entered, hex-width, length, lineText, short-width, textOnto, toBits, urgencyText, ℕ}
 
 pub urgency-width : (u : Urgency) (rest : List ℕ) → length (urgencyText u rest) ≤ 11 + length rest
 urgency-width (Grade g) rest = omega (arith, decimal-width g (10 ∷ rest))

@@ -1,6 +1,6 @@
 -- The state of a reading after some lines, one line more, and the answer at each way out. Assumes nothing.
 use mathlib.Core.Bool.{or-true, or-false}
-use Rattle.basis.proofs.Prelude.{_∙_, _≡_, ap, refl, sym, _+_, _-_, _<_, _≤_, suc, ℕ, List, [], _++_, _∷_, Bool, _||_, false, not, true, eqb, drop, drop-of-length-le, getD, getD-replicate, length, length-drop, length-replicate, length-set, replicate, set, take, take-append-drop, drop-drop, drop-set-lt, getD-set-other, getD-set-same, length-take-le, take-suc-set, add-one, arith, eqb-false, eqb-true, le-leb, lt-leb, lt-ltb, ne-eqb, by-test, not-false, not-true}
+use Rattle.basis.proofs.Prelude.{_∙_, _≡_, ap, sym, _+_, _-_, _<_, _≤_, suc, ℕ, List, [], _++_, _∷_, Bool, _||_, false, not, true, eqb, drop, drop-of-length-le, getD, getD-replicate, length, length-drop, length-replicate, length-set, replicate, set, take, take-append-drop, drop-drop, drop-set-lt, getD-set-other, getD-set-same, length-take-le, take-suc-set, add-one, arith, eqb-false, eqb-true, le-leb, lt-leb, lt-ltb, ne-eqb, by-test, not-false, not-true}
 use Rattle.spell.{specs.{declared.Spell.Spell, Entry.refusalOf, Order.earlierOf, Listing.stands, Blank.blank}, proofs.{Entered.entered, Listing.stands-more}}
 use Rattle.register.{specs.{declared.Reading.Reading, declared.Line.{Line, the-variants.{Value as LineValue, Malformed as LineMalformed}}, Text.{readLine, follows, lineRefusal, bad, readLines, readText}, Answers.{lineAt, lineOf, readingOf}}, proofs.{Ordered.follows-more, Texts.{after, not-refused, lines-end, lines-malformed, lines-refused, lines-on}}}
 use Rattle.fields.{specs.Answers.Reads, proofs.Places.said}

@@ -1,10 +1,10 @@
 -- The state after some lines, one line more, and the end. Assumes nothing.
-use Rattle.basis.proofs.Prelude.{_∙_, _≡_, ap, refl, sym, _+_, _<_, _≤_, ℕ, List, [], _++_, _∷_, append-nil, append-snoc, Bool, false, true, drop, drop-of-length-le, getD-replicate, length, drop-drop, drop-set-lt, length-drop, length-replicate, length-set, replicate, set, take, take-append-drop, length-take-le, take-suc-set, add-one, arith, le-leb, lt-leb}
+use Rattle.basis.proofs.Prelude.{_∙_, _≡_, ap, sym, _+_, _<_, _≤_, ℕ, List, [], _++_, _∷_, append-nil, append-snoc, Bool, false, true, drop, drop-of-length-le, getD-replicate, length, drop-drop, drop-set-lt, length-drop, length-replicate, length-set, replicate, set, take, take-append-drop, length-take-le, take-suc-set, add-one, arith, le-leb, lt-leb}
 use Rattle.register_sift.proofs.Names.{Spell, readLine, linesOf, verdict, keeping, keptAfter, verdictsAfter, keptOf, laterLines, lines-first, passes, keeps-it, drops-it, Past, Marks, Judges}
 use Rattle.spell.{specs.Blank.blank, specs.Listing.stands, proofs.Listing.stands-more}
 use Rattle.register_read.proofs.Progress.{marked-more}
 use Rattle.repairing.proofs.Remarks.{verdicts-length}
-use Rattle.register_sift.specs.{declared.{Judged.Judged, Sifted.Sifted}, Sifting.{withinLimit, Sifts}}
+use Rattle.register_sift.specs.{declared.{Judged.Judged}, Sifting.{withinLimit, Sifts}}
 
 pub record State (text : List ℕ) (met₀ met : List ℕ) (spells : List Spell) (seen : List Bool) (count lines at : ℕ) : Type 0 where
   pub few : count ≤ 1024

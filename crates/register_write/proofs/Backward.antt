@@ -1,5 +1,5 @@
 -- Texts put into the scratch list from the end to the front, and the answer. Assumes nothing.
-use Rattle.basis.proofs.Prelude.{_∙_, _≡_, ap, sym, _*_, _+_, _-_, _<_, _≤_, min, suc, ℕ, List, [], _++_, _∷_, drop, drop-of-length-le, getD, getD-take, length, length-append, length-drop, length-take, min-le-left, min-le-right, take, drop-cons, drop-length, take-all, arith, le-leb, lt-leb}
+use Rattle.basis.proofs.Prelude.{_∙_, _≡_, ap, sym, _*_, _+_, _-_, _<_, _≤_, min, suc, ℕ, List, [], _++_, drop, drop-of-length-le, getD, getD-take, length, length-append, length-drop, length-take, min-le-left, min-le-right, take, drop-cons, drop-length, take-all, arith, le-leb, lt-leb}
 use lib.Ieee.{Float, binary32, toBits}
 use Rattle.fields.{proofs.{Puts.field-put, Widths.{number-width, bits-width}}, specs.{Fields.{byteText, numberText, bitsText}, Answers.Puts}}
 use Rattle.spell.specs.{declared.{Spell.Spell, Urgency.{Urgency, the-variants.{Grade, Reading}}}, Blank.blank}

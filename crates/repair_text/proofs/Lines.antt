@@ -1,5 +1,5 @@
 -- A word put into the first places of a buffer, and after it the numbers that end another. Assumes nothing.
-use Rattle.basis.proofs.Prelude.{_∙_, _≡_, ap, sym, _*_, _+_, _<_, _≤_, suc, ℕ, List, [], _++_, _∷_, append-assoc, drop, drop-of-length-le, length, length-append, length-drop, drop-append-add, drop-drop, take-at, arith, le-leb, needs}
+use Rattle.basis.proofs.Prelude.{_≡_, ap, _+_, _≤_, ℕ, List, [], _++_, _∷_, drop, drop-of-length-le, length, length-append, length-drop, arith, needs}
 use lib.Dec.{lit≤}
 use Rattle.fields.{specs.{Fields.wideText, Answers.Puts}, proofs.{Puts.{room-puts, put-place}, Widths.digits-width}}
 use Rattle.gathering.{specs.Gathering.Appended, proofs.Gathering.{appended-room, appends-on, sized as kept-length}}

@@ -1,6 +1,6 @@
 -- What repairing a register is for. Assumes nothing.
 use Rattle.basis.proofs.Prelude.{_∙_, _≡_, ap, refl, sym, _+_, _*_, _≤_, ℕ, List, List·Memᴰ, [], _∷_, map, false, true, _↔_, eqb, eqb-true, leb, length, arith, le-leb, leb-true, both, by-test}
-use Rattle.repairing.proofs.{Names.{sortedBy, inOrderBy, Spell, earlierOf, ordered, orderedBy, Good, Sound, text-order, asym, readText, good, writeAll, rising, over, Repaired, linesOf, verdictsAfter, keptOf, putOf, repairedText, remarksOf, placesOf, displacedIn, fitting, repairRefusal, repairRefused, repairGiven, Repairs}, Keeping.{kept-good, whole}, Remarks.{displaced-none, rise, all-lines, places-length, put-sized}}
+use Rattle.repairing.proofs.{Names.{inOrderBy, Spell, earlierOf, ordered, orderedBy, Good, Sound, text-order, asym, readText, good, rising, over, Repaired, linesOf, verdictsAfter, keptOf, putOf, repairedText, remarksOf, placesOf, displacedIn, fitting, repairRefusal, repairRefused, repairGiven, Repairs}, Keeping.{kept-good, whole}, Remarks.{displaced-none, rise, all-lines, places-length, put-sized}}
 use Rattle.orders.{proofs.Sorting.in-order-sorted, proofs.Members.sorted-has}
 use Rattle.spell.proofs.{Entered.needed, Sorted.sorted-orderly}
 use Rattle.register.proofs.Claims.{list-again, text-again, fits}

@@ -1,5 +1,5 @@
 -- The lines of a text, one by one; what is kept of any text can stand, and a good text is kept whole with nothing said. Assumes nothing.
-use Rattle.basis.proofs.Prelude.{_∙_, _≡_, ap, refl, sym, _+_, _%_, _/_, _<_, _≤_, suc, zero, ℕ, List, [], _++_, _∷_, append-nil, append-snoc, Bool, cond, false, true, eqb, ltb, length, length-append, le-trans, arith, eq-eqb, eqb-false, eqb-true, lt-ltb, ltb-true, ne-eqb, by-cases, by-test}
+use Rattle.basis.proofs.Prelude.{_∙_, _≡_, ap, refl, sym, _+_, _%_, _/_, _<_, _≤_, suc, zero, ℕ, List, [], _++_, _∷_, append-nil, append-snoc, false, true, eqb, ltb, length, length-append, le-trans, arith, eq-eqb, eqb-false, eqb-true, lt-ltb, ltb-true, ne-eqb, by-cases, by-test}
 use lib.Ieee.{binary32, ofBits}
 use Rattle.repairing.proofs.Names.{Grade, Reading, Spell, stands, distinct, Each, Sound, distinct-fresh, distinct-more, Found, found, unreadable, digitsOf, decimalOf, hexDigit, hexOf, readNumber, readBits, readLetter, readValue, readUrgency, readLine, lineText, textOnto, step, read-line, write-letter, write-line, laterLines, linesOf, afterLine, verdict, keeping, keptAfter, verdictsAfter, remarksFrom, keptOf}
 use Rattle.spell.{specs.{declared.Urgency.Urgency, Entry.refusalOf}, proofs.Entered.{needed, past}}

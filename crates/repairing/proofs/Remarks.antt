@@ -1,7 +1,7 @@
 -- What is told of a repair. The remarks: their lines rise, and each line of a text is kept or has one. How many kept lines now stand after a line that
 -- followed them: by the least of those that followed, and when it is none. Assumes nothing.
 use Rattle.basis.proofs.Prelude.{_∙_, _≡_, ap, refl, sym, _*_, _+_, _<_, _≤_, suc, ℕ, List, [], _++_, _∷_, append-snoc, map, Bool, cond, false, true, _↔_, eqb, eqb-false, drop, drop-cons, getD, getD-take, length, length-append, length-take, min-le-left, set, set-at, take, add-one, arith, lt-ltb, by-cases, by-test, clash, untrue}
-use Rattle.repairing.proofs.Names.{over, Spell, earlierOf, ordered, orderedBy, stands, distinct, Each, alone, neither, text-order, asym, ordered-tail, ordered-first, ordered-cons, someBefore, displacedIn, Found, found, unreadable, readLine, rising, begun, laterLines, linesOf, verdict, keeping, keptAfter, verdictsAfter, Remark, remarksFrom, placesOf}
+use Rattle.repairing.proofs.Names.{over, Spell, earlierOf, ordered, orderedBy, stands, distinct, Each, alone, neither, text-order, asym, ordered-tail, ordered-first, ordered-cons, someBefore, displacedIn, Found, found, unreadable, readLine, rising, laterLines, linesOf, verdict, keeping, keptAfter, verdictsAfter, Remark, remarksFrom, placesOf}
 use Rattle.buffer.proofs.Over.{over-length}
 use Rattle.orders.proofs.Keys.{lexical-over}
 use Rattle.spell.specs.Order.{textKeys}

@@ -1,8 +1,6 @@
 -- Every list of calls has words, so that the contract of `run` speaks of every list. Assumes nothing.
-use Rattle.basis.proofs.Prelude.{_*_, _≤_, ℕ, List, Bool, length}
-use Rattle.model.specs.Model.{Request, run}
-use Rattle.coding.specs.{Coded.resultWidth, Coding.{daysOf, numbersOf, textOf, Coding}}
-use Rattle.replay.specs.{declared.Ran.Ran, Replayed.{Holds, beginning, Replayed}}
+use Rattle.coding.specs.Coding.{numbersOf}
+use Rattle.replay.proofs.Names.{Bool, Coding, Holds, List, Ran, Replayed, Request, _*_, _≤_, beginning, daysOf, length, resultWidth, run, textOf, ℕ}
 
 -- THE CLAIM is one about every list: run on its coding, its answers are those of the account's own run of it
 pub every-run : {qs : List Request} (k : Coding qs) (new : Bool) (register results results′ numbers′ text′ : List ℕ) (r : Ran)

@@ -1,3 +1,4 @@
+pub mod Names
 pub mod Runs
 pub mod Claims
 pub mod Tied

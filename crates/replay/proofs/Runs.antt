@@ -1,13 +1,5 @@
 -- The loop of `calls`: what is done, and what is still to come. Assumes nothing.
-use Rattle.basis.proofs.Prelude.{_∙_, _≡_, refl, sym, _*_, _+_, _-_, _/_, _<_, _≤_, min, suc, ℕ, List, [], _++_, _∷_, append-assoc, append-nil, append-snoc, Bool, false, true, drop, length, length-append, length-drop, length-take, take, drop-at, drop-drop, take-at, add-one, arith}
-use Rattle.buffer.specs.Buffer.{over}
-use Rattle.service.specs.{declared.Service.Service, Service.{Blocks, Represents, Given, Begins}}
-use Rattle.model.specs.{declared.Call.Call, Model.{State, fresh, Request, Answer, step, run}}
-use Rattle.register.specs.Text.{readText}
-use Rattle.packing.specs.Blocks.{written}
-use Rattle.outcomes.specs.Outcomes.{answerOf, asking}
-use Rattle.coding.{specs.{declared.{Code.Code, Next.{Next, the-variants.{Stop, Go}}}, Coded.{codeWidth, resultWidth, codeAt, nextOf, decodeFrom, told, resultsOf, numbersOf, textsOf}}, proofs.Claims.{next-room, decode-stop, decode-go}}
-use Rattle.replay.specs.{declared.Made.Made, Replayed.{Holds, Answered, Replayed}, Contracts.{part, putBack, Makes}}
+use Rattle.replay.proofs.Names.{Answer, Answered, Begins, Blocks, Bool, Call, Code, Given, Go, Holds, List, Made, Makes, Next, Replayed, Represents, Request, Service, State, Stop, [], _*_, _++_, _+_, _-_, _/_, _<_, _∙_, _∷_, _≡_, _≤_, add-one, answerOf, append-assoc, append-nil, append-snoc, arith, asking, codeAt, codeWidth, decode-go, decode-stop, decodeFrom, drop, drop-at, drop-drop, false, fresh, length, length-append, length-drop, length-take, min, next-room, nextOf, numbersOf, over, putBack, readText, refl, resultWidth, resultsOf, run, step, suc, sym, take, take-at, textsOf, told, true, written, ℕ}
 
 -- ---- A list that is filled from the front, part after part
 

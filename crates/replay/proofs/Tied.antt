@@ -1,10 +1,6 @@
 -- The contract of `run`, as the prover reads it, by computation: it asks nothing, and ensures the claim. Assumes nothing.
-use Rattle.basis.proofs.Prelude.{refl, List, ℕ, Bool}
-use contract.Lifetimes.{Lfts}
-use denote.Ref.{RefT, now}
-use Rattle.service.proofs.Tied.{Is}
-use Rattle.replay.specs.{declared.Ran.Ran, Replayed.Replayed}
 use Rattle.replay.proofs.run.Reads as run-reads
+use Rattle.replay.proofs.Names.{Bool, Is, Lfts, List, Ran, RefT, Replayed, now, refl, ℕ}
 
 pub run-is : (κs : Lfts 6) (new : Bool) (register codes days results results′ numbers numbers′ text text′ : RefT (List ℕ)) (r : Ran)
     → Is (run-reads.Pre κs) (run-reads.Post κs) (new, (register, (codes, (days, (results, (numbers, (text, tt))))))) r (new, (register, (codes, (days, (results′, (numbers′, (text′, tt)))))))

@@ -1,5 +1,5 @@
 -- The days of a line, read one after another into their places. Assumes nothing.
-use Rattle.basis.proofs.Prelude.{_∙_, _≡_, ap, refl, sym, _+_, _-_, _<_, _≤_, suc, ℕ, List, [], _++_, _∷_, append-assoc, append-nil, false, drop, length, length-append, length-set, set, take, drop-set-lt, length-take-le, take-suc-set, add-one, arith}
+use Rattle.basis.proofs.Prelude.{_∙_, _≡_, ap, sym, _+_, _-_, _<_, _≤_, suc, ℕ, List, [], _++_, _∷_, append-assoc, append-nil, false, drop, length, length-append, length-set, set, take, drop-set-lt, length-take-le, take-suc-set, add-one, arith}
 use Rattle.buffer.proofs.Over.{own-over, over-is}
 use Rattle.fields.specs.{declared.Field.{Field, the-variants.{Value, Malformed as Unread}}, Answers.fieldOf}
 use Rattle.requests.{proofs.Names.{readNumber, here, past-end, Ask, DayList, lastDay, readDays}, specs.declared.Request.{the-variants.{Call, Malformed}, Request}}

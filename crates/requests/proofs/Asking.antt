@@ -1,6 +1,6 @@
 -- What a line asks, as the program holds it: its days stand in the lent list, and its room is one that can be lent. Assumes nothing.
 use Rattle.basis.proofs.Prelude.{_≡_, ap, refl, _≤_, suc, zero, ℕ, List, [], _++_, _∷_, by-cases, by-test, leb, drop, length, take-at, arith}
-use Rattle.requests.proofs.{Names.{by-found, Found, found, unreadable, readNumber, Ask, Request, Layout, LengthWord, Room, Read, limitOf, table, headOf, Demand, asksCall, malformed, asks, lengthAsks, DayList, lastDay, nextDay, readDays, askDays, askedBy, daysBy, askedOf, daysOf, requestOf, askedFrom, daysIn, roomIn, Parses}, Layouts.by-layout}
+use Rattle.requests.proofs.{Names.{by-found, Found, found, unreadable, readNumber, Ask, Request, Layout, LengthWord, Room, Read, limitOf, table, headOf, Demand, asksCall, malformed, asks, lengthAsks, DayList, lastDay, readDays, askDays, askedBy, daysBy, askedOf, daysOf, requestOf, askedFrom, daysIn, roomIn, Parses}, Layouts.by-layout}
 use Rattle.model.specs.declared.Question.the-variants.{Days}
 
 -- a demand is what its request asks with a list that begins with xs; it has at most n days, and its room is at most 65,536

@@ -1,11 +1,11 @@
 -- Service and blocks at the beginning, after publish, and beside a written text. Assumes nothing.
 use Rattle.basis.proofs.Prelude.{_∙_, _≡_, ap, refl, sym, ℕ, List, [], true, by-test, false, eqb, false≢true}
 use Rattle.service.proofs.Asking.{reads-met}
-use Rattle.service.proofs.Names.{Register, good, bad, readText, writeAll, loadedOf, listOf, Fresh, Publish, Write, accepted, settle, fresh, begun, refusalIn, lineIn, effectOf, reads-keep, Outcome, toldOf, wroteOf, asking, indexOf, Service, Stepped, serviceOf, freshService, Blocks, blocks, Valid, Represents, Given, keeping, Met, Publishes, Wrote, Begins}
+use Rattle.service.proofs.Names.{Register, good, bad, readText, writeAll, loadedOf, listOf, Fresh, Publish, Write, accepted, settle, fresh, begun, refusalIn, lineIn, effectOf, Outcome, toldOf, wroteOf, asking, indexOf, Service, Stepped, serviceOf, Blocks, blocks, Valid, Represents, Given, keeping, Met, Publishes, Wrote, Begins}
 use Rattle.spell.{specs.Listing.Sound, proofs.Order.answer-order}
 use Rattle.model.{proofs.Edits.orderly-none, specs.Publishing.publishedOf, proofs.Publishing.published-orderly}
 use Rattle.register.{specs.declared.Written.Written, specs.declared.Reading.Reading, specs.Answers.{readingOf, Writes}}
-use Rattle.standing.{specs.declared.Standing.Standing, proofs.Loading.{Loads, loads}}
+use Rattle.standing.{specs.declared.Standing.Standing, proofs.Loading.{loads}}
 use Rattle.rules.{specs.Rules.isRule, proofs.Rules.cut-sound}
 use Rattle.published_index.specs.Index.{ruleRefusal, Shows}
 use Rattle.outcomes.proofs.Answers.{write-told}

@@ -1,6 +1,6 @@
 -- From an edit of the standing list to the postcondition of the call. Assumes nothing.
-use Rattle.basis.proofs.Prelude.{_∙_, _≡_, ap, refl, sym, ℕ, List, [], _∷_, Bool, cond, false, false≢true, true, eqb, eqb-true, by-test}
-use Rattle.service.proofs.Names.{accepted, Spell, entering, replacing, Wf, listOf, pasts, makes, Edits, TakesBack, Does, Call, Enter, Amend, Strike, TakeBack, Publish, Write, Ask, insert, remove, replace, idle, enterRefusal, amendRefusal, strikeRefusal, takeBackRefusal, remember, frontOr, restOf, State, Request, Effect, settle, become, edit, takeBack, effectOf, asking, withStanding, Outcome, toldOf, answerOf, Service, Stepped, serviceOf, leavesOf, Blocks, Represents, Changed, Changes}
+use Rattle.basis.proofs.Prelude.{_≡_, ap, refl, sym, ℕ, List, [], _∷_, Bool, cond, false, false≢true, true, eqb, eqb-true, by-test}
+use Rattle.service.proofs.Names.{accepted, Spell, Wf, listOf, pasts, Edits, TakesBack, Does, Call, Enter, Amend, Strike, TakeBack, Publish, Write, Ask, takeBackRefusal, frontOr, restOf, State, Request, Effect, settle, become, edit, takeBack, effectOf, asking, withStanding, Outcome, toldOf, answerOf, Service, Stepped, serviceOf, leavesOf, Blocks, Represents, Changed, Changes}
 use Rattle.standing.specs.declared.{Edited.Edited, Standing.Standing}
 use Rattle.journal.specs.declared.Undo.{Undo}
 

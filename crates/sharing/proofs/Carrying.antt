@@ -6,7 +6,7 @@ use Rattle.requests.specs.{declared.Request.Request, Requests.askedOf}
 use Rattle.service.{specs.{declared.{Service.Service, Stepped.Stepped}, Packed.{unpacked, Packs}, Service.{Blocks, Represents, Given, Changed, Changes}}, proofs.Editing.changes}
 use Rattle.conversations.{specs.{declared.{Answered.Answered, Wanted.{Wanted, the-variants.{Call as WantedCall, Read as WantedRead}}, Looked.{Looked, the-variants.{Done, Wants}}}, Conversation.turnOf, Answering.{Taken, conv, roomOf, Answers, askedIn, Looks}}, proofs.{Claims.looked-served, Turns.{call-turned, turn-call}}}
 use Rattle.hosting.proofs.Host.{laid}
-use Rattle.sharing.specs.{declared.Carried.Carried, Words.{wordOf, wordIn, powerOf, changedAt, callWord}, Carrying.{answeredOf, eventsOf, heldAt, Requested}, Contracts.{RequestedOf, wantedWord, Changing, EditsIn, EditTurn}}
+use Rattle.sharing.specs.{declared.Carried.Carried, Words.{wordOf, wordIn, powerOf, changedAt, callWord}, Carrying.{eventsOf, heldAt, Requested}, Contracts.{RequestedOf, wantedWord, Changing, EditsIn, EditTurn}}
 use Rattle.sharing.proofs.Words.{power-onlyReads, unkept, changed-journal, power-mid}
 use Rattle.standing_words.specs.Edits.{EditedIn}
 use Rattle.outcomes.specs.{declared.Outcome.Outcome, Outcomes.toldOf}

@@ -1,5 +1,5 @@
 -- What a request's word may do is what its event does. Assumes nothing.
-use Rattle.basis.proofs.Prelude.{_∙_, _≡_, ap, refl, sym, _-_, _<_, _≤_, ℕ, _≢_, List, [], _∷_, Bool, cond, false, false≢true, true, eqb, ltb, getD, length, length-append, take, getD-at, length-take-le, take-all, arith, le-ltb, lt-ltb, ne-eqb, by-test}
+use Rattle.basis.proofs.Prelude.{_∙_, _≡_, ap, refl, sym, _-_, _<_, _≤_, ℕ, _≢_, List, _∷_, Bool, cond, false, false≢true, true, eqb, ltb, getD, length, length-append, take, getD-at, length-take-le, take-all, arith, le-ltb, lt-ltb, ne-eqb, by-test}
 use Rattle.refusal.specs.Table.{accepted}
 use Rattle.fields.specs.Fields.{isAt}
 use Rattle.model.{specs.{declared.{Call.{Call, the-variants.{Enter, Amend, Strike, TakeBack, Publish, Write, Ask}}}, Model.{State, Answer, step}, Journal.{reads, call, left, journal}}, proofs.Journal.journal-left}

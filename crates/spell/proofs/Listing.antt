@@ -1,5 +1,5 @@
 -- Numbers that stand in a list, and a list of unique numbers with one spell more at its end. Assumes nothing.
-use Rattle.basis.proofs.Prelude.{_∙_, _≡_, ap, refl, sym, ℕ, List, List·Memᴰ, List·Memᴰ·head, List·Memᴰ·tail, [], _++_, _∷_, Bool, _||_, false, not, true, true≢false, eqb, eq-eqb, eqb-false, ne-eqb, not-true, both, by-test, clash}
+use Rattle.basis.proofs.Prelude.{_≡_, ap, refl, sym, ℕ, List, List·Memᴰ, List·Memᴰ·head, List·Memᴰ·tail, [], _++_, _∷_, Bool, _||_, false, not, true, true≢false, eqb, eq-eqb, eqb-false, ne-eqb, not-true, both, by-test, clash}
 use mathlib.Core.List.{Memᴰ·append-right}
 use Rattle.spell.specs.{declared.Spell.Spell, Listing.{stands, distinct}}
 

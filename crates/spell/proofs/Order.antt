@@ -1,6 +1,6 @@
 -- An order by keys that end in the spell number is a strict total order on spells of different numbers; and what a list that is kept in it
 -- says of its spells. Assumes nothing.
-use Rattle.basis.proofs.Prelude.{_≡_, refl, sym, _<_, _≤_, ℕ, List, List·Memᴰ, List·Memᴰ·cases-cons, List·Memᴰ·not-nil, [], _++_, _∷_, Bool, false, true, _⊎_, inl, inr, arith, eq-eqb, both, by-eq, by-test, clash}
+use Rattle.basis.proofs.Prelude.{_≡_, refl, sym, _<_, _≤_, ℕ, List, List·Memᴰ, List·Memᴰ·cases-cons, List·Memᴰ·not-nil, [], _++_, _∷_, Bool, false, true, _⊎_, inl, inr, both, by-eq, by-test, clash}
 use Rattle.orders.proofs.Keys.{key-is, key-says, key-denies, lexical-asym, lexical-over}
 use Rattle.spell.specs.{declared.Spell.Spell, Order.{lexical, earlierOf, listedBefore, orderedBy}, Listing.Each}
 

@@ -1,5 +1,5 @@
 -- The columns of a list of spells: how a loop lays one out. Assumes nothing.
-use Rattle.basis.proofs.Prelude.{_∙_, _≡_, ap, refl, sym, _+_, _<_, _≤_, suc, zero, ℕ, List, [], _++_, _∷_, map, drop, getD, length, length-map, length-set, set, take, length-take-le, List·getD-map, arith}
+use Rattle.basis.proofs.Prelude.{_∙_, _≡_, ap, refl, sym, _+_, _<_, _≤_, suc, zero, ℕ, List, [], _++_, _∷_, map, drop, getD, length, length-map, length-set, set, take, length-take-le, List·getD-map}
 use Rattle.buffer.proofs.Overlaid as buffer
 use Rattle.orders.proofs.Each.{map-map}
 use Rattle.rules.specs.Rules.{cut, lastOf}

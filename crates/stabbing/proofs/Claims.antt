@@ -1,8 +1,6 @@
 -- What the crate is for: the listing and the comparisons, shown once for any two days h and l, those of day, span and cover among them; and
 -- the links that publish stores. Assumes nothing.
-use Rattle.basis.proofs.Prelude.{_∙_, _≡_, ap, _*_, _<_, _≤_, zero-le, ℕ, List, [], length}
-use Rattle.stabbing.specs.{Tree.{count, keep, dayAt, fitsAt, start, formula}, Walk.walk, Index.Built, Stored.{Sorted, latest, spanStart}}
-use Rattle.stabbing.proofs.{Marks.keep-skip, Walk.{start-is, right, formula-le}, Starts.{start-span, cover-latest}, Listing.{Lists, lists}, StoredLinks.{StoredLinks, stored-links}}
+use Rattle.stabbing.proofs.{Listing.{Lists, lists}, Marks.keep-skip, Names.{Built, List, Sorted, [], _*_, _<_, _∙_, _≡_, _≤_, ap, count, dayAt, fitsAt, formula, keep, latest, length, spanStart, start, walk, zero-le, ℕ}, Starts.{cover-latest, start-span}, StoredLinks.{StoredLinks, stored-links}, Walk.{formula-le, right, start-is}}
 
 module _ (fs ls : List ℕ) (sorted : Sorted fs ls) where
   -- what the walk from the start of "first ≤ h, last ≥ l" finds: h and l are d and d for DAY d, b and a for SPAN a to b, and the row's

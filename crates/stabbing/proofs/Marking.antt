@@ -1,7 +1,5 @@
 -- The words of the columns of links, by position: the definition's mark, or none. Assumes nothing.
-use Rattle.basis.proofs.Prelude.{_≡_, _<_, _≤_, suc, zero-le, ℕ, List, _&&_, false, ltb, length, arith, le-ltb, lt-ltb, ltb-true, both, by-cases}
-use Rattle.stabbing.specs.{Tree.{head, parent, leftSibling, lastChild, next}, Index.{rowLink, headLink}, Contracts.Head}
-use Rattle.stabbing.proofs.Links.{parent-is, child-is, left-is, next-le}
+use Rattle.stabbing.proofs.{Links.{child-is, left-is, next-le, parent-is}, Names.{Head, List, _&&_, _<_, _≡_, _≤_, arith, both, by-cases, false, head, headLink, lastChild, le-ltb, leftSibling, length, lt-ltb, ltb, ltb-true, next, parent, rowLink, suc, zero-le, ℕ}}
 
 module _ (fs ls : List ℕ) where
   module _ (link : ℕ → ℕ) (p : ℕ) where

@@ -1,7 +1,5 @@
 -- The walk's recursions with no fuel to follow: what code that goes by the links is proved against. Assumes nothing.
-use Rattle.basis.proofs.Prelude.{_∙_, _≡_, ap, refl, sym, _+_, _-_, _<_, _≤_, suc, zero, ℕ, List, [], _∷_, Bool, false, true, length, length-append, le-refl, arith, le-leb, lt-leb, by-eq, by-mark, by-test}
-use Rattle.stabbing.specs.{Tree.{keep, dayAt, head, parent, child, leftSibling, lastChild}, Walk.{Progress, tick, compare, chain, descend, climb}, Contracts.{Stretch, above, over}}
-use Rattle.stabbing.proofs.{Marks.{keep-hit, keep-miss, upward}, Links.{parent-is, last-is, left-is, own, child-stretch, c-shorter, c-longest, c-child}, Walk.reach}
+use Rattle.stabbing.proofs.{Links.{c-child, c-longest, c-shorter, child-stretch, last-is, left-is, own, parent-is}, Marks.{keep-hit, keep-miss, upward}, Names.{Bool, List, Progress, Stretch, [], _+_, _-_, _<_, _∙_, _∷_, _≡_, _≤_, above, ap, arith, by-eq, by-mark, by-test, chain, child, climb, compare, dayAt, descend, false, head, keep, lastChild, le-leb, le-refl, leftSibling, length, length-append, lt-leb, over, parent, refl, suc, sym, tick, true, zero, ℕ}, Walk.reach}
 
 -- how many positions pass from lo up to hi
 module _ (t : ℕ → Bool) where

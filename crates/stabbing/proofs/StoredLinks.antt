@@ -1,7 +1,5 @@
 -- The links of any index that publish leaves, as they are stored: a word of 16 bits each. Assumes nothing.
-use Rattle.basis.proofs.Prelude.{_∙_, _≡_, _*_, _+_, _<_, _≤_, ℕ, List, _++_, false, true, drop, getD, length, length-append, length-drop, length-take, take, arith, le-ltb, lt-ltb}
-use Rattle.stabbing.specs.{Tree.{head, parent, leftSibling, lastChild, next}, Index.{capacity, parentColumn, leftColumn, childColumn, nextColumn, headLink, blockOf, rows, numbers, firsts, lasts, Block}}
-use Rattle.stabbing.proofs.{Marking.{row-link, head-link, row-past, parent-small, left-small, child-small, next-small}, Block.{place, words-long, fs-rows, word-at}}
+use Rattle.stabbing.proofs.{Block.{fs-rows, place, word-at, words-long}, Marking.{child-small, head-link, left-small, next-small, parent-small, row-link, row-past}, Names.{Block, List, _*_, _++_, _+_, _<_, _∙_, _≡_, _≤_, arith, capacity, childColumn, drop, false, firsts, getD, head, headLink, lastChild, lasts, le-ltb, leftColumn, leftSibling, length, length-append, length-drop, length-take, lt-ltb, next, nextColumn, parent, parentColumn, rows, take, true, ℕ}}
 
 -- A column of links of heads: at a head the definition's mark, which is 0 where it has none; 0 at a row that is no head, and past the rows;
 -- every mark at most 1,024

@@ -1,7 +1,5 @@
 -- The walk lists what lasts to l, falling, and its comparisons are the formula's. Assumes nothing.
-use Rattle.basis.proofs.Prelude.{_∙_, _≡_, ap, refl, sym, _*_, _+_, _<_, _≤_, suc, zero, zero-le, ℕ, List, [], _++_, _∷_, append-assoc, append-nil, Bool, _&&_, false, true, leb, length, le-refl, arith, eq-eqb, le-leb, leb-false, leb-true, ne-eqb, both, by-mark, by-test, untrue}
-use Rattle.stabbing.specs.{Tree.{below, keep, count, one, some, dayAt, head, next, parent, child, leftSibling, lastChild, fitsAt, start, onPath, hasNext, hasLeft, hasChild, formula}, Walk.{Progress, nothing, push, tick, compare, chain, descend, climb, walk}, Stored.Sorted, Contracts.{Head, bottom, Stretch}}
-use Rattle.stabbing.proofs.{Marks.{Found, below-hit, below-is, below-miss, keep-hit, keep-miss, keep-skip, keep-ext, count-last, count-le}, Links.{bottom-is, parent-is, path-under, own, child-stretch, last-is, c-child, next-none, next-some, chain-up, days-rise, top, barren, left-is}}
+use Rattle.stabbing.proofs.{Links.{barren, bottom-is, c-child, chain-up, child-stretch, days-rise, last-is, left-is, next-none, next-some, own, parent-is, path-under, top}, Marks.{Found, below-hit, below-is, below-miss, count-last, count-le, keep-ext, keep-hit, keep-miss, keep-skip}, Names.{Bool, Head, List, Progress, Sorted, Stretch, [], _&&_, _*_, _++_, _+_, _<_, _∙_, _∷_, _≡_, _≤_, ap, append-assoc, append-nil, arith, below, both, bottom, by-mark, by-test, chain, child, climb, compare, count, dayAt, descend, eq-eqb, false, fitsAt, formula, hasChild, hasLeft, hasNext, head, keep, lastChild, le-leb, le-refl, leb, leb-false, leb-true, leftSibling, length, ne-eqb, next, nothing, onPath, one, parent, push, refl, some, start, suc, sym, tick, true, untrue, walk, zero, ℕ}}
 
 module _ (fs ls : List ℕ) (l : ℕ) where
   abbrev pub reach : ℕ → Bool

@@ -1,5 +1,5 @@
 -- The steps of the days question, apart from the code. Assumes nothing.
-use Rattle.basis.proofs.Prelude.{_∙_, _≡_, ap, refl, sym, _*_, _+_, _-_, _<_, _≤_, zero-le, ℕ, List, [], _++_, _∷_, append-assoc, append-nil, map, map-append, Bool, false, true, ltb, drop, drop-of-length-le, getD, length, length-append, length-drop, length-map, take, take-append-drop, drop-at, drop-cons, drop-drop, getD-drop, length-take-le, take-all, take-at, add-one, arith, le-ltb, lt-ltb, ltb-true, both, not, not-false, not-true, length-take}
+use Rattle.basis.proofs.Prelude.{_∙_, _≡_, ap, sym, _*_, _+_, _-_, _<_, _≤_, zero-le, ℕ, List, [], _++_, _∷_, append-assoc, append-nil, map, map-append, Bool, false, true, ltb, drop, drop-of-length-le, getD, length, length-append, length-drop, length-map, take, take-append-drop, drop-at, drop-cons, length-take-le, take-all, take-at, add-one, arith, le-ltb, lt-ltb, ltb-true, both, not, not-false, not-true, length-take}
 use borrow.Rule.Slice.PartMut.{putMid, postOf}
 use Rattle.stabbing.{specs.{Tree.{keep, fitsAt, start, formula}, Index.{latestTable, Built, numbers, firsts, lasts}, Answer.{Reported, Gave, give, question, risingFrom, containsAny, dayIn, daysOf, daysIn}, Contracts.from}, specs.Stored.latest, specs.declared.Listed.Listed, proofs.Starts.latest-is, proofs.Steps.keep-room, proofs.Block.built-holds, proofs.Listing.lists, proofs.Days.{added, added-room, added-none, added-all, latest-none}}
 use Rattle.buffer.{specs.Buffer.overlaid, proofs.Overlaid.overlaid-all}

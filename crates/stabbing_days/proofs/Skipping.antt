@@ -1,6 +1,6 @@
 -- The rows of a list that lie past the first m, found by halving, and moved to the front: the steps of `skip` and of `close`, apart from the
 -- code. Assumes nothing.
-use Rattle.basis.proofs.Prelude.{_∙_, _≡_, ap, refl, sym, _+_, _-_, _<_, _≤_, suc, zero, zero-le, ℕ, List, [], _++_, _∷_, map, Bool, _&&_, leb, ltb, List·getD-append, drop, getD, length, length-append, length-map, drop-at, drop-cons, getD-append-add, le-refl, add-zero, arith, le-ltb, leb-true, lt-ltb, ltb-false, ltb-true, both, by-eq, by-test, append-assoc, append-nil, length-drop, set, take, take-append-drop, drop-append-le, drop-length, getD-drop, length-take-le, take-length}
+use Rattle.basis.proofs.Prelude.{_∙_, _≡_, ap, refl, sym, _+_, _-_, _<_, _≤_, suc, zero, zero-le, ℕ, List, [], _++_, _∷_, map, Bool, _&&_, leb, ltb, List·getD-append, drop, getD, length, length-append, length-map, drop-at, drop-cons, getD-append-add, le-refl, add-zero, arith, le-ltb, leb-true, lt-ltb, ltb-true, both, by-eq, append-assoc, append-nil, length-drop, set, take, take-append-drop, drop-append-le, drop-length, getD-drop, length-take-le, take-length}
 use Rattle.buffer.{specs.Buffer.overlaid, proofs.Overlaid.{overlaid-all, Putting, put-begins, put-on}}
 use Rattle.stabbing.{specs.Tree.keep, specs.Contracts.from, proofs.Days.keep-parts, proofs.Listing.lists, specs.Index.{Built, numbers, firsts, markIn}, proofs.Block.{built-holds, leads-back}}
 use Rattle.stabbing_query.specs.Contracts.{numbered}

@@ -1,5 +1,5 @@
 -- What the builder lays is the block of the definition: column by column, and then the whole. Assumes nothing.
-use Rattle.stabbing_index.proofs.{Names.{length-take, List·getD-eq-default, ltb, not, not-true, not-false, needs, Linked, Chained, _&&_, _≢_, _∙_, _≡_, ap, refl, sym, _+_, _-_, _<_, _≤_, suc, zero, ℕ, List, [], _++_, _∷_, append-assoc, Bool, false, true, getD, getD-take, length, length-set, set, take, length-take-le, take-all, arith, le-leb, lt-leb, lt-ltb, by-mark, by-test, clash, dayAt, head, parent, child, lastChild, leftSibling, next, start, latest, capacity, dayCount, firstColumn, lastColumn, parentColumn, leftColumn, childColumn, nextColumn, startTable, latestTable, bucketTable, rowCount, indexLength, rowsOk, column, lastOf, headLink, rowLink, laid, blockOf, child-is, parent-is, head-past, row-past, left-small, child-small, next-small, column-length, column-at, column-only, Columns, ColumnsOf, Grown, Dayed, DaysAsks, Extends, nameWords, markWords, beside, linkWords, dayWords, RowsOf}, Laying.{laid-more, laid-word, laid-column, grown-all, naming}, DayTables.undayed, Links.{unlinked, unchained}}
+use Rattle.stabbing_index.proofs.{Names.{length-take, List·getD-eq-default, ltb, not, not-true, not-false, needs, Linked, Chained, _&&_, _≢_, _∙_, _≡_, ap, refl, sym, _+_, _-_, _≤_, suc, zero, ℕ, List, [], _++_, _∷_, append-assoc, Bool, false, true, getD, getD-take, length, length-set, set, take, length-take-le, take-all, arith, le-leb, lt-leb, lt-ltb, by-mark, by-test, clash, dayAt, head, parent, child, lastChild, leftSibling, next, start, latest, capacity, dayCount, firstColumn, lastColumn, parentColumn, leftColumn, childColumn, nextColumn, startTable, latestTable, bucketTable, rowCount, indexLength, rowsOk, column, lastOf, headLink, laid, blockOf, child-is, parent-is, head-past, row-past, left-small, child-small, next-small, column-length, column-at, column-only, Columns, ColumnsOf, Dayed, DaysAsks, Extends, nameWords, markWords, beside, linkWords, dayWords, RowsOf}, Laying.{laid-more, laid-word, laid-column, grown-all, naming}, DayTables.undayed, Links.{unlinked, unchained}}
 use Rattle.stabbing_index.specs.Build.{Builds}
 use Rattle.stabbing.proofs.Block.{rows-sorted}
 

@@ -1,6 +1,6 @@
 -- Going down a bucket to a number: the steps of `find`, apart from the code. Assumes nothing.
 use Rattle.basis.proofs.Prelude.{_∙_, _≡_, ap, refl, sym, _%_, _+_, _-_, _<_, _≤_, suc, ℕ, List, Bool, _≢_, eqb, getD, length, arith, eq-eqb, eqb-true, ne-eqb}
-use Rattle.stabbing.{specs.{Tree.below, Index.{bucketCount, bucketTable, lowerColumn, bucketOf, inBucket, named, numbers, firsts, lasts, markIn, rows, Block}}, proofs.{Marks.{Below, below-is, below-hit, below-miss, below-skip}, Block.{block-holds, fs-rows, bucket-word, lower-word}}}
+use Rattle.stabbing.{specs.{Tree.below, Index.{bucketCount, bucketTable, lowerColumn, bucketOf, inBucket, named, numbers, firsts, markIn, rows, Block}}, proofs.{Marks.{Below, below-is, below-hit, below-miss, below-skip}, Block.{block-holds, fs-rows, bucket-word, lower-word}}}
 
 -- the row p has the number x
 abbrev sought : List ℕ → ℕ → ℕ → Bool

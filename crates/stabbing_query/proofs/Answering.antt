@@ -1,8 +1,8 @@
 -- From the walk to the answers of day, span and cover: what is written, the theorems on listing and comparisons, the starts. Assumes nothing.
-use Rattle.basis.proofs.Prelude.{_∙_, _≡_, ap, refl, sym, _%_, _*_, _+_, _-_, _/_, _<_, _≤_, suc, zero, zero-le, ℕ, List, [], _++_, _∷_, map, map-append, Bool, false, not, true, _≢_, drop, drop-of-length-le, getD, length, length-map, take, take-all, le-refl, arith, le-leb, lt-leb, not-false, not-true, by-mark, by-test}
+use Rattle.basis.proofs.Prelude.{_∙_, _≡_, ap, refl, sym, _%_, _+_, _-_, _/_, _<_, _≤_, suc, zero, zero-le, ℕ, List, [], _++_, _∷_, map, map-append, Bool, false, not, true, _≢_, drop, drop-of-length-le, getD, length, length-map, take, take-all, le-refl, arith, le-leb, lt-leb, not-false, not-true, by-mark, by-test}
 use Rattle.buffer.{specs.Buffer.overlaid, proofs.Overlaid.overlaid-all}
 use Rattle.stabbing.{specs.declared.Listed.Listed, proofs.Block.built-holds, proofs.{Marks.{below-is, keep-hit, keep-miss}, Starts.{latest-is, start-span, cover-latest}}, specs.Answer.{Reported, refused, give, question, dayIn, Gave, spanIn, coverIn}}
-use Rattle.stabbing_query.proofs.Names.{dayOf, spanOf, coverOf, covering, keep, dayAt, fitsAt, start, nothing, walk, latest, spanStart, start-is, listing, comparisons-formula, firstColumn, lastColumn, startTable, latestTable, Built, named, numbers, firsts, lasts, markIn, isDay, dated, Holds, Now, Does, ClimbAsks, WalkAsks, numbered, decoded, listedOf, climbOf, walkOf, startOf}
+use Rattle.stabbing_query.proofs.Names.{dayOf, spanOf, coverOf, covering, keep, dayAt, fitsAt, start, nothing, walk, latest, spanStart, start-is, listing, comparisons-formula, firstColumn, lastColumn, startTable, latestTable, Built, named, numbers, firsts, lasts, markIn, isDay, dated, Now, Does, ClimbAsks, WalkAsks, numbered, decoded, listedOf, climbOf, walkOf, startOf}
 
 -- ---- The walk's beginning and its end
 start-now : {ix xs : List ℕ} → length xs ≡ 1024 → Now ix xs 67108864 nothing

@@ -1,6 +1,6 @@
 -- A standing list with no past: that of a fresh start, and that of a register text. Assumes nothing.
-use Rattle.basis.proofs.Prelude.{_∙_, _≡_, refl, ℕ, List, [], length-replicate, arith}
-use Rattle.standing.proofs.{Names.{over-blank, orderly-none, text-order, Good, Goods, Sound, Spell, Fresh, pastOf, holding, Register, good, bad, readText, blank, readingOf, written-read, begun, Standing, freshStanding, loadedOf, Wf, listOf, pasts, afterReading}, Places.{list-over, past-over, wf-over}}
+use Rattle.basis.proofs.Prelude.{_≡_, refl, ℕ, List, [], length-replicate, arith}
+use Rattle.standing.proofs.{Names.{over-blank, orderly-none, text-order, Good, Goods, Sound, Fresh, pastOf, Register, good, bad, readText, blank, readingOf, written-read, begun, Standing, freshStanding, loadedOf, Wf, listOf, pasts, afterReading}, Places.{list-over, past-over, wf-over}}
 
 pub fresh-is : Fresh freshStanding
 unfolding pastOf Goods

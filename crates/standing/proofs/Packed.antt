@@ -1,6 +1,6 @@
 -- A standing list's words in their parts: the array, the journal, the count and the depth; and that they read back as it. Assumes nothing.
-use Rattle.basis.proofs.Prelude.{_∙_, _≡_, ap, sym, _+_, _≤_, ℕ, List, [], _++_, _∷_, append-assoc, append-nil, drop, drop-append-le, drop-of-length-le, getD, length, length-append, length-drop, length-take, length-take-le, List·getD-append, map, set, take, drop-at, getD-at, getD-append-add, sets-eq, take-at, arith, le-leb}
-use Rattle.standing.proofs.Names.{Every, Narrow, Wf, entry-back, every-same, spell-back, arrayIn, assembled, journalIn, spellWidth, entryWidth, spellsLength, journalLength, countPlace, depthPlace, standingLength, written, parts, PutAll, spellWords, spellOf, spell-near, put-first, put-long, written-length, read-back, spell-long, Standing, entryWords, entryOf, entry-long, packed, unpacked, Packs, Spell, Undo}
+use Rattle.basis.proofs.Prelude.{_∙_, _≡_, ap, _+_, _≤_, ℕ, List, [], _++_, _∷_, append-assoc, append-nil, drop, drop-append-le, drop-of-length-le, getD, length, length-append, length-drop, length-take, List·getD-append, map, set, take, drop-at, getD-at, getD-append-add, sets-eq, take-at, arith, le-leb}
+use Rattle.standing.proofs.Names.{Every, Narrow, Wf, entry-back, every-same, spell-back, arrayIn, assembled, journalIn, spellWidth, entryWidth, spellsLength, journalLength, countPlace, depthPlace, standingLength, written, parts, PutAll, spellWords, spellOf, spell-near, put-first, put-long, written-length, read-back, spell-long, Standing, entryWords, entryOf, entry-long, packed, unpacked, Packs}
 
 -- the words after an entry's own are not read
 pub entry-near : (x r : List ℕ) → entryWidth ≤ length x → entryOf (x ++ r) ≡ entryOf x

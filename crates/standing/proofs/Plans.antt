@@ -1,7 +1,7 @@
 -- A plan carried out is what the account says of its call: pure facts, no code. Assumes nothing.
-use Rattle.basis.proofs.Prelude.{_∙_, _≡_, ap, refl, sym, ℕ, List, [], _∷_, Bool, _&&_, cond, false, false≢true, not, true, eqb, getD, length, length-take, _-_, _<_, arith, clash, eqb-false, eqb-true, untrue, by-test}
+use Rattle.basis.proofs.Prelude.{_∙_, _≡_, ap, refl, sym, ℕ, List, [], _∷_, Bool, cond, false, false≢true, not, true, eqb, getD, length, length-take, _-_, _<_, arith, clash, eqb-false, eqb-true, untrue, by-test}
 use Rattle.model.proofs.Checks.{strike-accepted}
-use Rattle.standing.proofs.{Names.{planFor, over, own-over, accepted, noHistory, Spell, Sound, Good, Goods, makes, Edits, undo, pastOf, pasts, remember, past-pushed, goods-take, text-order, earlierOf, insert, length-insert, remove, replace, entering, replacing, insert-remove, remove-none, remove-insert, removed-gone, orderly-insert, orderly-remove, orderly-replace, enters, amends, strikeRefusal, stands, blank, blankEntry, idle, enterRefusal, amendRefusal, takeBackRefusal, frontOr, restOf, Call, Enter, Amend, Strike, TakeBack, Publish, Write, Ask, Undo, noting, Standing, Edited, Plan, listOf, entries, Wf, TakesBack, afterTakeBack, Does, standsAt, changing, countedOf, counted-is, putting, without, Located, foundIn, holding, noted, deeperBy, newestFirst, newestOf, noPlan, planAmend, planBack, planEnter, planStrike, planOf, pop, numberOf, Takes, Makes, Undoes, none-keeps, enter-leaves, enter-makes, amend-leaves, amend-idles, amend-makes, strike-leaves, strike-makes, back-leaves, back-undoes, deeper-noted}, Places.{list-length, entries-long, entries-over, journal-own, over-same, list-over, past-over, wf-over}}
+use Rattle.standing.proofs.{Names.{planFor, over, own-over, accepted, noHistory, Spell, Sound, Good, Goods, makes, Edits, undo, pastOf, pasts, remember, past-pushed, goods-take, text-order, earlierOf, insert, length-insert, remove, replace, entering, replacing, insert-remove, remove-none, remove-insert, removed-gone, orderly-insert, orderly-remove, orderly-replace, enters, amends, strikeRefusal, stands, blank, blankEntry, idle, takeBackRefusal, frontOr, restOf, Call, Enter, Amend, Strike, TakeBack, Publish, Write, Ask, Undo, noting, Standing, Edited, Plan, listOf, entries, Wf, TakesBack, afterTakeBack, Does, standsAt, changing, countedOf, counted-is, putting, without, Located, foundIn, holding, noted, deeperBy, newestFirst, newestOf, noPlan, planOf, pop, numberOf, Takes, Makes, Undoes, none-keeps, enter-leaves, enter-makes, amend-leaves, amend-idles, amend-makes, strike-leaves, strike-makes, back-leaves, back-undoes, deeper-noted}, Places.{list-length, entries-long, entries-over, journal-own, over-same, list-over, past-over, wf-over}}
 
 -- all places after a plan is carried out
 abbrev pub applied : Standing → Plan → Standing

@@ -1,5 +1,5 @@
 -- The spells that words hold, as the code reads them. Assumes nothing.
-use Rattle.basis.proofs.Prelude.{_∙_, _≡_, ap, refl, sym, _*_, _<_, _≤_, ℕ, List, drop, getD, length, take, arith}
+use Rattle.basis.proofs.Prelude.{_∙_, _≡_, ap, refl, sym, _*_, _<_, _≤_, ℕ, List, drop, getD, length, arith}
 use Rattle.standing_words.proofs.Names.{Spell, blank, parts-at, parts-length, spell-read, spellOf, spellWidth, spellsLength, spellsOf}
 
 -- so many spells as there are places

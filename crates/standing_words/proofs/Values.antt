@@ -1,5 +1,5 @@
 -- Words that hold values, k words each: cut and joined at whole values they hold the values cut and joined. Assumes nothing.
-use Rattle.basis.proofs.Prelude.{_∙_, _≡_, ap, refl, sym, _*_, _+_, _-_, _<_, _≤_, suc, ℕ, List, [], _++_, _∷_, append-assoc, append-nil, append-snoc, drop, getD, length, length-append, length-drop, length-take, take, take-append-drop, drop-at, length-take-le, slice, set, set-split, sets, sets-eq, take-suc, add-one, take-at, take-take, mul-le-mul-right, suc-mul, arith}
+use Rattle.basis.proofs.Prelude.{_∙_, _≡_, ap, refl, sym, _*_, _+_, _-_, _<_, _≤_, suc, ℕ, List, [], _++_, _∷_, append-assoc, append-nil, append-snoc, drop, length, length-append, length-drop, length-take, take, take-append-drop, drop-at, length-take-le, slice, set, set-split, sets, sets-eq, add-one, take-at, take-take, mul-le-mul-right, suc-mul, arith}
 use lib.Seq.{take-append-le}
 use Rattle.standing_words.proofs.Names.{raised, put-sets, Holds, add-mul, closed, front, lowered, opened, over, parts, parts-length, parts-near, parts-part, put, written, written-append, written-length}
 

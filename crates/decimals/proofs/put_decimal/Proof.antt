@@ -1,7 +1,5 @@
 -- `decimals::put_decimal` meets its contract. The invariant: the digits of v put before the place i make the whole field. The measure is v. Assumes nothing.
-use Rattle.basis.proofs.Prelude.{arith, length-set}
-use Rattle.fields.proofs.Puts.{put-sized, puts-before, puts-past}
-use Rattle.decimals.proofs.{Puts.{Digits, digits-none, digits-room, digits-inside, digits-step, digits-all}, put_decimal.{Statement.statement, Tie.{close, spec}}}
+use Rattle.decimals.proofs.{Names.{arith, length-set, put-sized, puts-before, puts-past}, Puts.{Digits, digits-all, digits-inside, digits-none, digits-room, digits-step}, put_decimal.{Statement.statement, Tie.{close, spec}}}
 
 pub put-decimal-spec : {M : Type 1} → statement M
 put-decimal-spec = close (spec

@@ -1,7 +1,5 @@
 -- `decimals::put_number` meets its contract. Assumes nothing.
-use Rattle.basis.proofs.Prelude.{needs}
-use Rattle.fields.specs.Fields.{decimalOf}
-use Rattle.decimals.proofs.put_number.{Statement.statement, Tie.{close, spec}}
+use Rattle.decimals.proofs.{Names.{decimalOf, needs}, put_number.{Statement.statement, Tie.{close, spec}}}
 
 pub put-number-spec : {M : Type 1} → statement M
 unfolding decimalOf

@@ -1,8 +1,6 @@
 -- `decimals::put_numbers` meets its contract. The loop's invariant: the decimals from i on stand in front of the text that
 -- follows. The measure is i. Assumes nothing.
-use Rattle.basis.proofs.Prelude.{arith, needs}
-use Rattle.fields.proofs.Puts.{puts-before, puts-past}
-use Rattle.decimals.proofs.{Rows.{Rest, rest-none, rest-one, rest-all}, put_numbers.{Statement.statement, Tie.{close, spec}}}
+use Rattle.decimals.proofs.{Names.{arith, needs, puts-before, puts-past}, Rows.{Rest, rest-all, rest-none, rest-one}, put_numbers.{Statement.statement, Tie.{close, spec}}}
 
 pub put-numbers-spec : {M : Type 1} → statement M
 put-numbers-spec = close (spec

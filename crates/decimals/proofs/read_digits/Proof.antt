@@ -1,7 +1,5 @@
 -- `decimals::read_digits` meets its contract. The invariant: reading on from the place i with the value v gives what was to be read. Assumes nothing.
-use Rattle.basis.proofs.Prelude.{_≡_, _-_, _≤_, drop, length, arith, needs}
-use Rattle.fields.specs.Fields.{readDigits}
-use Rattle.decimals.proofs.{Places.{digits-past, digits-none, digits-far, digits-above, digits-more, digit-from, digit-fits}, read_digits.{Statement.statement, Tie.{close, spec}}}
+use Rattle.decimals.proofs.{Names.{_-_, _≡_, _≤_, arith, drop, length, needs, readDigits}, Places.{digit-fits, digit-from, digits-above, digits-far, digits-more, digits-none, digits-past}, read_digits.{Statement.statement, Tie.{close, spec}}}
 
 pub read-digits-spec : {M : Type 1} → statement M
 read-digits-spec = close (spec

@@ -1,6 +1,5 @@
 -- `decimals::read_length` meets its contract. Assumes nothing.
-use Rattle.basis.proofs.Prelude.{arith, needs}
-use Rattle.decimals.proofs.{Places.{decimal-past, decimal-zero, decimal-none, decimal-digits}, read_length.{Statement.statement, Tie.{close, spec}}}
+use Rattle.decimals.proofs.{Names.{arith, needs}, Places.{decimal-digits, decimal-none, decimal-past, decimal-zero}, read_length.{Statement.statement, Tie.{close, spec}}}
 
 pub read-length-spec : {M : Type 1} → statement M
 read-length-spec = close (spec

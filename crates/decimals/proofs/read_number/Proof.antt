@@ -1,7 +1,5 @@
 -- `decimals::read_number` meets its contract: a length that is read is at most the limit. Assumes nothing.
-use Rattle.basis.proofs.Prelude.{arith, needs}
-use Rattle.fields.proofs.Places.{said, none-narrowed, narrowed}
-use Rattle.decimals.proofs.{Decimals.length-within, read_number.{Statement.statement, Tie.{close, spec}}}
+use Rattle.decimals.proofs.{Decimals.length-within, Names.{arith, narrowed, needs, none-narrowed, said}, read_number.{Statement.statement, Tie.{close, spec}}}
 
 pub read-number-spec : {M : Type 1} → statement M
 read-number-spec = close (spec

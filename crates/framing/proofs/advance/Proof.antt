@@ -1,7 +1,5 @@
 -- `framing::advance` meets its contract. Assumes nothing.
-use Rattle.basis.proofs.Prelude.{arith, needs}
-use Rattle.streams.specs.Advancing.{partOf}
-use Rattle.framing.proofs.{Steps.{text-goes, line-advances, part-goes}, advance.{Statement.statement, Tie.{close, spec}}}
+use Rattle.framing.proofs.{Names.{arith, needs, partOf}, Steps.{line-advances, part-goes, text-goes}, advance.{Statement.statement, Tie.{close, spec}}}
 
 pub advance-spec : {M : Type 1} → statement M
 unfolding partOf

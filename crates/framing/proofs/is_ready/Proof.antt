@@ -1,6 +1,5 @@
 -- `framing::is_ready` meets its contract: each test in its turn. Assumes nothing.
-use Rattle.basis.proofs.Prelude.{arith, eq-eqb, le-leb, le-ltb, lt-leb, lt-ltb, ne-eqb}
-use Rattle.framing.proofs.is_ready.{Statement.statement, Tie.{close, spec}}
+use Rattle.framing.proofs.{Names.{arith, eq-eqb, le-leb, le-ltb, lt-leb, lt-ltb, ne-eqb}, is_ready.{Statement.statement, Tie.{close, spec}}}
 
 ruleset tests = (eq-eqb, le-leb, le-ltb, lt-leb, lt-ltb, ne-eqb, arith)
 

@@ -1,6 +1,5 @@
 -- `framing::phayaklit_advance` meets its contract: what `advance` answers, in one struct, or a refusal. Assumes nothing.
-use Rattle.basis.proofs.Prelude.{needs}
-use Rattle.framing.proofs.{Steps.{host-refused, host-whole, host-part}, phayaklit_advance.{Statement.statement, Tie.{close, spec}}}
+use Rattle.framing.proofs.{Names.needs, Steps.{host-part, host-refused, host-whole}, phayaklit_advance.{Statement.statement, Tie.{close, spec}}}
 
 pub phayaklit-advance-spec : {M : Type 1} → statement M
 phayaklit-advance-spec = close (spec

@@ -1,6 +1,5 @@
 -- `framing::put` meets its contract. Assumes nothing.
-use Rattle.basis.proofs.Prelude.{length-set, arith, needs}
-use Rattle.framing.proofs.{Steps.{byte-put, rest-kept, byte-passed}, put.{Statement.statement, Tie.{close, spec}}}
+use Rattle.framing.proofs.{Names.{arith, length-set, needs}, Steps.{byte-passed, byte-put, rest-kept}, put.{Statement.statement, Tie.{close, spec}}}
 
 pub put-spec : {M : Type 1} → statement M
 put-spec = close (spec

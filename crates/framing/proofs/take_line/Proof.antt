@@ -1,8 +1,6 @@
 -- `framing::take_line` meets its contract. The invariant: what the bytes from the place on make is what they made at first.
 -- Assumes nothing.
-use Rattle.basis.proofs.Prelude.{_≡_, _-_, _≤_, drop, length, take, arith, needs}
-use Rattle.streams.specs.{Stream.inLine, Advancing.{Kept, next}}
-use Rattle.framing.proofs.{Steps.{kept-on, next-end, line-on, line-ends}, take_line.{Statement.statement, Tie.{InvT-loop, MeasureT-loop, close, spec}}}
+use Rattle.framing.proofs.{Names.{Kept, _-_, _≡_, _≤_, arith, drop, inLine, length, needs, next, take}, Steps.{kept-on, line-ends, line-on, next-end}, take_line.{Statement.statement, Tie.{InvT-loop, MeasureT-loop, close, spec}}}
 
 abbrev Inv-loop : InvT-loop
 Inv-loop n₀ arrived from line₀ n₁ at₀ line n at =

@@ -1,8 +1,6 @@
 -- `framing::take_text` meets its contract. The invariant: what the bytes from the place on make is what they made at first.
 -- Assumes nothing.
-use Rattle.basis.proofs.Prelude.{_≡_, _≤_, List, ℕ, length, arith, needs}
-use Rattle.streams.specs.Advancing.{Kept}
-use Rattle.framing.proofs.{Steps.{made, kept-on, text-on, text-part, text-whole}, take_text.{Statement.statement, Tie.{InvT-loop, MeasureT-loop, close, spec}}}
+use Rattle.framing.proofs.{Names.{Kept, List, _≡_, _≤_, arith, length, needs, ℕ}, Steps.{kept-on, made, text-on, text-part, text-whole}, take_text.{Statement.statement, Tie.{InvT-loop, MeasureT-loop, close, spec}}}
 
 abbrev Inv-loop : InvT-loop
 Inv-loop n m₀ wanted arrived from payload₀ m₁ left₀ at₀ payload m left at =

@@ -1,7 +1,5 @@
 -- `framing::text_length` meets its contract. Assumes nothing.
-use Rattle.basis.proofs.Prelude.{sym, length-take-le, arith, needs}
-use Rattle.streams.specs.Stream.{wants}
-use Rattle.framing.proofs.text_length.{Statement.statement, Tie.{close, spec}}
+use Rattle.framing.proofs.{Names.{arith, length-take-le, needs, sym, wants}, text_length.{Statement.statement, Tie.{close, spec}}}
 
 pub text-length-spec : {M : Type 1} → statement M
 unfolding wants

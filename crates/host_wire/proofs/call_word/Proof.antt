@@ -1,6 +1,5 @@
 -- `host_wire::call_word` meets its contract: a line for each call. Assumes nothing.
-use Rattle.basis.proofs.Prelude.{needs}
-use Rattle.host_wire.proofs.call_word.{Statement.statement, Tie.{close, spec}}
+use Rattle.host_wire.proofs.{Names.needs, call_word.{Statement.statement, Tie.{close, spec}}}
 
 pub call-word-spec : {M : Type 1} → statement M
 call-word-spec = close (spec

@@ -1,7 +1,5 @@
 -- `host_wire::carry` meets its contract. Assumes nothing.
-use Rattle.basis.proofs.Prelude.{arith, needs}
-use Rattle.sharing.proofs.Carrying.{changed-requested, edits-requested, held-requested}
-use Rattle.host_wire.proofs.carry.{Statement.statement, Tie.{close, spec}}
+use Rattle.host_wire.proofs.{Names.{arith, changed-requested, edits-requested, held-requested, needs}, carry.{Statement.statement, Tie.{close, spec}}}
 
 pub carry-spec : {M : Type 1} → statement M
 carry-spec = close (spec

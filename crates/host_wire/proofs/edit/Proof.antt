@@ -1,7 +1,5 @@
 -- `host_wire::edit` meets its contract. Assumes nothing.
-use Rattle.basis.proofs.Prelude.{arith, needs}
-use Rattle.sharing.proofs.Carrying.{wanted-below, edit-carried, no-edit}
-use Rattle.host_wire.proofs.edit.{Statement.statement, Tie.{close, spec}}
+use Rattle.host_wire.proofs.{Names.{arith, edit-carried, needs, no-edit, wanted-below}, edit.{Statement.statement, Tie.{close, spec}}}
 
 pub edit-spec : {M : Type 1} → statement M
 edit-spec = close (spec

@@ -1,7 +1,5 @@
 -- `host_wire::power_of` meets its contract. Assumes nothing.
-use Rattle.basis.proofs.Prelude.{eq-eqb, le-ltb, lt-ltb, ne-eqb}
-use Rattle.sharing.specs.Words.{powerOf}
-use Rattle.host_wire.proofs.power_of.{Statement.statement, Tie.{close, spec}}
+use Rattle.host_wire.proofs.{Names.{eq-eqb, le-ltb, lt-ltb, ne-eqb, powerOf}, power_of.{Statement.statement, Tie.{close, spec}}}
 
 pub power-of-spec : {M : Type 1} → statement M
 unfolding powerOf

@@ -1,5 +1,5 @@
 -- `incoming::wait` meets its contract: a read brings no more than the list has places for. Assumes nothing.
-use Rattle.basis.proofs.Prelude.{_≡_, _≤_, ℕ, arith, needs}
+use Rattle.basis.proofs.Prelude.{_≡_, _≤_, ℕ, needs}
 use Rattle.input.specs.{declared.Input.{Input, the-variants.Read}, Input.Within}
 use Rattle.incoming.proofs.wait.{Statement.statement, Tie.{close, spec}}
 

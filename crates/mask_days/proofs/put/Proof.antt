@@ -1,5 +1,5 @@
 -- `mask_days::put` meets its contract: the first n ticked days are put, and those of the bits from i on are still to come. Assumes nothing.
-use Rattle.basis.proofs.Prelude.{_∙_, sym, _+_, _-_, _<_, _≤_, ℕ, arith}
+use Rattle.basis.proofs.Prelude.{_∙_, sym, _+_, _-_, _<_, _≤_, arith}
 use lib.Count.{trailingZeros}
 use Rattle.mask_days.proofs.{Ticking.{Ticking, begins, turn, goes-on, ends}, put.{Statement.statement, Tie.{InvT-loop, MeasureT-loop, In-loop, close, spec}}}
 

@@ -1,5 +1,5 @@
 -- `questions::cover` meets its contract: the rows' question answers as the account does. Assumes nothing.
-use Rattle.questions.proofs.{Names.{_∙_, _≡_, refl, sym, _<_, suc, ℕ, List, [], _∷_, Bool, true, eqb, List·getD-map, getD, length, length-map, arith, eq-eqb, eqb-true, ne-eqb, by-mark, needs, unknownNumber, Spell, blank, distinct, Listed, below, named, numbers, Gave, covering, coverOf, coverIn, Below, below-is, Cover, firstsOf, lastsOf, State, Request, refused, settle, reaching, cover, ask, Outcome, foundOf, told, numbersOf, number-at, in-at, stands-none, one-spell, cover-does, List·Memᴰ, published-built, Asked}, Asking.{question-told, rows-asked}, cover.{Statement.statement, Tie.{close, spec}}}
+use Rattle.questions.proofs.{Names.{_∙_, _≡_, refl, sym, _<_, suc, ℕ, List, [], _∷_, true, eqb, List·getD-map, getD, length, length-map, arith, eq-eqb, eqb-true, ne-eqb, by-mark, needs, unknownNumber, Spell, blank, distinct, Listed, below, named, numbers, Gave, covering, coverOf, coverIn, below-is, Cover, firstsOf, lastsOf, refused, settle, reaching, cover, ask, Outcome, foundOf, told, numbersOf, number-at, in-at, stands-none, one-spell, cover-does, List·Memᴰ, published-built, Asked}, Asking.{question-told, rows-asked}, cover.{Statement.statement, Tie.{close, spec}}}
 
 -- the first spell of the number k, or none
 cover-hit : (p : List Spell) (k : ℕ) → distinct p ≡ true → (x : Spell) → List·Memᴰ x p → x .number ≡ k → cover k p p ≡ reaching (x .first) (x .last) p

@@ -1,9 +1,6 @@
 -- `replay::calls` meets its contract. The invariant is Going: what is done, followed by what is still to come, is the whole. The
 -- measure is the codes that are left. Assumes nothing.
-use Rattle.basis.proofs.Prelude.{_-_, arith, needs}
-use Rattle.service.specs.Service.{blocks}
-use Rattle.coding.proofs.Claims.{next-room}
-use Rattle.replay.proofs.{Runs.{Going, starts, ended-all, ended-stop, turned}, calls.{Statement.statement, Tie.{InvT-loop, MeasureT-loop, close, spec}}}
+use Rattle.replay.proofs.{Names.{_-_, arith, blocks, needs, next-room}, Runs.{Going, ended-all, ended-stop, starts, turned}, calls.{Statement.statement, Tie.{InvT-loop, MeasureT-loop, close, spec}}}
 
 abbrev Inv-loop : InvT-loop
 Inv-loop index₀ codes days results₀ numbers₀ text₀ whole s₀ made₀ d₀ n₀ t₀ index results numbers text s made d n t =

@@ -1,7 +1,5 @@
 -- `replay::code_at` meets its contract: a word for each field. Assumes nothing.
-use Rattle.coding.specs.Coded.{codeAt}
-use Rattle.basis.proofs.Prelude.{needs}
-use Rattle.replay.proofs.code_at.{Statement.statement, Tie.close, Tie.spec}
+use Rattle.replay.proofs.{Names.{codeAt, needs}, code_at.{Statement.statement, Tie.{close, spec}}}
 
 pub code-at-spec : {M : Type 1} → statement M
 code-at-spec = close (spec

@@ -1,6 +1,5 @@
 -- `replay::make` meets its contract: the parts that are lent lie in their lists, as it requires. Assumes nothing.
-use Rattle.basis.proofs.Prelude.{refl, arith, needs}
-use Rattle.replay.proofs.make.{Statement.statement, Tie.{close, spec}}
+use Rattle.replay.proofs.{Names.{arith, needs, refl}, make.{Statement.statement, Tie.{close, spec}}}
 
 pub make-spec : {M : Type 1} → statement M
 make-spec = close (spec

@@ -1,8 +1,5 @@
 -- `replay::tell` meets its contract: stores, one after the other. Assumes nothing.
-use Rattle.basis.proofs.Prelude.{[], _*_, length-set, sets-eq, add-one, add-two, add-three, add-four, arith, needs}
-use Rattle.outcomes.specs.Outcomes.{answerOf}
-use Rattle.coding.specs.Coded.{resultWidth, told}
-use Rattle.replay.proofs.tell.{Statement.statement, Tie.close, Tie.spec}
+use Rattle.replay.proofs.{Names.{[], _*_, add-four, add-one, add-three, add-two, answerOf, arith, length-set, needs, resultWidth, sets-eq, told}, tell.{Statement.statement, Tie.{close, spec}}}
 
 pub tell-spec : {M : Type 1} → statement M
 tell-spec = close (spec

@@ -1,5 +1,5 @@
 -- `request_words::begins` meets its contract. The invariant: the rest of the line is to begin with the rest of the word. Assumes nothing.
-use Rattle.basis.proofs.Prelude.{_≡_, _-_, _≤_, drop, length, arith, needs}
+use Rattle.basis.proofs.Prelude.{_≡_, _-_, _≤_, drop, length, needs}
 use Rattle.requests.specs.Words.{begins}
 use Rattle.request_words.proofs.{Words.{begins-on, begins-not, begins-all}, begins.{Statement.statement, Tie.{close, spec}}}
 

@@ -1,5 +1,5 @@
 -- `stabbing_days::close` meets its contract: each need is a step of `proofs/Skipping.antt`. Assumes nothing.
-use Rattle.basis.proofs.Prelude.{_-_, drop, arith, needs}
+use Rattle.basis.proofs.Prelude.{_-_, drop, needs}
 use Rattle.buffer.proofs.Overlaid.{Putting, put-ends}
 use Rattle.stabbing_days.proofs.{Skipping.{starts, none, goes-on}, close.{Statement.statement, Tie.close, Tie.spec}}
 
