@@ -21,7 +21,7 @@ module _ {ix : List ℕ} {x : ℕ} where
   -- at the latest row of the bucket below k, where all that is sought lies below k: the rows with a number are among those of its bucket
   at-latest : Block ix → (k : ℕ) → k ≤ rows ix → markIn ix x ≡ below (sought (numbers ix) x) k → {m : ℕ} → m ≡ inBucket (numbers ix) (bucketOf x) k → Searching ix x m
   at-latest b k h e {m} z = let l = latest (numbers ix) x k in
-      let is : markIn ix x ≡ below (sought (numbers ix) x) m 
+      let is : markIn ix x ≡ below (sought (numbers ix) x) m
       = e ∙ rw z (below-skip (sought (numbers ix) x) _ k (l .within) (λ p g h e. l .miss p g h (eq-eqb _ _ (ap bucketOf (eqb-true _ x e))))) in
       let bucket : (p : ℕ) → m ≡ suc p → bucketOf (getD (numbers ix) p 0) ≡ bucketOf x = λ p y. eqb-true _ _ (l .hit p (sym z ∙ y)) in search arith
 
