@@ -88,11 +88,12 @@ on-days : (ds : List ℕ) (x : Spell) → (onAny ds x ≡ true) ↔ Contains ds 
 unfolding onAny
 on-days [] x = (λ e. absurd (false≢true e), λ f. absurd (List·Memᴰ·not-nil (f .1)))
 on-days (d ∷ ds) x =
-    let on = on-days ds x in
-    (λ e. ⊎-elim (λ f. let r = reaching d d x .0 f in (d, List·Memᴰ·head refl, r .0, r .1))
-    (λ f. let r = on .0 f in (r .0, List·Memᴰ·tail (r .1), r .2, r .3)) (either (onDay d x) (onAny ds x) e),
-    λ f. ⊎-elim (λ s. rw (reaching d d x .1 (rw s at (f .2), rw s at (f .3))))
-    (λ i. by-test (onDay d x) (λ h. rw h) (λ h. rw h (on .1 (f .0, i, f .2, f .3)))) (List·Memᴰ·cases-cons (f .1)))
+    let on = on-days ds x in (
+      λ e. ⊎-elim (λ f. let r = reaching d d x .0 f in (d, List·Memᴰ·head refl, r .0, r .1))
+          (λ f. let r = on .0 f in (r .0, List·Memᴰ·tail (r .1), r .2, r .3)) (either (onDay d x) (onAny ds x) e),
+      λ f. ⊎-elim (λ s. rw (reaching d d x .1 (rw s at (f .2), rw s at (f .3))))
+          (λ i. by-test (onDay d x) (λ h. rw h) (λ h. rw h (on .1 (f .0, i, f .2, f .3)))) (List·Memᴰ·cases-cons (f .1)),
+    )
 
 module _ (m : State) (unique : distinct (m .published) ≡ true) (sorted : orderedBy listedBefore (m .published) ≡ true) (q : Request) where
   answered : (w : Question) (t : Spell → Bool) {c n : ℕ} {a : Answer} → ((x : Spell) → (t x ≡ true) ↔ Fits w (q .days) (m .published) x)
@@ -107,8 +108,11 @@ module _ (m : State) (unique : distinct (m .published) ≡ true) (sorted : order
   answers (Span a b) r = answered (Span a b) (onSpan a b) (reaching b a) (span-lists m q a b r)
   answers (Cover k) r =
       let (y, there, number, lists) = cover-lists m q k r in let on = reaching (y .first) (y .last) in
-      answered (Cover k) (covers y) (λ x. (λ e. let s = on x .0 e in (y, there, number, s .0, s .1), λ f.
-      let same = one-spell (m .published) unique (f .0) y (f .1) there (f .2 ∙ sym number) in
-      on x .1 (rw same at (f .3), rw same at (f .4)))) lists
+      answered (Cover k) (covers y) (λ x. (
+        λ e. let s = on x .0 e in (y, there, number, s .0, s .1),
+        λ f.
+            let same = one-spell (m .published) unique (f .0) y (f .1) there (f .2 ∙ sym number) in
+            on x .1 (rw same at (f .3), rw same at (f .4)),
+      )) lists
   answers Days r = answered Days (onAny (q .days)) (on-days (q .days)) (days-lists m q r)
   answers (Mask b k) r = answered (Mask b k) (onAny (ticks b k)) (on-days (ticks b k)) (mask-lists m q b k r)

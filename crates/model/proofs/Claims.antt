@@ -81,8 +81,14 @@ module _ (m : State) (q : Request) where
 
   -- QUESTIONS AND WRITING leave the state as it is
   pub reads-keep : reads (q .call) ≡ true → step m q .state ≡ m
-  reads-keep h = every (λ x. x .state ≡ m) m q (q .call) (record { refusing = λ n _. refl; asked = λ k l. refl; several = λ ds n _. refl;
-      written = refl; changed = λ e. absurd (clash h e); published = λ rule e. absurd (clash h (ap reads e)) })
+  reads-keep h = every (λ x. x .state ≡ m) m q (q .call) (record {
+    refusing = λ n _. refl;
+    asked = λ k l. refl;
+    several = λ ds n _. refl;
+    written = refl;
+    changed = λ e. absurd (clash h e);
+    published = λ rule e. absurd (clash h (ap reads e));
+  })
 
   -- NOTHING BUT PUBLISH changes the published list
   pub published-kept : ((rule : ℕ) → q .call ≡ Publish rule → ⊥) → step m q .state .published ≡ m .published

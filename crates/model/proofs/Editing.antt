@@ -95,5 +95,6 @@ module _ (m : State) (p e : Request) (rule : ℕ) (known : isRule rule ≡ true)
   amended-unpublished r q d = unfold effectOf settle in
       let fine : amendRefusal (m .standing) s ≡ accepted = sym (amend-answer (withPublished (publishedOf rule (m .standing)) m) e s) ∙ rw known at r in
       rw (known, real, fine) (
-      λ h. let w = write-writes _ q h in rw (w .length) at (w .text),
-      λ h. let a = day-lists _ q d h in rw (a .count) at (a .numbers))
+        λ h. let w = write-writes _ q h in rw (w .length) at (w .text),
+        λ h. let a = day-lists _ q d h in rw (a .count) at (a .numbers),
+      )

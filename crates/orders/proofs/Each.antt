@@ -1,6 +1,5 @@
 -- What holds of each element of a list. Assumes nothing.
 use Rattle.basis.proofs.Prelude.{_≡_, ap, refl, _∙_, ℕ, zero, suc, _<_, List, [], _∷_, _++_, map, getD, length, length-map, List·getD-map, drop-cons, arith}
-
 pub use mathlib.Core.List.{map-map, map-id}
 
 -- P holds of each

@@ -8,8 +8,10 @@ module _ {A : Type 0} (t : A → A → Bool) where
   unfolding insertBy
   in-insert s [] x = (List·Memᴰ·cases-cons, ⊎-elim List·Memᴰ·head List·Memᴰ·tail)
   in-insert s (y ∷ l) x = let h = in-insert s l x in by-cases (λ (r : List A). List·Memᴰ x r ↔ ((x ≡ s) ⊎ List·Memᴰ x (y ∷ l))) (t y s)
-      (λ _. (λ i. ⊎-elim (λ e. inr (List·Memᴰ·head e)) (λ j. ⊎-map (λ e. e) List·Memᴰ·tail (h .0 j)) (List·Memᴰ·cases-cons i),
-      ⊎-elim (λ e. List·Memᴰ·tail (h .1 (inl e))) (λ i. ⊎-elim List·Memᴰ·head (λ j. List·Memᴰ·tail (h .1 (inr j))) (List·Memᴰ·cases-cons i))))
+      (λ _. (
+        λ i. ⊎-elim (λ e. inr (List·Memᴰ·head e)) (λ j. ⊎-map (λ e. e) List·Memᴰ·tail (h .0 j)) (List·Memᴰ·cases-cons i),
+        ⊎-elim (λ e. List·Memᴰ·tail (h .1 (inl e))) (λ i. ⊎-elim List·Memᴰ·head (λ j. List·Memᴰ·tail (h .1 (inr j))) (List·Memᴰ·cases-cons i)),
+      ))
       (λ _. (List·Memᴰ·cases-cons, ⊎-elim List·Memᴰ·head List·Memᴰ·tail))
 
   -- a sorted list has the same elements

@@ -33,5 +33,7 @@ pub rows-asked : {ix days ns ns′ : List ℕ} {l : Listed} {o : Outcome} {w : Q
     → ((m : State) (q : Request) → distinct (m .published) ≡ true
     → told (f (q .days) (numbersOf (m .published)) (firstsOf (m .published)) (lastsOf (m .published)) (q .numbers)) (q .text) ≡ settle (ask w (q .days) (m .published)) m q .answer)
     → o ≡ foundOf l → Gave l ns′ (f days (numbers ix) (firsts ix) (lasts ix) ns) → Asked ix w days ns o ns′
-rows-asked {days = days} {ns = ns} {w = w} f tells is g = unfold effectOf in record { answer = λ m text s.
-    let r = shows-rows s in rw (is, g .result, g .out, r .0, r .1, r .2) (tells m (asking (Ask w) days ns text) (s .good .unique)) }
+rows-asked {days = days} {ns = ns} {w = w} f tells is g = unfold effectOf in record {
+  answer = λ m text s.
+      let r = shows-rows s in rw (is, g .result, g .out, r .0, r .1, r .2) (tells m (asking (Ask w) days ns text) (s .good .unique));
+}

@@ -68,9 +68,10 @@ unfolding someBefore stands Each
 before-none x [] d = (λ _. tt, λ _. refl)
 before-none x (y ∷ l) d =
     let p = neither (eqb (y .number) (x .number)) (stands l (x .number)) d in
-    let later = before-none x l (p .1) in
-    (λ h. let q = neither (earlierOf y x) (someBefore x l) h in (text-order .total y x (eqb-false (y .number) (x .number) (p .0)) (q .0), later .0 (q .1)),
-    λ e. rw (asym text-order x y (e .0)) (later .1 (e .1)))
+    let later = before-none x l (p .1) in (
+      λ h. let q = neither (earlierOf y x) (someBefore x l) h in (text-order .total y x (eqb-false (y .number) (x .number) (p .0)) (q .0), later .0 (q .1)),
+      λ e. rw (asym text-order x y (e .0)) (later .1 (e .1)),
+    )
 
 pub displaced-none : (l : List Spell) → distinct l ≡ true → (displacedIn l ≡ 0) ↔ (ordered l ≡ true)
 unfolding displacedIn orderedBy

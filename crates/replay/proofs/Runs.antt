@@ -61,8 +61,14 @@ module _ (sv₀ : Service) (bs₀ : Blocks) (codes days results₀ numbers₀ te
   -- before the first turn
   pub starts : Given sv₀ bs₀ → whole ≡ min (length codes / codeWidth) (length results₀ / resultWidth) → Going sv₀ bs₀ results₀ numbers₀ text₀ 0 0 0 0
   starts g all = unfold written in let z : whole - 0 ≡ whole = omega arith in let none : (l : List ℕ) → Filled [] 0 l l = λ l. record { long = refl; is = refl } in
-      record { given = g; all = all; within = omega arith; long = omega arith; so-far = λ m₀ r.
-      record { done = []; state = m₀; represents = r; answers = rw z; count = refl; told = none _; listed = none _; written = none _ } }
+      record {
+        given = g;
+        all = all;
+        within = omega arith;
+        long = omega arith;
+        so-far = λ m₀ r.
+            record { done = []; state = m₀; represents = r; answers = rw z; count = refl; told = none _; listed = none _; written = none _ };
+      }
 
   module _ (sv : Service) (bs : Blocks) (results numbers text : List ℕ) (made d n t : ℕ) (g : Going sv bs results numbers text made d n t) where
     -- nothing is still to come

@@ -156,7 +156,20 @@ fn calls(
         else {
             return made;
         };
-        let r = make(s, index, call, c, made, d, n, t, days, results, numbers, text);
+        let r = make(
+            s,
+            index,
+            call,
+            c,
+            made,
+            d,
+            n,
+            t,
+            days,
+            results,
+            numbers,
+            text,
+        );
         s = r.service;
         made = r.made;
         d = r.days;

@@ -128,13 +128,15 @@ pub edit-carried : {words words′ numbers text out out′ : List ℕ} {x : Want
     → word < 20 → least ≡ min room 65536 → changed ≡ changedAt 1 out′ place → EditTurn c words least numbers text out place words′ out′
     → EditsIn x words room numbers text out (record { word = word; changed = changed; room = least; place = place }) words′ out′
 edit-carried {c = c} {k} {word} room e w low high is told turn =
-    let named : word ≡ callWord c = w ∙ ap wantedWord e in let one : powerOf (callWord c) ≡ 1 = rw (← named) (sym (power-mid word low (omega arith))) in rw e (record { edits = λ bs payload days g. record {
-      answers = rw (← is) (turn .answers bs (take k days) payload g);
-      laid = turn .laid;
-      kept = λ none. absurd (omega (arith, one));
-      word = named;
-      changed = rw one told;
-    } })
+    let named : word ≡ callWord c = w ∙ ap wantedWord e in let one : powerOf (callWord c) ≡ 1 = rw (← named) (sym (power-mid word low (omega arith))) in rw e (record {
+      edits = λ bs payload days g. record {
+        answers = rw (← is) (turn .answers bs (take k days) payload g);
+        laid = turn .laid;
+        kept = λ none. absurd (omega (arith, one));
+        word = named;
+        changed = rw one told;
+      };
+    })
 
 -- a reading's word is 2
 pub no-edit : {words words′ numbers text out out′ : List ℕ} {x : Wanted} {n word room : ℕ} {r : Carried} → x ≡ WantedRead n → word ≡ wantedWord x → 16 ≤ word

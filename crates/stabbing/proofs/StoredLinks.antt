@@ -44,14 +44,14 @@ module _ (ix : List ℕ) (b : Block ix) where
   unfolding place
   stored-links = let n = fs-rows ix b in let few = b .few in
       let long : length (linksOf ix) ≡ 4096 = simp (length-append, length-take, length-drop, words-long ix b) in record {
-    parents = head-links parentColumn _ (λ p h. word-at ix b 3 p (omega arith) h) (parent-small (firsts ix) (lasts ix));
-    lefts = head-links leftColumn _ (λ p h. word-at ix b 4 p (omega arith) h) (left-small (firsts ix) (lasts ix));
-    children = head-links childColumn _ (λ p h. word-at ix b 6 p (omega arith) h) (child-small (firsts ix) (lasts ix));
-    nexts = record {
-      all = λ p h. word-at ix b 8 p (omega arith) (omega arith) ∙ row-link (firsts ix) (lasts ix) (next (firsts ix) (lasts ix)) p (omega arith);
-      past = λ p h g. word-at ix b 8 p (omega arith) g ∙ row-past (firsts ix) (lasts ix) (next (firsts ix) (lasts ix)) p (omega arith);
-      marks = λ p h. omega (arith, word-at ix b 8 p (omega arith) h, next-small (firsts ix) (lasts ix) p);
-    };
-    words = long;
-    bytes = rw long;
-  }
+        parents = head-links parentColumn _ (λ p h. word-at ix b 3 p (omega arith) h) (parent-small (firsts ix) (lasts ix));
+        lefts = head-links leftColumn _ (λ p h. word-at ix b 4 p (omega arith) h) (left-small (firsts ix) (lasts ix));
+        children = head-links childColumn _ (λ p h. word-at ix b 6 p (omega arith) h) (child-small (firsts ix) (lasts ix));
+        nexts = record {
+          all = λ p h. word-at ix b 8 p (omega arith) (omega arith) ∙ row-link (firsts ix) (lasts ix) (next (firsts ix) (lasts ix)) p (omega arith);
+          past = λ p h g. word-at ix b 8 p (omega arith) g ∙ row-past (firsts ix) (lasts ix) (next (firsts ix) (lasts ix)) p (omega arith);
+          marks = λ p h. omega (arith, word-at ix b 8 p (omega arith) h, next-small (firsts ix) (lasts ix) p);
+        };
+        words = long;
+        bytes = rw long;
+      }

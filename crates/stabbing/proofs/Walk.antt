@@ -63,8 +63,11 @@ module _ (fs ls : List ℕ) (sorted : Sorted fs ls) (l : ℕ) (on : ℕ → Bool
       rw (r, compare) (record { list = ih .list ∙ new; comparisons = omega arith }))
       (λ r.
       let i = bottom-is fs ls p in
-      let d = skip (bottom fs ls p) (suc p) (omega arith) (λ x a b t. omega (arith, leb-false l (dayAt ls p) r,
-      chain-up fs ls sorted x p (omega arith) (omega arith) (λ y a′ b′. untrue (head fs ls y) (i .miss y (omega arith) b′)))) in
+      let d = skip (bottom fs ls p) (suc p) (omega arith) (λ x a b t. omega (
+        arith,
+        leb-false l (dayAt ls p) r,
+        chain-up fs ls sorted x p (omega arith) (omega arith) (λ y a′ b′. untrue (head fs ls y) (i .miss y (omega arith) b′)),
+      )) in
       rw (r, compare) (record { list = rw (← d .0) new; comparisons = omega arith }))))
 
   -- what `descend f` does, as the fuel f is enough for the stretch

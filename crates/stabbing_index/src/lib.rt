@@ -352,12 +352,7 @@ fn lay_tree(index: &mut [u16], first: &[u16; 1024], last: &[u16; 1024], n: usize
 // ---- the buckets of the spell numbers
 
 // Every row into the bucket of its number, in the order, over columns of 0: it leads to the row that was the latest there, and the bucket to it.
-fn name_rows(
-    number: &[u16; 1024],
-    n: usize,
-    bucket: &mut [u16; 2039],
-    lower: &mut [u16; 1024],
-)
+fn name_rows(number: &[u16; 1024], n: usize, bucket: &mut [u16; 2039], lower: &mut [u16; 1024])
     requires { ⌜ n ≤ 1024 ⌝ }
     requires { ⌜ Named (take n (now number)) (now bucket) (now lower) n 0 ⌝ }
     ensures { λ _. ⌜ Named (take n (now (number .entry))) (now (bucket .exit)) (now (lower .exit)) n n ⌝ }

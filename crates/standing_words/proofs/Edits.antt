@@ -55,9 +55,10 @@ module _ (x : List ℕ) (c : Call) (p : Plan) (known : Planned x c p) where
   laid-parts h =
       let st = unpacked x in
       let spells = spells-long st (known .wf .places) (known .wf .rooms) in
-      let entries = entries-long st (known .wf .places) (known .wf .rooms) in
-      (sym (ap arrayIn h ∙ array-of (written spellWords (st .spells)) (written entryWords (st .journal)) (countIn x) (depthIn x) spells entries),
-      sym (ap journalIn h ∙ journal-of (written spellWords (st .spells)) (written entryWords (st .journal)) (countIn x) (depthIn x) spells entries))
+      let entries = entries-long st (known .wf .places) (known .wf .rooms) in (
+        sym (ap arrayIn h ∙ array-of (written spellWords (st .spells)) (written entryWords (st .journal)) (countIn x) (depthIn x) spells entries),
+        sym (ap journalIn h ∙ journal-of (written spellWords (st .spells)) (written entryWords (st .journal)) (countIn x) (depthIn x) spells entries),
+      )
 
   pub edited : {a b : List ℕ} {m d : ℕ} → Exchanges (countIn x) (p .out) (p .puts) (p .spell) (arrayIn x) a → Notes (p .depth) (p .notes) (p .entry) (journalIn (with-array x a)) b
       → m ≡ countedOf (countIn x) (p .out) (p .puts) → d ≡ deeperBy (p .depth) (p .notes)

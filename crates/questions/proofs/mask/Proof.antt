@@ -10,9 +10,11 @@ module _ {ix : List ℕ} {b k : ℕ} {days ns : List ℕ} {t : Ticks} {held put 
 
   -- what the days question gave for them, with their number
   mask-asked : {n : ℕ} {o r : Outcome} {ns′ : List ℕ} → t ≡ All n → Asked ix Days (take n put) ns o ns′ → r ≡ tickingOf o n → Asked ix (Mask b k) days ns r ns′
-  mask-asked {o = o} {ns′ = ns′} all d is = let g = all-gives a all in record { answer = λ m text s. rw (is, g .number)
-      (ticking-told o (length (ticks b k)) ns′ text ∙ ap (ticking (length (ticks b k))) (d .answer m text s)
-      ∙ sym (mask-as-days m (asking (Ask (Mask b k)) days ns text) b k _ (g .first))) }
+  mask-asked {o = o} {ns′ = ns′} all d is = let g = all-gives a all in record {
+    answer = λ m text s. rw (is, g .number)
+        (ticking-told o (length (ticks b k)) ns′ text ∙ ap (ticking (length (ticks b k))) (d .answer m text s)
+        ∙ sym (mask-as-days m (asking (Ask (Mask b k)) days ns text) b k _ (g .first)));
+  }
 
 -- as many places of the list are lent as days are ticked
 inside : {b k n : ℕ} {t : Ticks} {held put : List ℕ} → Answer b k t held put → t ≡ All n → n ≤ length put
