@@ -1,7 +1,7 @@
 -- The calls that are still coded, at a code that is one and at one that is none; and every list of calls has words. Assumes nothing.
 use Rattle.basis.proofs.Prelude.{_∙_, _≡_, refl, sym, suc, zero, ℕ, List, [], _∷_, Bool, cond, false, true, leb, drop, length, take, leb-true, ap, _*_, _<_, _≤_, _++_, append-assoc, length-append, drop-at, getD-append-add, take-at, mod-eq-of-lt, arith, le-leb}
 use Rattle.model.specs.{declared.{Call.{Call, the-variants.{Enter, Amend, Strike, TakeBack, Publish, Write, Ask}}, Question.the-variants.{Day, Span, Cover, Days, Mask}}, Model.Request}
-use Rattle.coding.specs.{declared.{Code.Code, Next.{Next, the-variants.{Stop, Go}}}, Coded.{codeAt, nextOf, decodeFrom, codeWidth, low16, urgencyOf, callOf, Value, urgent, masked, Fields, spellFields, fieldsOf, opOf, wholeOf}, Coding.{Wide, Fits, Codable, daysOf, numbersOf, textOf, Coding}, Contracts.Room}
+use Rattle.coding.specs.{declared.{Code.Code, Next.{Next, the-variants.{Stop, Go}}}, Coded.{codeAt, nextOf, decodeFrom, codeWidth, low16, urgencyOf, callOf, Value, urgent, masked, Fields, spellFields, fieldsOf, opOf, wholeOf}, Coding.{Wide, Fits, Codable, lentDays, lentNumbers, lentText, Coding}, Contracts.Room}
 use lib.Ieee.{binary32, Bits.{ofBits-toBits, toBits-lt}}
 use Rattle.spell.specs.declared.{Urgency.{Urgency, the-variants.{Grade, Reading}}, Spell.Spell}
 use Rattle.packing.specs.{Words.{kindOf, valueOf, Narrow}, Blocks.{written, Every}}
@@ -91,18 +91,18 @@ codesOf qs = written requestWords qs
 
 -- after the codes of k calls, those of qs are qs
 from : (qs : List Request) (pre : List ℕ) (k : ℕ) → length pre ≡ codeWidth * k → Every Codable qs
-    → decodeFrom (pre ++ codesOf qs) (length qs) k (daysOf qs) (numbersOf qs) (textOf qs) ≡ qs
+    → decodeFrom (pre ++ codesOf qs) (length qs) k (lentDays qs) (lentNumbers qs) (lentText qs) ≡ qs
 unfolding written Every decodeFrom codeAt nextOf
 from [] pre k e f = refl
 from (q ∷ qs) pre k e f =
     let r : List ℕ = codesOf qs in
     let w : List ℕ = requestWords q in
-    let next : decodeFrom (pre ++ (w ++ r)) (length qs) (suc k) (daysOf qs) (numbersOf qs) (textOf qs) ≡ qs =
+    let next : decodeFrom (pre ++ (w ++ r)) (length qs) (suc k) (lentDays qs) (lentNumbers qs) (lentText qs) ≡ qs =
     rw append-assoc at (from qs (pre ++ w) (suc k) (omega (arith, length-append pre w)) (f .1)) in
-    let d : length (q .days) ≤ length (q .days ++ daysOf qs) = omega (arith, length-append (q .days) (daysOf qs)) in
-    let n : length (q .numbers) ≤ length (q .numbers ++ numbersOf qs) = omega (arith, length-append (q .numbers) (numbersOf qs)) in
-    let t : length (q .text) ≤ length (q .text ++ textOf qs) = omega (arith, length-append (q .text) (textOf qs)) in
-    decode-go (pre ++ (w ++ r)) (q .days ++ daysOf qs) (q .numbers ++ numbersOf qs) (q .text ++ textOf qs) k (length qs) (codeAt (w ++ r) 0) (q .call)
+    let d : length (q .days) ≤ length (q .days ++ lentDays qs) = omega (arith, length-append (q .days) (lentDays qs)) in
+    let n : length (q .numbers) ≤ length (q .numbers ++ lentNumbers qs) = omega (arith, length-append (q .numbers) (lentNumbers qs)) in
+    let t : length (q .text) ≤ length (q .text ++ lentText qs) = omega (arith, length-append (q .text) (lentText qs)) in
+    decode-go (pre ++ (w ++ r)) (q .days ++ lentDays qs) (q .numbers ++ lentNumbers qs) (q .text ++ lentText qs) k (length qs) (codeAt (w ++ r) 0) (q .call)
     (sym (code-at pre (w ++ r) k e))
     (rw (le-leb _ _ d, le-leb _ _ n, le-leb _ _ t) (call-back (q .call) (length (q .days)) (length (q .numbers)) (length (q .text)) r (f .0 .call) .0))
     ∙ simp (take-at, drop-at, next)

@@ -30,18 +30,18 @@ pub record Codable (q : Request) : Type 0 where
   pub text : length (q .text) < 18446744073709551616
 
 -- the lists that the calls are lent, end to end
-abbrev pub daysOf : List Request → List ℕ
-daysOf qs = written (λ (q : Request). q .days) qs
+abbrev pub lentDays : List Request → List ℕ
+lentDays qs = written (λ (q : Request). q .days) qs
 
-abbrev pub numbersOf : List Request → List ℕ
-numbersOf qs = written (λ (q : Request). q .numbers) qs
+abbrev pub lentNumbers : List Request → List ℕ
+lentNumbers qs = written (λ (q : Request). q .numbers) qs
 
-abbrev pub textOf : List Request → List ℕ
-textOf qs = written (λ (q : Request). q .text) qs
+abbrev pub lentText : List Request → List ℕ
+lentText qs = written (λ (q : Request). q .text) qs
 
 -- words of 64 bits that code these calls: with the calls' own lists end to end, and places for their results, they decode to them
 pub record Coding (qs : List Request) : Type 0 where
   pub codes : List ℕ
   pub narrow : Every (λ (w : ℕ). w < 18446744073709551616) codes
   pub decodes : (results : List ℕ) → resultWidth * length qs ≤ length results
-      → decode codes (daysOf qs) results (numbersOf qs) (textOf qs) ≡ qs
+      → decode codes (lentDays qs) results (lentNumbers qs) (lentText qs) ≡ qs
