@@ -8,5 +8,5 @@ pub use Prim.Native.Nat.compare.{suc-suc as compare·suc-suc}
 pub use Prim.Native.Nat.{◌%◌, ◌*◌, ◌+◌, ◌-◌, ◌/◌, ◌<◌, ◌≤◌, min, suc, zero, zero-le, ℕ}
 pub use lib.{Dec.{T, eqb, eqb→eq, is_le, leb, leb→le, le→leb, ltb}, ListN.{get_or-append as List·getD-append, get_or-eq_default as List·getD-eq-default, get_or-map as List·getD-map, drop, drop_of_length-le, get_or, get_or-replicate, length, length-append, length-drop, length-map, length-replicate, length-reverse, length-set, length-take, replicate, replicate-append-replicate, set, take, take-append-drop}, Seq.{append_snoc, drop-append-add, drop-append-le, drop_at, drop-cons, drop-drop, drop-length, drop-set-lt, ext_get_or, get_or-append-add, get_or-append_seam, get_or_at, get_or-drop, get_or-set_other, get_or-set_same, get_or-take, length-sets, length-slice, length-take-le, set_at, set_split, sets, sets-eq, slice, slice-cons, slice_empty, take-add, take_all, take-append-add, take-append_seam, take_at, take-length, take-set-le, take-suc, take-suc-set, take-take}}
 pub use native.Mathlib.{Nat.{add_assoc, add-mul-div_left, add-mul-mod_self_left, add-zero, div-add-mod', div-eq_of_lt, le_refl, le_trans, min-le_left, min-le_right, mod-eq_of_lt, mul-le-mul_right, suc-mul, zero-add, zero-mul}, Numerals.{add_five, add-four, add-one, add_six, add-three, add-two}, Decide.dec_le, Omega.arith}
-pub use borrow.Author.{Needs.needs, Tests.{eq-eqb, eqb-false, eqb-true, le-leb, le-ltb, leb-false, leb-true, lt-leb, lt-ltb, ltb-false, ltb-true, ne_eqb, not-false, not-true}}
+pub use borrow.Author.{Rules.rules, Tests.{eq-eqb, eqb-false, eqb-true, le-leb, le-ltb, leb-false, leb-true, lt-leb, lt-ltb, ltb-false, ltb-true, ne_eqb, not-false, not-true}}
 pub use Rattle.basis.proofs.{Tests.{both, by_cases, by_eq, by_mark, by_test, clash, either, untrue}, Lists.unmapped}

@@ -1,5 +1,5 @@
 -- The positions, and a list that is filled place by place. Assumes nothing.
-use Rattle.basis.proofs.Prelude.{zero-add, needs, length-map, map-append, ℕ, zero, suc, ◌+◌, ◌≤◌, ◌<◌, arith, add-one, ◌≡◌, refl, ap, sym, ◌∙◌, List, [], ◌∷◌, ◌++◌, map, length, get_or, take, drop, set, length-set, drop-cons, set_at, append_snoc, take_at, take-suc}
+use Rattle.basis.proofs.Prelude.{zero-add, rules, length-map, map-append, ℕ, zero, suc, ◌+◌, ◌≤◌, ◌<◌, arith, add-one, ◌≡◌, refl, ap, sym, ◌∙◌, List, [], ◌∷◌, ◌++◌, map, length, get_or, take, drop, set, length-set, drop-cons, set_at, append_snoc, take_at, take-suc}
 use Rattle.orders.proofs.Each.{Each}
 use Rattle.columns.specs.Columns.{positions, filled}
 
@@ -68,4 +68,4 @@ module _ {f : ℕ → ℕ} {n i : ℕ} {l₀ l : List ℕ} (q : Filling f n l₀
   pub fill_ends : n ≤ i → l ≡ filled f n l₀
   fill_ends h = let z : i ≡ n = omega arith in rw z at q.so_far
 
-pub ruleset filling = (fill_begins, fill_on, fill_ends, needs)
+pub ruleset filling = (fill_begins, fill_on, fill_ends, rules)

@@ -1,5 +1,5 @@
 -- The index built of no rows, and that of a standing list's columns. Assumes nothing.
-pub use Rattle.basis.proofs.Prelude.{needs, ◌∙◌, ◌≡◌, refl, ℕ, List, [], map, Bool, true, length, length-map, take, take_all, arith, le-leb}
+pub use Rattle.basis.proofs.Prelude.{rules, ◌∙◌, ◌≡◌, refl, ℕ, List, [], map, Bool, true, length, length-map, take, take_all, arith, le-leb}
 use Rattle.spell.specs.{declared.Spell.Spell, Listing.Sound}
 use Rattle.stabbing.specs.Index.{rows_after}
 use Rattle.stabbing_index.specs.Build.{publishable, Builds}

@@ -1,5 +1,5 @@
 -- The names of other crates and of the definitions that the proofs use, passed on from one place. Assumes nothing.
-pub use Rattle.basis.proofs.Prelude.{Bool, List, List-as-Memᴰ, List·getD-map, [], ◌&&◌, ◌<◌, ◌∙◌, ◌∷◌, ◌≡◌, ◌≤◌, ap, arith, both, by_mark, by_test, eq-eqb, eqb, eqb-true, get_or, leb, length, length-map, length-take-le, lt-ltb, map, ne_eqb, needs, refl, suc, sym, take, true, zero, ℕ}
+pub use Rattle.basis.proofs.Prelude.{Bool, List, List-as-Memᴰ, List·getD-map, [], ◌&&◌, ◌<◌, ◌∙◌, ◌∷◌, ◌≡◌, ◌≤◌, ap, arith, both, by_mark, by_test, eq-eqb, eqb, eqb-true, get_or, leb, length, length-map, length-take-le, lt-ltb, map, ne_eqb, rules, refl, suc, sym, take, true, zero, ℕ}
 pub use Rattle.calendar.{proofs.Calendar.dated, specs.Calendar.is_day}
 unfoldable pub use Rattle.calendar.specs.Calendar.{days_ok}
 pub use Rattle.masks.{proofs.Claims.{all_gives, off_gives}, specs.{Answers.Answer, Masks.ticks, declared.Ticks.{Ticks, TheVariants.{All, Off}}}}

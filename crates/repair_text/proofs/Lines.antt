@@ -1,5 +1,5 @@
 -- A word put into the first places of a buffer, and after it the numbers that end another. Assumes nothing.
-use Rattle.basis.proofs.Prelude.{◌≡◌, ap, ◌+◌, ◌≤◌, ℕ, List, [], ◌++◌, ◌∷◌, drop, drop_of_length-le, length, length-append, length-drop, arith, needs}
+use Rattle.basis.proofs.Prelude.{◌≡◌, ap, ◌+◌, ◌≤◌, ℕ, List, [], ◌++◌, ◌∷◌, drop, drop_of_length-le, length, length-append, length-drop, arith, rules}
 use lib.Dec.{lit≤}
 use Rattle.fields.{specs.{Fields.wide_text, Answers.Puts}, proofs.{Puts.{room_puts, put_place}, Widths.digits_width}}
 use Rattle.gathering.{specs.Gathering.Appended, proofs.Gathering.{appended_room, appends_on, sized as kept-length}}
@@ -36,7 +36,7 @@ said word entry mid exit numbers t i n r e short size p q =
     let both = appends_on (omega arith) a (omega (arith, a.place)) b in
     record { fits = simp length-append (omega arith); place = omega (arith, both.place); places = both.places }
 
-pub ruleset ending = (ending_none, ending_more, lit≤, needs)
+pub ruleset ending = (ending_none, ending_more, lit≤, rules)
 
 -- what is said lies inside the buffer
 pub inside : {line entry exit : List ℕ} {r : ℕ} → Says line entry r exit → r ≤ length exit

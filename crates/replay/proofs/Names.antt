@@ -1,5 +1,5 @@
 -- The names of other crates and of the definitions that the proofs use, passed on from one place. Assumes nothing.
-pub use Rattle.basis.proofs.Prelude.{Bool, List, [], ◌*◌, ◌++◌, ◌+◌, ◌-◌, ◌/◌, ◌<◌, ◌∙◌, ◌∷◌, ◌≡◌, ◌≤◌, add-four, add-one, add-three, add-two, append_assoc, append-nil, append_snoc, arith, drop, drop_at, drop-drop, false, length, length-append, length-drop, length-set, length-take, min, needs, refl, sets-eq, suc, sym, take, take_at, true, ℕ}
+pub use Rattle.basis.proofs.Prelude.{Bool, List, [], ◌*◌, ◌++◌, ◌+◌, ◌-◌, ◌/◌, ◌<◌, ◌∙◌, ◌∷◌, ◌≡◌, ◌≤◌, add-four, add-one, add-three, add-two, append_assoc, append-nil, append_snoc, arith, drop, drop_at, drop-drop, false, length, length-append, length-drop, length-set, length-take, min, rules, refl, sets-eq, suc, sym, take, take_at, true, ℕ}
 pub use Rattle.buffer.specs.Buffer.{over}
 pub use Rattle.coding.{proofs.Claims.{decode_go, decode_stop, next_room}, specs.{Coded.{code_width, next_of, numbers_of, result_width, results_of, texts_of, told}, Coding.{Coding, lent_days, lent_numbers, lent_text}, declared.{Code.Code, Next.{Next, TheVariants.{Go, Stop}}}}}
 unfoldable pub use Rattle.coding.specs.Coded.{code_at, decode_from}

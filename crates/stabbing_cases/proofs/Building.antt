@@ -1,6 +1,6 @@
 -- Where the builder answers true, what it leaves is the block of its rows; and row after row is seen to have a number of its own. Assumes
 -- nothing.
-use Rattle.stabbing_cases.proofs.Names.{◌∙◌, ◌≡◌, refl, sym, ◌+◌, ◌<◌, ◌≤◌, suc, zero-le, ℕ, List, Bool, true, false, leb, get_or, length, take, length-take-le, arith, leb-true, both, by_eq, clash, needs}
+use Rattle.stabbing_cases.proofs.Names.{◌∙◌, ◌≡◌, refl, sym, ◌+◌, ◌<◌, ◌≤◌, suc, zero-le, ℕ, List, Bool, true, false, leb, get_or, length, take, length-take-le, arith, leb-true, both, by_eq, clash, rules}
 use Rattle.stabbing.{specs.Index.{rows_ok, rows, numbers, mark_in, Block, Built}, proofs.Block.{block_is, fs_rows, block_holds}}
 use Rattle.stabbing_index.specs.Build.{publishable, Builds}
 
@@ -33,4 +33,4 @@ more {ix} {k} b o h e z = let leads : (p : ℕ) → p < k + 1 → mark_in ix (ge
 pub all : {ix : List ℕ} {k n : ℕ} → Owning ix k → n ≤ k → Block ix → n ≡ rows ix → Built ix
 all o h b count = record { block = b; own = λ p g. o.leads p (omega arith) }
 
-pub ruleset owning = (none, all, unbuilt, needs)
+pub ruleset owning = (none, all, unbuilt, rules)

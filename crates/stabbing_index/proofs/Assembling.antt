@@ -1,5 +1,5 @@
 -- What the builder lays is the block of the definition: column by column, and then the whole. Assumes nothing.
-use Rattle.stabbing_index.proofs.{Names.{length-take, List·getD-eq-default, ltb, not, not-true, not-false, needs, Linked, Chained, ◌&&◌, ◌≢◌, ◌∙◌, ◌≡◌, ap, refl, sym, ◌+◌, ◌-◌, ◌≤◌, suc, zero, ℕ, List, [], ◌++◌, ◌∷◌, append_assoc, Bool, false, true, get_or, get_or-take, length, length-set, set, take, length-take-le, take_all, arith, le-leb, lt-leb, lt-ltb, by_mark, by_test, clash, day_at, head, parent, child, last_child, left_sibling, next, start, latest, capacity, day_count, first_column, last_column, parent_column, left_column, child_column, next_column, start_table, latest_table, bucket_table, row_count, index_length, rows_ok, column, last_of, head_link, laid, block_of, child_is, parent_is, head_past, row_past, left_small, child_small, next_small, column_length, column_at, column_only, Columns, ColumnsOf, Dayed, DaysAsks, Extends, name_words, mark_words, beside, link_words, day_words, RowsOf}, Laying.{laid_more, laid_word, laid_column, grown_all, naming}, DayTables.undayed, Links.{unlinked, unchained}}
+use Rattle.stabbing_index.proofs.{Names.{length-take, List·getD-eq-default, ltb, not, not-true, not-false, rules, Linked, Chained, ◌&&◌, ◌≢◌, ◌∙◌, ◌≡◌, ap, refl, sym, ◌+◌, ◌-◌, ◌≤◌, suc, zero, ℕ, List, [], ◌++◌, ◌∷◌, append_assoc, Bool, false, true, get_or, get_or-take, length, length-set, set, take, length-take-le, take_all, arith, le-leb, lt-leb, lt-ltb, by_mark, by_test, clash, day_at, head, parent, child, last_child, left_sibling, next, start, latest, capacity, day_count, first_column, last_column, parent_column, left_column, child_column, next_column, start_table, latest_table, bucket_table, row_count, index_length, rows_ok, column, last_of, head_link, laid, block_of, child_is, parent_is, head_past, row_past, left_small, child_small, next_small, column_length, column_at, column_only, Columns, ColumnsOf, Dayed, DaysAsks, Extends, name_words, mark_words, beside, link_words, day_words, RowsOf}, Laying.{laid_more, laid_word, laid_column, grown_all, naming}, DayTables.undayed, Links.{unlinked, unchained}}
 use Rattle.stabbing_index.specs.Build.{Builds}
 use Rattle.stabbing.proofs.Block.{rows_sorted}
 
@@ -88,6 +88,6 @@ module _ (ns xs ys : List ℕ) {n : ℕ} (h : n ≤ capacity) {b : Bool} (t : b 
 pub rows_of : (xs ys : List ℕ) {n : ℕ} → n ≤ capacity → {b : Bool} → b ≡ rows_ok (take n xs) (take n ys) → not b ≡ false → length xs ≡ capacity → RowsOf xs ys n
 rows_of xs ys {n} h {b} t z l = record { few = h; count = length-take-le n xs (omega arith); in_order = sym t ∙ not-false b z }
 
-pub ruleset tests = (out_of_order_lem, built, rows_of, lt-leb, needs)
+pub ruleset tests = (out_of_order_lem, built, rows_of, lt-leb, rules)
 
 pub ruleset steps = (undayed, unlinked, unchained, columns_of, days_laid, days_asked, tree_laid, filled, naming)

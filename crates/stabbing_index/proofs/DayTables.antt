@@ -1,5 +1,5 @@
 -- The steps of the tables by day, apart from the code. Assumes nothing.
-use Rattle.stabbing_index.proofs.{Laying.{grown_none, grow_set, grow_skip}, Links.climb_at, Names.{needs, ◌∙◌, ◌≡◌, sym, ◌+◌, ◌<◌, ◌≤◌, ℕ, List, ◌≢◌, leb, get_or, length, replicate, set, arith, le-leb, leb-true, both, by_mark, day_count, Way, below, day_at, head, start, Sorted, latest, below_is, below_skip, below_hit, latest_is, latest_before, lasts_to, nearest_is, start_nearest, ClimbAt, Climbed, Dayed, AdvanceAt, DaysAt, DayAt}}
+use Rattle.stabbing_index.proofs.{Laying.{grown_none, grow_set, grow_skip}, Links.climb_at, Names.{rules, ◌∙◌, ◌≡◌, sym, ◌+◌, ◌<◌, ◌≤◌, ℕ, List, ◌≢◌, leb, get_or, length, replicate, set, arith, le-leb, leb-true, both, by_mark, day_count, Way, below, day_at, head, start, Sorted, latest, below_is, below_skip, below_hit, latest_is, latest_before, lasts_to, nearest_is, start_nearest, ClimbAt, Climbed, Dayed, AdvanceAt, DaysAt, DayAt}}
 use Rattle.stabbing.proofs.{Walk.start_is, Days.{latest_after, latest_rises, latest_none}, Block.rows_days}
 
 module _ (fs ls : List ℕ) (sorted : Sorted fs ls) where
@@ -76,4 +76,4 @@ module _ {xs ys fs ls : List ℕ} {n : ℕ} {ps ss bs : List ℕ} {d m s : ℕ} 
     pub next_day_lem : {e r : ℕ} → e ≡ latest fs ls (d + 1) → e ≤ n → r ≡ start fs ls (d + 1) (d + 1) → r ≤ n → Tabling xs ys fs ls n ps (set ss (d + 1) r) (set bs (d + 1) e) (d + 1) e r
     next_day_lem e_is e_in r-is r-in = let starts = grow_set i.tables.starts (omega arith) r-is in let begun = grow_set i.tables.begun (omega arith) e_is in search arith
 
-pub ruleset steps = (at_end, stops, goes, begins_here, asks_climb, from_before, starts, all_days, asks_advance, next_day_lem, needs)
+pub ruleset steps = (at_end, stops, goes, begins_here, asks_climb, from_before, starts, all_days, asks_advance, next_day_lem, rules)

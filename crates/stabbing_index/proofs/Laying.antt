@@ -1,5 +1,5 @@
 -- Words laid into a block from a place on, a column that is filled word by word, and the buckets of the numbers. Assumes nothing.
-use Rattle.stabbing_index.proofs.Names.{suc, zero, ◌≢◌, ltb, eqb, eqb-true, eqb-false, ltb-true, ltb-false, by_eq, by_test, ◌∙◌, ◌≡◌, ap, refl, sym, ◌+◌, ◌<◌, ◌≤◌, zero-le, le_refl, add-one, ℕ, List, [], ◌∷◌, ◌++◌, append-nil, append_assoc, get_or, length, length-set, length-replicate, replicate, set, take, get_or-set_other, get_or-set_same, take-suc-set, arith, needs, column, column_only, Extends, Grown, get_or-take, ◌%◌, Bool, eq-eqb, ne_eqb, le-ltb, lt-ltb, below, capacity, bucket_count, bucket_table, lower_column, row_count, bucket_of, in_bucket, below_hit, below_miss, lower_word, name_words, Named}
+use Rattle.stabbing_index.proofs.Names.{suc, zero, ◌≢◌, ltb, eqb, eqb-true, eqb-false, ltb-true, ltb-false, by_eq, by_test, ◌∙◌, ◌≡◌, ap, refl, sym, ◌+◌, ◌<◌, ◌≤◌, zero-le, le_refl, add-one, ℕ, List, [], ◌∷◌, ◌++◌, append-nil, append_assoc, get_or, length, length-set, length-replicate, replicate, set, take, get_or-set_other, get_or-set_same, take-suc-set, arith, rules, column, column_only, Extends, Grown, get_or-take, ◌%◌, Bool, eq-eqb, ne_eqb, le-ltb, lt-ltb, below, capacity, bucket_count, bucket_table, lower_column, row_count, bucket_of, in_bucket, below_hit, below_miss, lower_word, name_words, Named}
 
 -- ---- a block
 module _ {e x ws : List ℕ} {a b : ℕ} (i : Extends e a b ws x) where
@@ -107,6 +107,6 @@ pub names_laid : {ns bs ws e m x : List ℕ} {n : ℕ} → Named ns bs ws n n �
 names_laid {ns} {n = n} q i j = laid_more (laid_column bucket_count (λ b. in_bucket ns b n) q.size q.buckets i)
     (laid_column capacity (lower_word ns n) q.lowers.size (λ p _. grown_all q.lowers (λ v l. rw (le-ltb v n l)) p) j)
 
-pub ruleset naming = (nobody, one_more, all_named, names_laid, needs)
+pub ruleset naming = (nobody, one_more, all_named, names_laid, rules)
 
-pub ruleset steps = (laying_next, laying_all, laying_list, marks_all, needs)
+pub ruleset steps = (laying_next, laying_all, laying_list, marks_all, rules)

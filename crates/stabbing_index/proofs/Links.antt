@@ -1,5 +1,5 @@
 -- How the links are found, each head climbing from the head before it, and the steps of the sweep apart from the code. Assumes nothing.
-use Rattle.stabbing_index.proofs.{Laying.{set_word, zeros_at, grown_none, grow_set, grow_skip}, Names.{ap, needs, ◌∙◌, ◌≡◌, refl, sym, ◌+◌, ◌-◌, ◌<◌, ◌≤◌, suc, zero-le, ℕ, List, Bool, false, true, ◌≢◌, eqb, ltb, get_or, length, length-replicate, length-set, replicate, set, add-one, arith, eqb-false, le-leb, ltb-true, by_test, clash, capacity, Way, below, day_at, head, next, parent, child, left_sibling, row_link, head_link, Head, bottom, below_hit, below_miss, bottom_is, parent_is, left_is, head_false, head_link_lem, head_none, row_link_lem, next_none, next_some, lasts_to, Columns, Linked, Chained, head_at, ClimbAt, Climbed, Under, HeadAt, ◌&&◌, leb, eq-eqb, eqb-true, leb-false, leb-true, both, by_eq, by_mark, untrue, below_skip, child_is, parent_ge}}
+use Rattle.stabbing_index.proofs.{Laying.{set_word, zeros_at, grown_none, grow_set, grow_skip}, Names.{ap, rules, ◌∙◌, ◌≡◌, refl, sym, ◌+◌, ◌-◌, ◌<◌, ◌≤◌, suc, zero-le, ℕ, List, Bool, false, true, ◌≢◌, eqb, ltb, get_or, length, length-replicate, length-set, replicate, set, add-one, arith, eqb-false, le-leb, ltb-true, by_test, clash, capacity, Way, below, day_at, head, next, parent, child, left_sibling, row_link, head_link, Head, bottom, below_hit, below_miss, bottom_is, parent_is, left_is, head_false, head_link_lem, head_none, row_link_lem, next_none, next_some, lasts_to, Columns, Linked, Chained, head_at, ClimbAt, Climbed, Under, HeadAt, ◌&&◌, leb, eq-eqb, eqb-true, leb-false, leb-true, both, by_eq, by_mark, untrue, below_skip, child_is, parent_ge}}
 
 module _ (fs ls : List ℕ) where
   -- a head's parent is the nearest that lasts as long, from the head before it upward
@@ -183,4 +183,4 @@ module _ {xs ys fs ls : List ℕ} {n k prev : ℕ} {ps qs cs ns : List ℕ} (i :
           let above : k + 1 ≡ row_link fs ls (next fs ls) (k + 1) = rw (add-one k) (sym (row_link_lem fs ls (next fs ls) (suc k) (head_false fs ls k in_rows np).0 ∙ next_some fs ls k in_rows np)) in
           let chains = grow_set i.chains goes_on above in search arith
 
-pub ruleset steps = (ends, stays, falls, asks, goes_up, asks_climb, linked_root, linked_child, starts, all_linked, all_chained, asks_head, turn_head, goes_on, turn_skip, needs)
+pub ruleset steps = (ends, stays, falls, asks, goes_up, asks_climb, linked_root, linked_child, starts, all_linked, all_chained, asks_head, turn_head, goes_on, turn_skip, rules)

@@ -1,5 +1,5 @@
 -- Rows that can be published, row by row. Assumes nothing.
-use Rattle.stabbing_index.proofs.Names.{not, not-true, not-false, needs, ◌∙◌, ◌≡◌, refl, sym, ◌+◌, ◌<◌, ◌≤◌, zero-le, ℕ, List, Bool, ◌&&◌, false, true, drop, drop_of_length-le, get_or, length, take, drop-cons, get_or-take, length-take-le, add-one, arith, row_ok, may_follow, rows_after, rows_ok}
+use Rattle.stabbing_index.proofs.Names.{not, not-true, not-false, rules, ◌∙◌, ◌≡◌, refl, sym, ◌+◌, ◌<◌, ◌≤◌, zero-le, ℕ, List, Bool, ◌&&◌, false, true, drop, drop_of_length-le, get_or, length, take, drop-cons, get_or-take, length-take-le, add-one, arith, row_ok, may_follow, rows_after, rows_ok}
 
 -- what is still to be tested decides: of the first n rows, from the row k on, after a row with the days f and l
 pub record Rest (xs ys : List ℕ) (n f l k : ℕ) : Type 0 where
@@ -30,4 +30,4 @@ module _ {xs ys : List ℕ} {n f l k : ℕ} (r : Rest xs ys n f l k) where
       pub row_right : not b ≡ false → Rest xs ys n (get_or xs k 0) (get_or ys k 0) (k + 1)
       row_right z = record { firsts = r.firsts; lasts = r.lasts; within = omega arith; decides = row ∙ rw (sym e ∙ not-false b z) }
 
-pub ruleset steps = (rest_all, rest_none, row_wrong, row_right, needs)
+pub ruleset steps = (rest_all, rest_none, row_wrong, row_right, rules)

@@ -3,5 +3,5 @@ use Rattle.framing.proofs.{Names.needs, Steps.{host_part, host_refused, host_who
 
 pub phayaklit_advance_spec : {M : Type 1} → statement M
 phayaklit_advance_spec = close (spec
-    (λ c κs. search needs) (λ c κs. search needs) (λ c. search host_refused)
-    (λ c κs. search needs) (λ c. search needs) (λ c. search needs) (λ c. search host_whole) (λ c. search host_part))
+    (λ c κs. search rules) (λ c κs. search rules) (λ c. search host_refused)
+    (λ c κs. search rules) (λ c. search rules) (λ c. search rules) (λ c. search host_whole) (λ c. search host_part))

@@ -3,7 +3,7 @@ use Rattle.host_wire.proofs.{Names.needs, call_word.{Statement.statement, Tie.{c
 
 pub call_word_spec : {M : Type 1} → statement M
 call_word_spec = close (spec
-    (λ c. search needs) (λ c. search needs) (λ c. search needs) (λ c. search needs) (λ c. search needs) (λ c. search needs) (λ c. search needs)
-    (λ c κs. search needs) (λ c. search needs) (λ c. search needs) (λ c. search needs) (λ c. search needs) (λ c. search needs) (λ c. search needs)
+    (λ c. search rules) (λ c. search rules) (λ c. search rules) (λ c. search rules) (λ c. search rules) (λ c. search rules) (λ c. search rules)
+    (λ c κs. search rules) (λ c. search rules) (λ c. search rules) (λ c. search rules) (λ c. search rules) (λ c. search rules) (λ c. search rules)
     -- a question
     (λ c. rw c.before.before.call.given.1 c.question-word.ensures))

@@ -1,6 +1,6 @@
 -- `input::await_some` meets its contract. The loop's invariant: the text keeps its length. The measure is the number of turns that
 -- are left. Assumes nothing.
-use Rattle.basis.proofs.Prelude.{◌≡◌, length, needs}
+use Rattle.basis.proofs.Prelude.{◌≡◌, length, rules}
 use Rattle.input.proofs.await_some.{Statement.statement, Tie.{InvT-loop, MeasureT-loop, close, spec}}
 
 abbrev Inv_loop : InvT-loop
@@ -11,5 +11,5 @@ abbrev μ-loop : MeasureT-loop
 
 pub await_some_spec : {M : Type 1} → statement M
 await_some_spec = close (spec
-    Inv_loop μ-loop (λ c. search needs) (λ c κs. search needs) (λ c κs. search needs) (λ c. search needs) (λ c. search needs) (λ c κs. search needs)
-    (λ c. search needs) (λ c. search needs) (λ c. search needs) (λ c. search needs) (λ c. search needs) (λ c. search needs) (λ c. search needs))
+    Inv_loop μ-loop (λ c. search rules) (λ c κs. search rules) (λ c κs. search rules) (λ c. search rules) (λ c. search rules) (λ c κs. search rules)
+    (λ c. search rules) (λ c. search rules) (λ c. search rules) (λ c. search rules) (λ c. search rules) (λ c. search rules) (λ c. search rules))

@@ -1,12 +1,12 @@
 -- `planning::planned` meets its contract. Assumes nothing.
-use Rattle.basis.proofs.Prelude.{needs}
+use Rattle.basis.proofs.Prelude.{rules}
 use Rattle.planning.proofs.{Names.{plan_of, Takes}, planned.{Statement.statement, Tie.{close, spec}}}
 
 pub planned_spec : {M : Type 1} → statement M
 unfolding plan_of Takes
 planned_spec = close (spec
-    (λ c. search needs) (λ c κs. search needs) (λ c. search needs) (λ c κs. search needs) (λ c. search needs) (λ c κs. search needs) (λ c. search needs)
-    (λ c κs. search needs) (λ c. search needs) (λ c κs. search needs) (λ c. search needs) (λ c κs. search needs) (λ c. search needs) (λ c κs. search needs)
+    (λ c. search rules) (λ c κs. search rules) (λ c. search rules) (λ c κs. search rules) (λ c. search rules) (λ c κs. search rules) (λ c. search rules)
+    (λ c κs. search rules) (λ c. search rules) (λ c κs. search rules) (λ c. search rules) (λ c κs. search rules) (λ c. search rules) (λ c κs. search rules)
     -- enter, amend, strike
     (λ c. rw c.before.before.call.given.1 c.plan-enter.ensures) (λ c. rw c.before.before.call2.given.1 c.plan-amend.ensures)
     (λ c. rw c.before.before.call3.given.1 (c.plan-strike.ensures, tt))

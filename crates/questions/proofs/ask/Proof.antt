@@ -3,10 +3,10 @@ use Rattle.questions.proofs.{Names.needs, Asking.{as_question, as_any_days}, ask
 
 pub ask_spec : {M : Type 1} → statement M
 ask_spec = close (spec
-    (λ c. search needs) (λ c. search needs) (λ c. search needs) (λ c. search needs) (λ c. search needs) (λ c. search needs)
-    (λ c. search needs) (λ c. search needs) (λ c. search needs) (λ c. search needs)
-    (λ c. search needs) (λ c. search as_any_days)  -- day
-    (λ c. search needs) (λ c. search as_any_days)  -- span
-    (λ c. search needs) (λ c. search as_any_days)  -- cover
-    (λ c. search needs) (λ c. search as_question)  -- days
-    (λ c. search needs) (λ c. search as_any_days))  -- mask
+    (λ c. search rules) (λ c. search rules) (λ c. search rules) (λ c. search rules) (λ c. search rules) (λ c. search rules)
+    (λ c. search rules) (λ c. search rules) (λ c. search rules) (λ c. search rules)
+    (λ c. search rules) (λ c. search as_any_days)  -- day
+    (λ c. search rules) (λ c. search as_any_days)  -- span
+    (λ c. search rules) (λ c. search as_any_days)  -- cover
+    (λ c. search rules) (λ c. search as_question)  -- days
+    (λ c. search rules) (λ c. search as_any_days))  -- mask

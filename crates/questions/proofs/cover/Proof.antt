@@ -1,5 +1,5 @@
 -- `questions::cover` meets its contract: the rows' question answers as the account does. Assumes nothing.
-use Rattle.questions.proofs.{Names.{◌∙◌, ◌≡◌, refl, sym, ◌<◌, suc, ℕ, List, [], ◌∷◌, true, eqb, List·getD-map, get_or, length, length-map, arith, eq-eqb, eqb-true, ne_eqb, by_mark, needs, unknown_number, Spell, blank, distinct, Listed, below, named, numbers, Gave, covering, cover_of, cover_in, below_is, Cover, firsts_of, lasts_of, refused, settle, reaching, cover, ask, Outcome, found_of, told, numbers_of, number_at, in_at, stands_none, one_spell, cover_does, List-as-Memᴰ, published_built, Asked}, Asking.{question_told, rows_asked}, cover.{Statement.statement, Tie.{close, spec}}}
+use Rattle.questions.proofs.{Names.{◌∙◌, ◌≡◌, refl, sym, ◌<◌, suc, ℕ, List, [], ◌∷◌, true, eqb, List·getD-map, get_or, length, length-map, arith, eq-eqb, eqb-true, ne_eqb, by_mark, rules, unknown_number, Spell, blank, distinct, Listed, below, named, numbers, Gave, covering, cover_of, cover_in, below_is, Cover, firsts_of, lasts_of, refused, settle, reaching, cover, ask, Outcome, found_of, told, numbers_of, number_at, in_at, stands_none, one_spell, cover_does, List-as-Memᴰ, published_built, Asked}, Asking.{question_told, rows_asked}, cover.{Statement.statement, Tie.{close, spec}}}
 
 -- the first spell of the number k, or none
 cover_hit : (p : List Spell) (k : ℕ) → distinct p ≡ true → (x : Spell) → List-as-Memᴰ x p → x.number ≡ k → cover k p p ≡ reaching x.first x.last p
@@ -23,4 +23,4 @@ cover_asked {k = k} = unfold cover_of covering named ask settle in rows_asked (�
     rw (z, covering, List·getD-map (λ (s : Spell). s.first) p r blank, List·getD-map (λ (s : Spell). s.last) p r blank, hit) (question_told m q _ _)))
 
 pub cover_spec : {M : Type 1} → statement M
-cover_spec = close (spec (λ c. search published_built) (λ c. search needs) (λ c. search needs) (λ c. search cover_asked))
+cover_spec = close (spec (λ c. search published_built) (λ c. search rules) (λ c. search rules) (λ c. search cover_asked))

@@ -1,5 +1,5 @@
 -- `questions::days` meets its contract: the rows' question answers as the account does. Assumes nothing.
-use Rattle.questions.proofs.{Names.{◌∙◌, ◌≡◌, refl, ℕ, List, [], ◌∷◌, true, List·getD-map, get_or, lt-ltb, both, by_test, needs, is_day, days_ok, dated, Spell, blank, Listed, Gave, rising_from, meets, contains_any, days_of, days_in, Days, on_any, rising, firsts_of, lasts_of, settle, ask, Agree, Outcome, found_of, published_built, Asked}, Asking.{several_told, rows_asked}, days.{Statement.statement, Tie.{close, spec}}}
+use Rattle.questions.proofs.{Names.{◌∙◌, ◌≡◌, refl, ℕ, List, [], ◌∷◌, true, List·getD-map, get_or, lt-ltb, both, by_test, rules, is_day, days_ok, dated, Spell, blank, Listed, Gave, rising_from, meets, contains_any, days_of, days_in, Days, on_any, rising, firsts_of, lasts_of, settle, ask, Agree, Outcome, found_of, published_built, Asked}, Asking.{several_told, rows_asked}, days.{Statement.statement, Tie.{close, spec}}}
 
 -- the test of several days by the columns is the test of the spells
 meets_any : (ds : List ℕ) (s : Spell) → meets ds s.first s.last ≡ on_any ds s
@@ -29,4 +29,4 @@ days_asked = unfold days_of ask settle in rows_asked (λ ds ns fs ls. days_of ns
     (λ e. rw (e, days_of)))
 
 pub days_spec : {M : Type 1} → statement M
-days_spec = close (spec (λ c. search published_built) (λ c. search needs) (λ c. search needs) (λ c. search days_asked))
+days_spec = close (spec (λ c. search published_built) (λ c. search rules) (λ c. search rules) (λ c. search days_asked))

@@ -1,5 +1,5 @@
 -- `questions::mask` meets its contract: the days question is asked for the ticked days. Assumes nothing.
-use Rattle.questions.proofs.{Names.{◌∙◌, ◌≡◌, ap, sym, ℕ, List, take, length, ◌≤◌, length-take-le, needs, off_calendar, Ask, Days, Mask, ticking, mask_off, mask_as_days, Ticks, All, Off, ticks, Answer, all_gives, off_gives, Outcome, told_of, ticking_of, asking, ticking_told, Asked}, mask.{Statement.statement, Tie.{close, spec}}}
+use Rattle.questions.proofs.{Names.{◌∙◌, ◌≡◌, ap, sym, ℕ, List, take, length, ◌≤◌, length-take-le, rules, off_calendar, Ask, Days, Mask, ticking, mask_off, mask_as_days, Ticks, All, Off, ticks, Answer, all_gives, off_gives, Outcome, told_of, ticking_of, asking, ticking_told, Asked}, mask.{Statement.statement, Tie.{close, spec}}}
 
 -- ---- The ticked days of a sheet, which were put into a list
 
@@ -25,5 +25,5 @@ lent {n = n} {put = put} a all = sym (length-take-le n put (inside a all))
 
 pub mask_spec : {M : Type 1} → statement M
 mask_spec = close (spec
-    (λ c. search needs) (λ c. search needs) (λ c. search needs) (λ c. search needs) (λ c. search mask_off_asked) (λ c. search inside) (λ c. search lent)
-    (λ c. search needs) (λ c. search needs) (λ c. search needs) (λ c. search mask_asked))
+    (λ c. search rules) (λ c. search rules) (λ c. search rules) (λ c. search rules) (λ c. search mask_off_asked) (λ c. search inside) (λ c. search lent)
+    (λ c. search rules) (λ c. search rules) (λ c. search rules) (λ c. search mask_asked))

@@ -1,8 +1,8 @@
 -- `replay::code_at` meets its contract: a word for each field. Assumes nothing.
-use Rattle.replay.proofs.{Names.{code_at, needs}, code_at.{Statement.statement, Tie.{close, spec}}}
+use Rattle.replay.proofs.{Names.{code_at, rules}, code_at.{Statement.statement, Tie.{close, spec}}}
 
 pub code_at_spec : {M : Type 1} → statement M
 code_at_spec = close (spec
-    (λ c. search needs) (λ c. search needs) (λ c. search needs) (λ c. search needs) (λ c. search needs) (λ c. search needs) (λ c. search needs)
-    (λ c. search needs) (λ c. search needs) (λ c. search needs) (λ c. search needs) (λ c. search needs) (λ c. search needs) (λ c. search needs)
+    (λ c. search rules) (λ c. search rules) (λ c. search rules) (λ c. search rules) (λ c. search rules) (λ c. search rules) (λ c. search rules)
+    (λ c. search rules) (λ c. search rules) (λ c. search rules) (λ c. search rules) (λ c. search rules) (λ c. search rules) (λ c. search rules)
     (λ c. unfold code_at in cc))

@@ -1,5 +1,5 @@
 -- `replay::make` meets its contract: the parts that are lent lie in their lists, as it requires. Assumes nothing.
-use Rattle.replay.proofs.{Names.{arith, needs, refl}, make.{Statement.statement, Tie.{close, spec}}}
+use Rattle.replay.proofs.{Names.{arith, rules, refl}, make.{Statement.statement, Tie.{close, spec}}}
 
 pub make_spec : {M : Type 1} → statement M
 make_spec = close (spec
@@ -10,11 +10,11 @@ make_spec = close (spec
     (λ c. let s = c.before.before.before.before.before.before.before in omega (arith, s.pre, s.good))
     -- the parts
     (λ c. let s = c.before.before.before.before.before.before.before.before in omega (arith, s.pre, s.good))
-    (λ c. search needs) (λ c. search needs) (λ c. search needs)
+    (λ c. search rules) (λ c. search rules) (λ c. search rules)
     (λ c. let s = c.before.before.before.before.before.before.before.before.before in omega (arith, s.pre, s.good))
-    (λ c. search needs) (λ c. search needs) (λ c. search needs) (λ c. search needs) (λ c. search needs) (λ c. search needs) (λ c κs. search needs)
+    (λ c. search rules) (λ c. search rules) (λ c. search rules) (λ c. search rules) (λ c. search rules) (λ c. search rules) (λ c κs. search rules)
     (λ c κs. c.before.before.before.before.before.before.before.before.before.before.before.before.before.before.before.before.before.pre.1.1.1)
-    (λ c. search needs) (λ c. search needs) (λ c. search needs)
+    (λ c. search rules) (λ c. search rules) (λ c. search rules)
     (λ c. let told = c.before.before.before in let met = told.before.before.before.before.before.before in record {
       stepped = met.step.result;
       ns = _;

@@ -1,5 +1,5 @@
 -- `serve::converse` is safe and ends. The invariant: service and blocks are what the calls gave. The measure is the turns that are left. Assumes nothing.
-use Rattle.basis.proofs.Prelude.{⊎_elim, arith, needs}
+use Rattle.basis.proofs.Prelude.{⊎_elim, arith, rules}
 use Rattle.service.specs.Service.{blocks, Given}
 use Rattle.serve.proofs.converse.{Statement.statement, Tie.{InvT-loop, MeasureT-loop, Need-loop-again, close, spec}}
 
@@ -21,14 +21,14 @@ loop_again c =
 
 pub converse_spec : {M : Type 1} → statement M
 converse_spec = close (spec
-    Inv_loop μ-loop (λ c. search needs)
+    Inv_loop μ-loop (λ c. search rules)
     (λ c κs. c.before.before.before.before.before.before.before.before.before.before.loop.inv.published)
-    (λ c. search needs) (λ c. search needs) (λ c. search needs)
+    (λ c. search rules) (λ c. search rules) (λ c. search rules)
     (λ c κs.
     let seen = c.before.before.before.before.before.before.before.before.before.before.before.before in
     let known = seen.before.before.before.before.before.before.before.before.before.before.before.loop.inv in
     (known, omega (arith, seen.see.ensures.takes.text_within)))
-    (λ c κs. search needs) (λ c. search needs)
+    (λ c κs. search rules) (λ c. search rules)
     (λ c. omega (arith, c.before.before.before.before.before.before.before.before.before.before.before.before.before.before.before.before.before.before.before.loop-test.taken))
     (λ c. omega (arith, c.before.before.before.before.before.before.before.before.before.before.before.before.before.before.before.before.before.before.before.loop-test.taken))
-    loop_again (λ c. search needs))
+    loop_again (λ c. search rules))

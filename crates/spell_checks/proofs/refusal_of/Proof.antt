@@ -1,5 +1,5 @@
 -- `spell_checks::refusal_of` meets its contract: a law for each return after the first two, of the tests that were passed. Assumes nothing.
-use Rattle.basis.proofs.Prelude.{◌∙◌, ◌≡◌, ◌≤◌, ◌<◌, sym, false, true, Bool, not, needs, eq-eqb, le-ltb, lt-ltb, ne_eqb, not-false, not-true}
+use Rattle.basis.proofs.Prelude.{◌∙◌, ◌≡◌, ◌≤◌, ◌<◌, sym, false, true, Bool, not, rules, eq-eqb, le-ltb, lt-ltb, ne_eqb, not-false, not-true}
 use Rattle.calendar.specs.Calendar.{is_day}
 use Rattle.spell.specs.{declared.Spell.Spell, Entry.{refusal_of, urgency_ok}}
 use Rattle.spell_checks.proofs.refusal_of.{Statement.statement, Tie.{close, spec}}
@@ -24,5 +24,5 @@ module _ (s : Spell) (n : s.number ≡ 0 → ⊥) (c : s.candidate ≡ 0 → ⊥
 
 pub refusal_of_spec : {M : Type 1} → statement M
 refusal_of_spec = close (spec
-    (λ c. search eq-eqb) (λ c. search (eq-eqb, ne_eqb)) (λ c κs. search needs) (λ c. search off_first) (λ c κs. search needs)
-    (λ c. search off_last) (λ c. search backwards) (λ c κs. search needs) (λ c. search bad) (λ c. search good))
+    (λ c. search eq-eqb) (λ c. search (eq-eqb, ne_eqb)) (λ c κs. search rules) (λ c. search off_first) (λ c κs. search rules)
+    (λ c. search off_last) (λ c. search backwards) (λ c κs. search rules) (λ c. search bad) (λ c. search good))

@@ -1,10 +1,10 @@
 -- `stabbing_index::fill` meets its contract: the columns make the block, and the count is its last word. At the end a, b and d are the places
 -- after each `lay_rows`, e and f those after `lay_tree` and `lay_names`. Assumes nothing.
-use Rattle.stabbing_index.proofs.{Names.{arith, length-set, needs}, Assembling.filled, fill.{Statement.statement, Tie.{close, spec}}}
+use Rattle.stabbing_index.proofs.{Names.{arith, length-set, rules}, Assembling.filled, fill.{Statement.statement, Tie.{close, spec}}}
 
 pub fill_spec : {M : Type 1} → statement M
 fill_spec = close (spec
-    (λ c κs. search needs) (λ c κs. search needs) (λ c κs. search needs) (λ c κs. search needs) (λ c κs. search needs) (λ c. search needs)
-    (λ c. search needs) (λ c. rw length-set (omega arith))
+    (λ c κs. search rules) (λ c κs. search rules) (λ c κs. search rules) (λ c κs. search rules) (λ c κs. search rules) (λ c. search rules)
+    (λ c. search rules) (λ c. rw length-set (omega arith))
     (λ c. let f = c.before.before in let e = f.before.before.before.before in let d = e.before.before.before.before in let b = d.before.before.before.before in let a = b.before.before.before.before in let s = a.before.before.before.pre in
     filled _ _ _ s.0 s.1 a.lay-rows.ensures b.lay-rows2.ensures d.lay-rows3.ensures e.lay-tree.ensures f.lay-names.ensures))

@@ -1,13 +1,13 @@
 -- `stabbing_index::lay_tree` meets its contract: the links that `link` finds, and the tables by day, one column after another. From the call of
 -- `lay_days` on, g is the place after `lay`, f, e and d those after each `lay_marks`, and k that after `link`. Assumes nothing.
-use Rattle.stabbing_index.proofs.{Names.{arith, needs}, Assembling.{columns_of, days_asked, tree_laid, steps}, lay_tree.{Statement.statement, Tie.{close, spec}}}
+use Rattle.stabbing_index.proofs.{Names.{arith, rules}, Assembling.{columns_of, days_asked, tree_laid, steps}, lay_tree.{Statement.statement, Tie.{close, spec}}}
 
 pub lay_tree_spec : {M : Type 1} → statement M
 lay_tree_spec = close (spec
-    (λ c. search steps) (λ c. search needs) (λ c. search needs) (λ c κs. search needs)
-    (λ c κs. search needs) (λ c κs. search needs)
+    (λ c. search steps) (λ c. search rules) (λ c. search rules) (λ c κs. search rules)
+    (λ c κs. search rules) (λ c κs. search rules)
     (λ c κs. let d = c.before.before.before.before in let e = d.before.before.before.before.before in let f = e.before.before.before.before.before in let g = f.before.before.before.before.before in let k = g.before.before.before in
     let s = k.before.before.before.before.before.before.pre in (days_asked _ _ _ s.0 k.link.ensures.0, omega (arith, s.1, g.lay.ensures, f.lay-marks.ensures, e.lay-marks2.ensures, d.lay-marks3.ensures)))
-    (λ c. search needs)
+    (λ c. search rules)
     (λ c. let h = c.before.before in let d = h.before.before.before.before.before in let e = d.before.before.before.before.before in let f = e.before.before.before.before.before in let g = f.before.before.before.before.before in let k = g.before.before.before in
     tree_laid (columns_of _ _ _ k.before.before.before.before.before.before.pre.0) k.link.ensures.0 k.link.ensures.1 g.lay.ensures f.lay-marks.ensures e.lay-marks2.ensures d.lay-marks3.ensures h.lay-days.ensures))

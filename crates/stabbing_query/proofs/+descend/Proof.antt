@@ -1,6 +1,6 @@
 -- `stabbing_query::descend` meets its contract: each need is a step of `proofs/Walking.antt`, taken for w and for its last child c. The
 -- measure is the number of heads not yet visited. Assumes nothing.
-use Rattle.basis.proofs.Prelude.{◌+◌, ◌-◌, ◌<◌, ℕ, ⊎_elim, needs}
+use Rattle.basis.proofs.Prelude.{◌+◌, ◌-◌, ◌<◌, ℕ, ⊎_elim, rules}
 use Rattle.stabbing_query.proofs.{Names.{Does, below_of}, Walking.{unvisited, linked_below, headed_below, word_below, linked_beside, asks_chain, none_beside, all_beside, none_below, asks_below, all_below_lem, visit, stepped, calls_beside, calls_deep, calls_aside}, chain.Reads.{Asked, Learnt}, comparison.Reads.{Asked as Compared, Learnt as ComparedLearnt}, descend.{Reads.Pre, Reads.Post, Kinds.ps}, +descend.{statement, Tie.close, Lts-descend.Claims, Lts-descend.Joined1, Lts-descend.Joined2, Lts-descend.spec}}
 use borrow.{Fn.PlainCycle.{Measures, is, falls, and}, Fn.Kinds.In}
 use Rattle.stabbing_words.proofs.to_usize.Reads as to-usize
@@ -35,24 +35,24 @@ below t c = ⊎_elim
 pub +descend-spec : {M : Type 1} → statement M
 +descend-spec = close μ λ t. spec (claims t) (here t) Post
     -- w and its last child
-    (λ c. search needs) (λ c. search needs) (λ c. search needs) (λ c κs. search needs) (λ c. search needs)
-    (λ c. search needs) (λ c. search needs) (λ c. search needs) (λ c κs. search needs) (λ c. search linked_below)
+    (λ c. search rules) (λ c. search rules) (λ c. search rules) (λ c κs. search rules) (λ c. search rules)
+    (λ c. search rules) (λ c. search rules) (λ c. search rules) (λ c κs. search rules) (λ c. search linked_below)
     -- c and its last child
-    (λ c. search needs) (λ c. search needs) (λ c. search (word_below, needs)) (λ c κs. search needs) (λ c. search needs)
-    (λ c. search needs) (λ c. search needs) (λ c. search (word_below, needs)) (λ c κs. search needs) (λ c. search (linked_below, headed_below))
+    (λ c. search rules) (λ c. search rules) (λ c. search (word_below, rules)) (λ c κs. search rules) (λ c. search rules)
+    (λ c. search rules) (λ c. search rules) (λ c. search (word_below, rules)) (λ c κs. search rules) (λ c. search (linked_below, headed_below))
     (λ c κs. let k = c.before.before.before.before.before.before in let s = k.before.before.before.before.before in
     calls_deep _ s.pre.1 (search) (search) k.to-usize.ensures.0 s.pre.0 (search) (search) c.before.to-usize2.ensures.0)
     -- c's chain and its left sibling
     (λ c κs. let d = deep t c.before in search (asks_chain, visit, asks_below))
-    (λ c. search needs) (λ c. search needs) (λ c. search (word_below, needs)) (λ c κs. search needs) (λ c. search needs)
-    (λ c. search needs) (λ c. search needs) (λ c. search (word_below, needs)) (λ c κs. search needs) (λ c. search (linked_beside, headed_below))
+    (λ c. search rules) (λ c. search rules) (λ c. search (word_below, rules)) (λ c κs. search rules) (λ c. search rules)
+    (λ c. search rules) (λ c. search rules) (λ c. search (word_below, rules)) (λ c κs. search rules) (λ c. search (linked_beside, headed_below))
     (λ c κs. let k = c.before.before.before.before.before.before.before.before.before.before.before in let s = k.before.before.before.before.before in
     calls_aside _ s.pre.1 (search) (search) k.to-usize.ensures.0 s.pre.0 (deep t c.before.before.before.before.before.before.before.before) c.before.before.before.before.before.before.chain.ensures (search) (search) c.before.to-usize3.ensures.0)
     -- w's chain and its left sibling
     (λ c κs. let d = below t c.before in search (asks_chain, visit))
-    (λ c. search needs) (λ c. search needs) (λ c. search needs) (λ c κs. search needs) (λ c. search needs)
+    (λ c. search rules) (λ c. search rules) (λ c. search rules) (λ c κs. search rules) (λ c. search rules)
     (λ c. let d = below t c.before.before.before.before.before in search (stepped, none_beside, visit))
-    (λ c. search needs) (λ c. search needs) (λ c. search needs) (λ c κs. search needs) (λ c. search linked_beside)
+    (λ c. search rules) (λ c. search rules) (λ c. search rules) (λ c κs. search rules) (λ c. search linked_beside)
     (λ c κs. let s = c.before.before.before.before.before.before.before.before.before.before.before in
     calls_beside _ s.pre.1 (below t c.before.before.before.before.before.before.before.before) c.before.before.before.before.before.before.chain2.ensures (search) (search) c.before.to-usize4.ensures.0 s.pre.0)
     (λ c. let d = below t c.before.before.before.before.before.before.before.before.before in search (stepped, all_beside, visit))
