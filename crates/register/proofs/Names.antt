@@ -3,7 +3,7 @@ pub use Rattle.basis.proofs.Prelude.{List, [], ◌&&◌, ◌*◌, ◌++◌, ◌+
 pub use Rattle.decimals.proofs.{Claims.number_read, Decimals.write_number}
 pub use Rattle.fields.{proofs.{Bytes.{by_found, ended_back, never}, Widths.{decimal_width, hex_width, short_width}}, specs.Fields.{Found, found, onward, read_bits, read_number, unreadable}}
 unfoldable pub use Rattle.fields.specs.Fields.{decimal_of, digits_of, hex_digit, hex_of, hex_value, passed, read_decimal, read_digits, read_hex}
-pub use Rattle.hex.proofs.{Claims.bits_read, Hex.write_bits}
+pub use Rattle.hexadecimals.proofs.{Claims.bits_read, Hex.write_bits}
 pub use Rattle.register.specs.Text.{Register, bad, good, urgency_text, write_all}
 unfoldable pub use Rattle.register.specs.Text.{follows, line_answer, line_refusal, line_text, next_line, read_letter, read_line, read_lines, read_text, read_urgency, read_value, text_onto}
 pub use Rattle.spell.{proofs.{Entered.entered, Listing.{distinct_fresh, distinct_more}}, specs.{Entry.{refusal_of, urgency_ok}, Listing.{Good, HeldUrgency, Sound}, Order.ordered, declared.{Spell.Spell, Urgency.{Urgency, TheVariants.{Grade, Reading}}}}}

@@ -1,7 +1,7 @@
 -- What the fields of a line answer, as the readers found them one after another. Assumes nothing.
 use Rattle.basis.proofs.Prelude.{◌∙◌, ◌≡◌, sym, ◌+◌, ◌<◌, ◌≤◌, ℕ, List, Bool, false, not, true, drop, get_or, length, eq-eqb, ne_eqb, not-false, not-true}
 use Rattle.fields.{specs.{declared.{Field.{Field, TheVariants.{Value as FieldValue, Malformed as FieldMalformed}}, Length.{Length, TheVariants.{Value as LengthValue, Malformed as LengthMalformed}}}, Fields.{Found, found, onward, unreadable, is_at, read_number, read_bits}, Answers.{place_of, field_at, field_of, length_at, length_of, Reads}}, proofs.Places.{here, past_end, passed_not, passed_at, said}}
-use Rattle.hex.proofs.Hex.{write_bits}
+use Rattle.hexadecimals.proofs.Hex.{write_bits}
 use Rattle.spell.specs.declared.{Urgency.{Urgency, TheVariants.{Grade, Reading}}, Spell.Spell}
 use lib.Ieee.{Float, binary32, of_bits}
 use Rattle.register_line.specs.{declared.Kind.{Kind, TheVariants.{Value, Malformed}}, Contracts.{kind_at, kind_of}}

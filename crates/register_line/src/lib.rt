@@ -61,7 +61,7 @@ fn read_value(text: &[u8], at: usize, letter: u16) -> Kind
         };
         return Kind::Value(Urgency::Grade(g), next);
     }
-    let Length::Value(n, next) = hex::read_bits(text, at, LF) else {
+    let Length::Value(n, next) = hexadecimals::read_bits(text, at, LF) else {
         return Kind::Malformed;
     };
     let x = readings::reading_of(n as u32);

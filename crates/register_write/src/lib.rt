@@ -32,7 +32,7 @@ fn put_urgency(buf: &mut [u8; 35840], at: usize, u: Urgency) -> usize
         }
         Urgency::Reading(x) => {
             let n = readings::bits_of(x);
-            let i = hex::put_bits(buf, at, n, LF);
+            let i = hexadecimals::put_bits(buf, at, n, LF);
             let j = field_bytes::put_byte(buf, i, TAB);
             field_bytes::put_byte(buf, j, LETTER_C)
         }

@@ -5,7 +5,7 @@ use Rattle.repairing.proofs.Names.{Grade, Reading, Spell, stands, distinct, Each
 use Rattle.spell.{specs.{declared.Urgency.Urgency, Entry.refusal_of}, proofs.Entered.{needed, past}}
 use Rattle.fields.proofs.Widths.{decimal_wide}
 use Rattle.decimals.proofs.Decimals.{write_number}
-use Rattle.hex.proofs.Hex.{write_bits}
+use Rattle.hexadecimals.proofs.Hex.{write_bits}
 
 -- ---- The first line and the others
 

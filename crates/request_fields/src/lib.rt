@@ -102,7 +102,7 @@ pub fn mask_asked(line: &[u8], at: usize) -> Request
     let Field::Value(base, i) = decimals::read_number(line, at, TAB) else {
         return Request::Malformed;
     };
-    let Length::Value(mask, next) = hex::read_mask(line, i, LF) else {
+    let Length::Value(mask, next) = hexadecimals::read_mask(line, i, LF) else {
         return Request::Malformed;
     };
     if_ended(

@@ -1,7 +1,7 @@
--- `hex::hex_value` meets its contract. Assumes nothing.
+-- `hexadecimals::hex_value` meets its contract. Assumes nothing.
 use Rattle.basis.proofs.Prelude.{◌∙◌, sym, arith, rules}
 use Rattle.fields.{specs.Fields.hex_value, proofs.Bytes.digit_range}
-use Rattle.hex.proofs.{Hex.letter_from, hex_value.{Statement.statement, Tie.{close, spec}}}
+use Rattle.hexadecimals.proofs.{Hex.letter_from, hex_value.{Statement.statement, Tie.{close, spec}}}
 
 pub hex_value_spec : {M : Type 1} → statement M
 unfolding hex_value

@@ -1,8 +1,8 @@
--- `hex::read_hex` meets its contract. The invariant: reading the digits left from the place i with the value v gives what was to be read. Assumes nothing.
+-- `hexadecimals::read_hex` meets its contract. The invariant: reading the digits left from the place i with the value v gives what was to be read. Assumes nothing.
 use Prim.Native.Nat.{◌^◌}
 use Rattle.basis.proofs.Prelude.{◌≡◌, ◌-◌, ◌<◌, ◌≤◌, drop, arith}
 use Rattle.fields.specs.Fields.{read_hex}
-use Rattle.hex.proofs.{Hex.{value_fits, digit_fits, digit_limit}, Places.{hex_all, hex_past, hex_none, hex_more}, read_hex.{Statement.statement, Tie.{close, spec}}}
+use Rattle.hexadecimals.proofs.{Hex.{value_fits, digit_fits, digit_limit}, Places.{hex_all, hex_past, hex_none, hex_more}, read_hex.{Statement.statement, Tie.{close, spec}}}
 
 pub read_hex_spec : {M : Type 1} → statement M
 read_hex_spec = close (spec

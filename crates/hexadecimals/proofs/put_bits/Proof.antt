@@ -1,7 +1,7 @@
--- `hex::put_bits` meets its contract. The invariant: the digits left of v put before the place i make the whole field. Assumes nothing.
+-- `hexadecimals::put_bits` meets its contract. The invariant: the digits left of v put before the place i make the whole field. Assumes nothing.
 use Rattle.basis.proofs.Prelude.{◌-◌, arith}
 use Rattle.fields.proofs.Puts.{put_sized, puts_before, puts_past}
-use Rattle.hex.proofs.{Puts.{Hexes, hexes_none, hexes_step, hexes_all}, put_bits.{Statement.statement, Tie.{close, spec}}}
+use Rattle.hexadecimals.proofs.{Puts.{Hexes, hexes_none, hexes_step, hexes_all}, put_bits.{Statement.statement, Tie.{close, spec}}}
 
 pub put_bits_spec : {M : Type 1} → statement M
 put_bits_spec = close (spec

@@ -1,7 +1,7 @@
--- `hex::hex_digit` meets its contract. Assumes nothing.
+-- `hexadecimals::hex_digit` meets its contract. Assumes nothing.
 use Rattle.basis.proofs.Prelude.{arith, rules, le-ltb, lt-ltb}
 use Rattle.fields.specs.Fields.{hex_digit}
-use Rattle.hex.proofs.hex_digit.{Statement.statement, Tie.{close, spec}}
+use Rattle.hexadecimals.proofs.hex_digit.{Statement.statement, Tie.{close, spec}}
 
 pub hex_digit_spec : {M : Type 1} → statement M
 unfolding hex_digit

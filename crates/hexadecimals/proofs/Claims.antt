@@ -2,7 +2,7 @@
 -- is written of its value. Assumes nothing.
 use Rattle.basis.proofs.Prelude.{◌≡◌, refl, ◌<◌, ℕ, List, ◌∷◌, eq-eqb}
 use Rattle.fields.specs.Fields.{found, passed, read_hex, read_bits, bits_text}
-use Rattle.hex.proofs.Hex.{read_hex_lem, write_bits}
+use Rattle.hexadecimals.proofs.Hex.{read_hex_lem, write_bits}
 
 -- eight hex digits of 32 bits, ended by any byte
 pub bits_read : (e n : ℕ) (rest : List ℕ) → n < 4294967296 → read_bits e (bits_text n e rest) ≡ found n rest
