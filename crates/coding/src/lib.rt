@@ -3,7 +3,7 @@ use model::Call;
 
 // A call in ten words: its number (`op_of` in specs/Coded.antt), the fields of a spell, and how many places of the lists of days, numbers and
 // text it is lent. A mask stands in the place of the value, its base day in that of the first day.
-#[derive(Drop)]
+#[derive(Clone, Copy)]
 pub struct Code {
     pub op: u64,
     pub number: u16,
@@ -18,7 +18,7 @@ pub struct Code {
 }
 
 // A code's call, or the end of the list.
-#[derive(Drop)]
+#[derive(Clone, Copy)]
 pub enum Next {
     Stop,
     Go(Call),

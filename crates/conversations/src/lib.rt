@@ -10,7 +10,7 @@ pub const DAYS: usize = 32768;
 pub const ROOM: usize = 65536;
 
 // The service after a request, the room of later calls, and the place of the lent list where the answer begins.
-#[derive(Drop)]
+#[derive(Clone, Copy)]
 pub struct Answered {
     pub service: Service,
     pub room: usize,
@@ -18,7 +18,7 @@ pub struct Answered {
 }
 
 // What is asked of the service: a call with the count of its days, or a reading of so many bytes.
-#[derive(Drop)]
+#[derive(Clone, Copy)]
 pub enum Wanted {
     Call(Call, usize),
     Read(u64),
@@ -26,7 +26,7 @@ pub enum Wanted {
 
 // What a look at a request's line gives. A request that wants no service is answered: the request, the room of later calls, and the place
 // where the answer begins. Of another it is what it wants.
-#[derive(Drop)]
+#[derive(Clone, Copy)]
 pub enum Looked {
     Done(Request, usize, usize),
     Wants(Wanted),

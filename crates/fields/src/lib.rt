@@ -2,13 +2,13 @@
 // readers and writers share in proofs/, and here the answers of the readers. `field_bytes` has the functions of single bytes.
 
 // A value and the place after its field, or a field that can't be read: a number of 16 bits, or one of any length.
-#[derive(Drop)]
+#[derive(Clone, Copy)]
 pub enum Field {
     Value(u16, usize),
     Malformed,
 }
 
-#[derive(Drop)]
+#[derive(Clone, Copy)]
 pub enum Length {
     Value(u64, usize),
     Malformed,

@@ -10,7 +10,7 @@ use streams::{Advanced, Frame, Framed, LINE, TEXT};
 const LF: u8 = 10;
 
 // So many bytes of a line, whether its LF is among them, and the place after them.
-#[derive(Drop)]
+#[derive(Clone, Copy)]
 struct Taken {
     line: usize,
     whole: bool,

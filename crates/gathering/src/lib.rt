@@ -19,6 +19,6 @@ pub fn append(list: &mut [u8], n: usize, from: &[u8], at: usize) -> usize
         return n;
     }
     let end = n + (size - at);
-    bytes::copy(&from[at..], &mut list[n..end]);
+    list[n..end].copy_from_slice(&from[at..]);
     end
 }

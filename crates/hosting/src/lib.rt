@@ -4,7 +4,7 @@
 // A spell as a host gives it. Kind 0 is a grade, and `value` is the grade; kind 1 is a reading, and `value` is its bits. Any other
 // kind, and a grade above 65,535, is a bad urgency, which is refused in its turn among the checks.
 #[repr(C)]
-#[derive(Drop)]
+#[derive(Clone, Copy)]
 pub struct Entry {
     pub number: u16,
     pub candidate: u16,
@@ -17,7 +17,7 @@ pub struct Entry {
 // What a call answers: the refusal's number or 0, how many spells are listed, the comparisons made (document 01's looks), the
 // length of a written text, the number of days ticked.
 #[repr(C)]
-#[derive(Drop)]
+#[derive(Clone, Copy)]
 pub struct Reply {
     pub refusal: u16,
     pub count: usize,
@@ -28,7 +28,7 @@ pub struct Reply {
 
 // What a reading answers: the refusal's number with its line, or 0 and 0.
 #[repr(C)]
-#[derive(Drop)]
+#[derive(Clone, Copy)]
 pub struct Opened {
     pub refusal: u16,
     pub line: u16,

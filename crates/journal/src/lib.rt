@@ -2,7 +2,7 @@
 use spell::Spell;
 
 // How to go back one edit: the spell number, and the spell that stood under it before, if one did.
-#[derive(Drop)]
+#[derive(Clone, Copy)]
 pub struct Undo {
     pub number: u16,
     pub stood: bool,

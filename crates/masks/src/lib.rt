@@ -2,7 +2,7 @@
 // function that puts them into a list.
 
 // What is said of a sheet: how many days are ticked, or that a ticked day is off the calendar.
-#[derive(Drop)]
+#[derive(Clone, Copy)]
 pub enum Ticks {
     All(usize),
     Off,

@@ -2,7 +2,7 @@
 use spell::Spell;
 
 // A question of the published list. The days of `Days` stand beside it; those of `Mask` are the ticked ones of its base day and mask.
-#[derive(Drop)]
+#[derive(Clone, Copy)]
 pub enum Question {
     Day(u16),
     Span(u16, u16),
@@ -12,7 +12,7 @@ pub enum Question {
 }
 
 // A call of the account. The lists that a call is lent stand beside it.
-#[derive(Drop)]
+#[derive(Clone, Copy)]
 pub enum Call {
     Enter(Spell),
     Amend(Spell),

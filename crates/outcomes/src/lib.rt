@@ -2,7 +2,7 @@
 
 // What a call returns beside its lent lists: the refusal's number or 0, how many spells are listed, the comparisons made
 // (document 01's looks), the length of a written text, the number of days ticked.
-#[derive(Drop)]
+#[derive(Clone, Copy)]
 pub struct Outcome {
     pub refusal: u16,
     pub count: usize,

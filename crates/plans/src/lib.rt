@@ -4,7 +4,7 @@ use spell::Spell;
 
 // The refusal's number, or 0; the place of the spell that goes, where one stands there; whether a spell is put in, and which; whether an entry
 // is noted, and which, in a journal of that depth.
-#[derive(Drop)]
+#[derive(Clone, Copy)]
 pub struct Plan {
     pub refusal: u16,
     pub out: usize,

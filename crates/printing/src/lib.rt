@@ -31,7 +31,7 @@ fn print_part(out: &[u8; PART], bytes: usize) -> bool
 }
 
 // The day to go on with after the parts that were printed, and whether all were.
-#[derive(Drop)]
+#[derive(Clone, Copy)]
 pub struct Days {
     pub next: u16,
     pub whole: bool,

@@ -3,14 +3,14 @@
 use spell::Spell;
 
 // A line's spell and the place after the line, or a field that can't be read.
-#[derive(Drop)]
+#[derive(Clone, Copy)]
 pub enum Line {
     Value(Spell, usize),
     Malformed,
 }
 
 // What reading a text gives: the spells in the first places and their count, or the refusal's number and its line.
-#[derive(Drop)]
+#[derive(Clone, Copy)]
 pub struct Reading {
     pub spells: [Spell; 1024],
     pub count: usize,
@@ -19,7 +19,7 @@ pub struct Reading {
 }
 
 // What writing gives: the text's length, or the refusal's number.
-#[derive(Drop)]
+#[derive(Clone, Copy)]
 pub struct Written {
     pub refusal: u16,
     pub length: usize,

@@ -21,7 +21,7 @@ const LETTER_G: u8 = 71;
 const GRADE: u16 = 71;
 
 // A line's urgency and the place after it, or a field that can't be read.
-#[derive(Drop)]
+#[derive(Clone, Copy)]
 pub enum Kind {
     Value(Urgency, usize),
     Malformed,

@@ -31,7 +31,7 @@ fn after_line(text: &[u8], at: usize) -> usize
 }
 
 // What a line met, 0 where it is kept, and its spell.
-#[derive(Drop)]
+#[derive(Clone, Copy)]
 struct Judged {
     number: u16,
     spell: Spell,
@@ -78,7 +78,7 @@ fn judge(text: &[u8], at: usize, seen: &[bool; 65536], count: usize) -> Judged
 // ---- All lines
 
 // The kept spells in the first places and their count, and how many lines there are.
-#[derive(Drop)]
+#[derive(Clone, Copy)]
 pub struct Sifted {
     pub spells: [Spell; 1024],
     pub count: usize,

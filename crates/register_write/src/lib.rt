@@ -70,7 +70,7 @@ pub fn write(spells: [Spell; 1024], count: usize, out: &mut [u8]) -> Written
             length: 0,
         };
     }
-    bytes::copy(&buf[at..], out);
+    out[..n].copy_from_slice(&buf[at..]);
     Written {
         refusal: ACCEPTED,
         length: n,

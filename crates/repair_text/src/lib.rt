@@ -3,7 +3,7 @@
 
 // What is said: a dropped line, by its place in the text, with the number that it met; a refused text, with its number and line; a repaired
 // text, with its length and how many lines were dropped and displaced.
-#[derive(Drop)]
+#[derive(Clone, Copy)]
 pub enum Said {
     Dropped(u32, u32),
     Refused(u64, u64),

@@ -4,7 +4,7 @@
 // What repairing gives: the refusal's number and its line, which is 0, or the length of the repaired text, how many lines were dropped, and
 // how many kept lines now stand after a line that followed them.
 #[repr(C)]
-#[derive(Drop)]
+#[derive(Clone, Copy)]
 pub struct Repaired {
     pub refusal: u16,
     pub line: u16,

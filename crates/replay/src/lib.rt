@@ -19,7 +19,7 @@ const RESULT: usize = 5;
 
 // What a replayed list gives beside its lists: the refusal and line of the reading that it began with, and how many calls
 // were made.
-#[derive(Drop)]
+#[derive(Clone, Copy)]
 pub struct Ran {
     pub refusal: u16,
     pub line: u16,
@@ -78,7 +78,7 @@ fn tell(results: &mut [u64], k: usize, o: Outcome)
 }
 
 // The service after a call, how many calls are made, and the places of the lists after those that it was lent.
-#[derive(Drop)]
+#[derive(Clone, Copy)]
 struct Made {
     service: Service,
     made: usize,

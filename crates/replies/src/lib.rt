@@ -4,7 +4,7 @@
 pub const OUT: usize = 131072;
 
 // The shape of an accepted call's answer.
-#[derive(Drop)]
+#[derive(Clone, Copy)]
 pub enum Shape {
     // done, and no more
     Ok,

@@ -25,7 +25,7 @@ pub fn put_bytes(out: &mut [u8], at: usize, text: &[u8]) -> usize
         return at;
     }
     let start = at - n;
-    bytes::copy(text, &mut out[start..at]);
+    out[start..at].copy_from_slice(text);
     start
 }
 

@@ -2,7 +2,7 @@
 use model::{Call, Question};
 
 // What follows a request's word. Where several words share a layout, it says which of them it is.
-#[derive(Drop)]
+#[derive(Clone, Copy)]
 pub enum Layout {
     // nothing: the word is the whole line
     Alone(AloneWord),
@@ -22,20 +22,20 @@ pub enum Layout {
     Unknown,
 }
 
-#[derive(Drop)]
+#[derive(Clone, Copy)]
 pub enum AloneWord {
     TakeBack,
     Write,
     Days,
 }
 
-#[derive(Drop)]
+#[derive(Clone, Copy)]
 pub enum SpellWord {
     Enter,
     Amend,
 }
 
-#[derive(Drop)]
+#[derive(Clone, Copy)]
 pub enum NumberWord {
     Strike,
     Publish,
@@ -43,21 +43,21 @@ pub enum NumberWord {
     Ask(Question),
 }
 
-#[derive(Drop)]
+#[derive(Clone, Copy)]
 pub enum LengthWord {
     Room,
     Read,
 }
 
 // The layout of a line's fields, and the place after its word.
-#[derive(Drop)]
+#[derive(Clone, Copy)]
 pub struct Head {
     pub layout: Layout,
     pub at: usize,
 }
 
 // A call with the count of its days, a room, the length of a text to read, or a line of no form.
-#[derive(Drop)]
+#[derive(Clone, Copy)]
 pub enum Request {
     Call(Call, usize),
     Room(usize),

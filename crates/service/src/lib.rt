@@ -16,19 +16,19 @@ use standing::words::STANDING;
 use telling::{told, wrote};
 
 // What a service keeps: the standing list with its journal. The field is private: other code has a service only from the calls.
-#[derive(Drop)]
+#[derive(Clone, Copy)]
 pub struct Service {
     standing: Standing,
 }
 
-#[derive(Drop)]
+#[derive(Clone, Copy)]
 pub struct Stepped {
     pub service: Service,
     pub outcome: Outcome,
 }
 
 // What reading a register gives: the service, and the refusal's number with its line, or 0 and 0.
-#[derive(Drop)]
+#[derive(Clone, Copy)]
 pub struct Started {
     pub service: Service,
     pub refusal: u16,

@@ -5,7 +5,7 @@ use conversations::Looked;
 pub const ARRIVED: usize = 65536;
 
 // So many bytes are gathered, and whether there is more to serve.
-#[derive(Drop)]
+#[derive(Clone, Copy)]
 pub struct Gathered {
     pub held: usize,
     pub open: bool,
@@ -13,7 +13,7 @@ pub struct Gathered {
 
 // A request that is taken from the input: so many bytes of its line and of the text that follows it, or that the input ended before.
 // The bytes from `start` to `end` have arrived and are not taken yet, and so many bytes of answers are still gathered.
-#[derive(Drop)]
+#[derive(Clone, Copy)]
 pub struct Incoming {
     pub line: usize,
     pub payload: usize,
@@ -24,7 +24,7 @@ pub struct Incoming {
 }
 
 // The request that was taken, and what a look at it gave; where the input ended before it, nothing.
-#[derive(Drop)]
+#[derive(Clone, Copy)]
 pub struct Seen {
     pub line: usize,
     pub payload: usize,

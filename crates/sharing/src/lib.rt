@@ -4,7 +4,7 @@
 // What a host is told: the word's number, 1 where the state was changed, the room of the conversation's later calls, and the place of
 // the lent list where the answer begins.
 #[repr(C)]
-#[derive(Drop)]
+#[derive(Clone, Copy)]
 pub struct Carried {
     pub word: u32,
     pub changed: u32,

@@ -1,14 +1,14 @@
 // A spell of a candidate on the waiting list: its fields, and as definitions in specs/ the checks of an entry, the order of spells, equality.
 
 // The urgency: a listed grade or a measured reading.
-#[derive(Drop)]
+#[derive(Clone, Copy)]
 pub enum Urgency {
     Grade(u16),
     Reading(f32),
 }
 
 // Both days are counted in.
-#[derive(Drop)]
+#[derive(Clone, Copy)]
 pub struct Spell {
     pub number: u16,
     pub candidate: u16,

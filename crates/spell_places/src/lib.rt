@@ -2,7 +2,7 @@
 use spell::Spell;
 
 // Where a number stands, and the spell there; where it does not stand, the count and a blank spell.
-#[derive(Drop)]
+#[derive(Clone, Copy)]
 pub struct Located {
     pub place: usize,
     pub spell: Spell,

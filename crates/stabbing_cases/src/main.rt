@@ -30,7 +30,7 @@ fn next_number(n: u64) {
 // ---- Lines of standard input
 
 // A line of three numbers.
-#[derive(Drop)]
+#[derive(Clone, Copy)]
 struct Line {
     a: u16,
     b: u16,
@@ -133,7 +133,7 @@ fn mix_out(h: u64, out: &[u16; 1025], k: usize) -> u64 {
 // ---- One question
 
 // What one asking gives, or many together, and the checksum after it.
-#[derive(Drop)]
+#[derive(Clone, Copy)]
 struct Heard {
     listed: usize,
     comparisons: u64,

@@ -61,7 +61,7 @@ fn in_order(first: &[u16], last: &[u16], n: usize) -> bool
 // ---- the links
 
 // A head's parent and its left sibling, as marks.
-#[derive(Drop)]
+#[derive(Clone, Copy)]
 struct Way {
     pub parent: usize,
     pub left: usize,

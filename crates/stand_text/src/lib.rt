@@ -10,7 +10,7 @@ pub const PART: usize = 65536;
 pub const LAST_DAY: u16 = 4000;
 
 // Whole lines in the first places of a list: how many bytes they have, and the day to go on with.
-#[derive(Drop)]
+#[derive(Clone, Copy)]
 pub struct Part {
     pub bytes: usize,
     pub next: u16,

@@ -18,7 +18,7 @@ pub mod words;
 
 // The journal has its oldest entry first and the newest at `depth - 1`. Its fields are private: other crates have a
 // standing list only from the calls.
-#[derive(Drop)]
+#[derive(Clone, Copy)]
 pub struct Standing {
     spells: [Spell; 1024],
     count: usize,
@@ -27,7 +27,7 @@ pub struct Standing {
 }
 
 // What an edit gives: the standing list after it, and the refusal's number, or 0.
-#[derive(Drop)]
+#[derive(Clone, Copy)]
 pub struct Edited {
     pub standing: Standing,
     pub refusal: u16,
