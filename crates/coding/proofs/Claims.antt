@@ -1,7 +1,7 @@
 -- The calls that are still coded, at a code that is one and at one that is none; and every list of calls has words. Assumes nothing.
 use Rattle.basis.proofs.Prelude.{◌∙◌, ◌≡◌, refl, sym, suc, zero, ℕ, List, [], ◌∷◌, Bool, cond, false, true, leb, drop, length, take, leb-true, ap, ◌*◌, ◌<◌, ◌≤◌, ◌++◌, append_assoc, length-append, drop_at, get_or-append-add, take_at, mod-eq_of_lt, arith, le-leb}
 use Rattle.model.specs.{declared.{Call.{Call, TheVariants.{Enter, Amend, Strike, TakeBack, Publish, Write, Ask}}, Question.TheVariants.{Day, Span, Cover, Days, Mask}}, Model.Request}
-use Rattle.coding.specs.{declared.{Code.Code, Next.{Next, TheVariants.{Stop, Go}}}, Coded.{code_at, next_of, decode_from, code_width, low16, urgency_of, call_of, Value, urgent, masked, Fields, spell_fields, fields_of, op_of, whole_of}, Coding.{Wide, Fits, Codable, lent_days, lent_numbers, lent_text, Coding}, Contracts.Room}
+use Rattle.coding.specs.{declared.{Code.Code, Next.{Next, TheVariants.{Stop, Go}}}, Coded.{code_at, next_of, decode_from, code_width, low16, urgency_of, call_of, Value, urgent, masked, Fields, spell_fields, fields_of, op_of, whole_of}, Coding.{Wide, Fits, Codable, lent_days, lent_numbers, lent_text, Coding}, Clauses.Room}
 use lib.Ieee.{binary32, Bits.{of_bits-to_bits, to_bits-lt}}
 use Rattle.spell.specs.declared.{Urgency.{Urgency, TheVariants.{Grade, Reading}}, Spell.Spell}
 use Rattle.packing.specs.{Words.{kind_of, value_of, Narrow}, Blocks.{written, Every}}

@@ -7,7 +7,7 @@ use Rattle.model.{specs.{declared.{Call.{Call, TheVariants.{Enter, Amend, Strike
 use Rattle.service.{specs.{declared.{Service.Service, Stepped.Stepped, Started.Started}, Service.{Blocks, Given, Met, Represents, Begins, blocks}}, proofs.{Represented.{state_of, stands, represented}, Asking.asked_met}}
 use Rattle.outcomes.specs.{Outcomes.{asking}, declared.Outcome.Outcome}
 use Rattle.replies.{specs.{Sending.{Sends, reply_text}, Fitting.Fits, Replies.{ok_text, malformed_text, refused_line, reading_text}}, proofs.Fitting.replied}
-use Rattle.conversations.specs.{Conversation.{call_of, turn_by, register_of, turn_of}, Contracts.{CallTurn, AskTurn}, declared.{Answered.Answered, Wanted.{Wanted, TheVariants.{Call as WantedCall, Read as WantedRead}}, Looked.Looked}, Answering.{Taken, Restarted, Answers, Carries, asked_in, beside, lent_of, room_of, is_question, wanted_in, wanted_by, LooksAt, Looks}}
+use Rattle.conversations.specs.{Conversation.{call_of, turn_by, register_of, turn_of}, Clauses.{CallTurn, AskTurn}, declared.{Answered.Answered, Wanted.{Wanted, TheVariants.{Call as WantedCall, Read as WantedRead}}, Looked.Looked}, Answering.{Taken, Restarted, Answers, Carries, asked_in, beside, lent_of, room_of, is_question, wanted_in, wanted_by, LooksAt, Looks}}
 use Rattle.conversations.proofs.Shown.{Same, same_settle, same_call}
 use Rattle.buffer.proofs.Over.{least_names}
 use Rattle.requests.{specs.{Requests.{asks_call, malformed, asked_of}, declared.Request.{Request as RequestIn, TheVariants.{Call as RequestCall, Room as RequestRoom}}, Parsing.{request_of, asked_from, days_in, room_in, Parses}}, proofs.Asking.parsed_asked}

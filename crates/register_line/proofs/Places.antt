@@ -4,7 +4,7 @@ use Rattle.fields.{specs.{declared.{Field.{Field, TheVariants.{Value as FieldVal
 use Rattle.hexadecimals.proofs.Hex.{write_bits}
 use Rattle.spell.specs.declared.{Urgency.{Urgency, TheVariants.{Grade, Reading}}, Spell.Spell}
 use lib.Ieee.{Float, binary32, of_bits}
-use Rattle.register_line.specs.{declared.Kind.{Kind, TheVariants.{Value, Malformed}}, Contracts.{kind_at, kind_of}}
+use Rattle.register_line.specs.{declared.Kind.{Kind, TheVariants.{Value, Malformed}}, Clauses.{kind_at, kind_of}}
 use Rattle.register.specs.{declared.Line.{TheVariants.{Value as LineValue, Malformed as LineMalformed}}, Answers.{line_at, line_of}, Text.{is_letter, read_letter, read_value}}
 
 -- ---- the letter and its tab

@@ -8,7 +8,7 @@ unfoldable pub use Rattle.model.specs.Model.{run}
 pub use Rattle.outcomes.specs.Outcomes.{answer_of, asking}
 unfoldable pub use Rattle.packing.specs.Blocks.{written}
 pub use Rattle.register.specs.Text.{read_text}
-pub use Rattle.replay.specs.{Contracts.{Makes, put_back}, Replayed.{Answered, Holds, Replayed, beginning}, declared.{Made.Made, Ran.Ran}}
+pub use Rattle.replay.specs.{Clauses.{Makes, put_back}, Replayed.{Answered, Holds, Replayed, beginning}, declared.{Made.Made, Ran.Ran}}
 pub use Rattle.service.{proofs.{Represented.represented, Tied.Is}, specs.{Service.{Begins, Blocks, Given, Represents, blocks}, declared.Service.Service}}
 pub use contract.Lifetimes.{Lfts}
 pub use denote.Ref.{Bor, MutBor}

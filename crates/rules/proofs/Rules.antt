@@ -18,7 +18,8 @@ reading_lapses s e = unfold last_of in rw e
 -- ---- A cut day is between the first and the last
 
 urgency_within : (first last : ℕ) → first ≤ last → (u : Urgency) → (first ≤ lapsed_last u first last) × (lapsed_last u first last ≤ last)
-urgency_within first last forward u = elim u [ Grade g ↦ omega arith | Reading x ↦ omega arith ]
+urgency_within first last forward (Grade g) = omega arith
+urgency_within first last forward (Reading x) = omega arith
 
 pub last_within : (rule : ℕ) (s : Spell) → s.first ≤ s.last → (s.first ≤ last_of rule s) × (last_of rule s ≤ s.last)
 last_within rule s h = unfold last_of in by_cases (λ d. (s.first ≤ d) × (d ≤ s.last)) (eqb rule 2)

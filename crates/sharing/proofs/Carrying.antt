@@ -6,7 +6,7 @@ use Rattle.requests.specs.{declared.Request.Request, Requests.asked_of}
 use Rattle.service.{specs.{declared.{Service.Service, Stepped.Stepped}, Packed.{unpacked, Packs}, Service.{Blocks, Represents, Given, Changed, Changes}}, proofs.Editing.changes}
 use Rattle.conversations.{specs.{declared.{Answered.Answered, Wanted.{Wanted, TheVariants.{Call as WantedCall, Read as WantedRead}}, Looked.{Looked, TheVariants.{Done, Wants}}}, Conversation.turn_of, Answering.{Taken, conv, room_of, Answers, asked_in, Looks}}, proofs.{Claims.looked_served, Turns.{call_turned, turn_call}}}
 use Rattle.hosting.proofs.Host.{laid}
-use Rattle.sharing.specs.{declared.Carried.Carried, Words.{word_of, word_in, power_of, changed_at, call_word}, Carrying.{events_of, held_at, Requested}, Contracts.{RequestedOf, wanted_word, Changing, EditsIn, EditTurn}}
+use Rattle.sharing.specs.{declared.Carried.Carried, Words.{word_of, word_in, power_of, changed_at, call_word}, Carrying.{events_of, held_at, Requested}, Clauses.{RequestedOf, wanted_word, Changing, EditsIn, EditTurn}}
 use Rattle.sharing.proofs.Words.{power_only_reads, unkept, changed_journal, power_mid}
 use Rattle.standing_words.specs.Edits.{EditedIn}
 use Rattle.outcomes.specs.{declared.Outcome.Outcome, Outcomes.told_of}

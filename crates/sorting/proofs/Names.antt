@@ -3,7 +3,7 @@ pub use Rattle.basis.proofs.Prelude.{Bool, List, [], ◌++◌, ◌+◌, ◌-◌,
 pub use Rattle.orders.proofs.{Each.{Each, each_append}, Keys.numbers, Sorting.{each_after, each_sorted, in_order_first, in_order_sorted, in_order_tail, inserted_first, pass, pass_end, sorted_back, sorted_front, sorted_in_order, sorted_inside, sorted_length}}
 pub use borrow.{Author.Count.falls, Rule.Slice.PartMut.{put_mid, same_len_mid}}
 pub use lib.Seq.{length_front}
-pub use Rattle.sorting.specs.{Sorted.{sorted, is_in_order}, Contracts.Halves}
+pub use Rattle.sorting.specs.{Sorted.{sorted, is_in_order}, Clauses.Halves}
 unfoldable pub use Rattle.sorting.specs.Clauses.{takes_low}
 
 -- a test decided

@@ -4,7 +4,8 @@ use mathlib.Core.List.Memᴰ
 use Rattle.spell.specs.{declared.Spell.Spell, Listing.{stands, distinct}}
 
 pub neither : (a b : Bool) → a || b ≡ false → (a ≡ false) × (b ≡ false)
-neither a b = elim a [ true ↦ λ e. absurd (true≢false e) | false ↦ λ e. (refl, e) ]
+neither true b e = absurd (true≢false e)
+neither false b e = (refl, e)
 
 pub other_way : (a b : ℕ) → eqb a b ≡ false → eqb b a ≡ false
 other_way a b h = ne_eqb b a (λ e. eqb-false a b h (sym e))
@@ -14,13 +15,13 @@ pub alone : (x : Spell) (l : List Spell) → distinct (x ∷ l) ≡ true → (st
 alone x l h = unfold distinct in let p = both (not (stands l x.number)) (distinct l) h in (not-true _ p.0, p.1)
 
 -- the number of a spell of the list stands, and one that none of them has does not
-pub listed_stands : (l : List Spell) (x : Spell) → List-as-Memᴰ x l → stands l x.number ≡ true
+pub listed_stands : (x : Spell) (l : List Spell) → List-as-Memᴰ x l → stands l x.number ≡ true
 unfolding stands
-listed_stands l x (List·Memᴰ·head {x = y} e) = rw (eq-eqb y.number x.number (ap (λ (s : Spell). s.number) (sym e)))
-listed_stands l x (List·Memᴰ·tail {x = y} {xs = m} i) = by_test (eqb y.number x.number) (λ e. rw e) (λ e. rw e (listed_stands m x i))
+listed_stands x l (List·Memᴰ·head {x = y} e) = rw (eq-eqb y.number x.number (ap (λ (s : Spell). s.number) (sym e)))
+listed_stands x l (List·Memᴰ·tail {x = y} {xs = m} i) = by_test (eqb y.number x.number) (λ e. rw e) (λ e. rw e (listed_stands x m i))
 
 pub stands_none : (l : List Spell) (k : ℕ) → stands l k ≡ false → (x : Spell) → List-as-Memᴰ x l → x.number ≡ k → ⊥
-stands_none l k h x i e = clash (listed_stands l x i) (rw e h)
+stands_none l k h x i e = clash (listed_stands x l i) (rw e h)
 
 pub none_stands : (l : List Spell) (k : ℕ) → ((x : Spell) → List-as-Memᴰ x l → x.number ≡ k → ⊥) → stands l k ≡ false
 unfolding stands

@@ -1,7 +1,7 @@
 -- The steps of the days question, apart from the code. Assumes nothing.
 use Rattle.basis.proofs.Prelude.{◌∙◌, ◌≡◌, ap, sym, ◌*◌, ◌+◌, ◌-◌, ◌<◌, ◌≤◌, zero-le, ℕ, List, [], ◌++◌, ◌∷◌, append_assoc, append-nil, map, map-append, Bool, false, true, ltb, drop, drop_of_length-le, get_or, length, length-append, length-drop, length-map, take, take-append-drop, drop_at, drop-cons, length-take-le, take_all, take_at, add-one, arith, le-ltb, lt-ltb, ltb-true, both, not, not-false, not-true, length-take}
 use borrow.Rule.Slice.PartMut.{put_mid, post_of}
-use Rattle.stabbing.{specs.{Tree.{keep, fits_at, start, formula}, Index.{latest_table, Built, numbers, firsts, lasts}, Answer.{Reported, Gave, give, question, rising_from, contains_any, day_in, days_of, days_in}, Contracts.from}, specs.Stored.latest, specs.declared.Listed.Listed, proofs.Starts.latest_is, proofs.Steps.keep_room, proofs.Block.built_holds, proofs.Listing.lists, proofs.Days.{added, added_room, added_none, added_all, latest_none}}
+use Rattle.stabbing.{specs.{Tree.{keep, fits_at, start, formula}, Index.{latest_table, Built, numbers, firsts, lasts}, Answer.{Reported, Gave, give, question, rising_from, contains_any, day_in, days_of, days_in}, Clauses.from}, specs.Stored.latest, specs.declared.Listed.Listed, proofs.Starts.latest_is, proofs.Steps.keep_room, proofs.Block.built_holds, proofs.Listing.lists, proofs.Days.{added, added_room, added_none, added_all, latest_none}}
 use Rattle.buffer.{specs.Buffer.overlaid, proofs.Overlaid.overlaid_all}
 use Rattle.calendar.{specs.Calendar.{is_day, days_ok}, proofs.Calendar.dated}
 use Rattle.stabbing_query.{specs.Clauses.numbered, proofs.Answering.{give_all, give_none, on, refusal, keep_map, day_in_lem}}

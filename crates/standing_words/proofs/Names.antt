@@ -8,7 +8,7 @@ pub use Rattle.spell.specs.{Blank.blank, Order.earlier_of, declared.Spell.Spell}
 pub use Rattle.spell_places.{proofs.{Changing.{left_le, left_length}, Lists.{close_all, opened, remove_none}, Search.insert_at}, specs.{List.{counted_of, left_of, putting, without}, Search.{found_in, lead, place_of, stands_at}, declared.Located.Located}}
 pub use Rattle.standing.{proofs.{Packed.{array_long, array_of, entries_long, entry_near, journal_of, put_back, rejoined, spells_long, unpacked_assembled, with_array}, Plans.{applied, carried}}, specs.{Packed.{array_in, assembled, journal_in}, Standing.Wf, declared.{Edited.Edited, Standing.Standing}}}
 pub use Rattle.standing_list.proofs.Finding.{found_here, found_next, found_none, passes, place_end, place_here, place_next}
-pub use Rattle.standing_words.specs.{Contracts.{Exchanges, Holds, Notes, Planned, PutsIn, TakesOut, entries_of, spells_of}, Edits.{EditedIn, Laid}, Moves.{lowered, raised}}
+pub use Rattle.standing_words.specs.{Clauses.{Exchanges, Holds, Notes, Planned, PutsIn, TakesOut, entries_of, spells_of}, Edits.{EditedIn, Laid}, Moves.{lowered, raised}}
 pub use native.Mathlib.Nat.{add-mul, mul_comm}
 unfoldable pub use Rattle.packing.specs.Blocks.{parts, written}
 unfoldable pub use Rattle.spell_places.proofs.Lists.{closed, front}

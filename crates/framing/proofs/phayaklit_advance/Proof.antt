@@ -1,5 +1,5 @@
 -- `framing::phayaklit_advance` meets its contract: what `advance` answers, in one struct, or a refusal. Assumes nothing.
-use Rattle.framing.proofs.{Names.needs, Steps.{host_part, host_refused, host_whole}, phayaklit_advance.{Statement.statement, Tie.{close, spec}}}
+use Rattle.framing.proofs.{Names.rules, Steps.{host_part, host_refused, host_whole}, phayaklit_advance.{Statement.statement, Tie.{close, spec}}}
 
 pub phayaklit_advance_spec : {M : Type 1} → statement M
 phayaklit_advance_spec = close (spec

@@ -1,5 +1,5 @@
 -- `host_wire::call_word` meets its contract: a line for each call. Assumes nothing.
-use Rattle.host_wire.proofs.{Names.needs, call_word.{Statement.statement, Tie.{close, spec}}}
+use Rattle.host_wire.proofs.{Names.rules, call_word.{Statement.statement, Tie.{close, spec}}}
 
 pub call_word_spec : {M : Type 1} → statement M
 call_word_spec = close (spec

@@ -1,5 +1,5 @@
 -- `questions::ask` meets its contract: each question's own postcondition is that of `ask`. Assumes nothing.
-use Rattle.questions.proofs.{Names.needs, Asking.{as_question, as_any_days}, ask.{Statement.statement, Tie.{close, spec}}}
+use Rattle.questions.proofs.{Names.rules, Asking.{as_question, as_any_days}, ask.{Statement.statement, Tie.{close, spec}}}
 
 pub ask_spec : {M : Type 1} → statement M
 ask_spec = close (spec
