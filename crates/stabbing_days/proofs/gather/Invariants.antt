@@ -1,0 +1,10 @@
+use Rattle.basis.proofs.Prelude.{◌-◌, length, rules}
+use Rattle.stabbing_days.proofs.{Several.{Going, begins, ends, some_left, asks_day, begun_word, small, goes_on}}
+use Rattle.stabbing_days.proofs.gather.Given as goal
+
+abbrev pub invariant-loop-i : goal.invariant-loop-i
+invariant-loop-i l = Going l.index l.days l.fn.answer l.answer l.begun l.at l.i
+
+abbrev pub decreases-loop-i : goal.decreases-loop-i
+decreases-loop-i l = length l.days - l.i
+

@@ -1,0 +1,10 @@
+use Rattle.basis.proofs.Prelude.{refl, ◌-◌, zero-le, arith, rules}
+use Rattle.stabbing_days.proofs.{Skipping.{Halving, all_new, begins, old, new, ends}}
+use Rattle.stabbing_days.proofs.skip.Given as goal
+
+abbrev pub invariant-loop-lo : goal.invariant-loop-lo
+invariant-loop-lo l = Halving l.index l.found l.m l.lo l.hi
+
+abbrev pub decreases-loop-lo : goal.decreases-loop-lo
+decreases-loop-lo l = l.hi - l.lo
+

@@ -1,0 +1,7 @@
+-- `standing::fresh` meets its contract. Assumes nothing.
+use Rattle.basis.proofs.Prelude.{rules}
+use Rattle.standing.proofs.{Loading.fresh_is}
+use Rattle.standing.proofs.fresh.Goals as goal
+
+pub returns : goal.returns
+returns c = rw (c.blank-none.ensures, c.none-entry.ensures) fresh_is

@@ -1,0 +1,6 @@
+-- `standing::loaded` meets its contract. Assumes nothing.
+use Rattle.basis.proofs.Prelude.{rules}
+use Rattle.standing.proofs.loaded.Goals as goal
+
+pub returns : goal.returns
+returns c = rw c.fresh-empty.ensures.whole
