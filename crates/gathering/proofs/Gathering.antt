@@ -17,15 +17,11 @@ module _ (list : List ℕ) (n : ℕ) (from : List ℕ) (at : ℕ) where
 
   -- where there is, it is copied over as many places
   pub copied : {src part : List ℕ} {end : ℕ} → at ≤ length from → n ≤ length list → length from - at ≤ length list - n
-      → end ≡ n + (length from - at) → src ≡ take (length from - at) (drop at from)
-      → part ≡ take (length src) src ++ drop (length src) (mid_of n (end - n) list)
+      → end ≡ n + (length from - at) → src ≡ take (length from - at) (drop at from) → part ≡ src
       → Appended (drop at from) list n end (put_mid n (end - n) list part)
   copied {src} {part} {end} h k fits place same copy =
       let long = length-drop at from in
-      let text : src ≡ drop at from = rw same (take_all (length from - at) (drop at from) (omega arith)) in
-      let few = mid_len n end list (omega arith) in
-      let over = drop_of_length-le (mid_of n (end - n) list) {i = length src} (rw text (omega arith)) in
-      let whole : part ≡ drop at from = rw (copy, take-length src, over, append-nil) text in
+      let whole : part ≡ drop at from = rw (copy, same) (take_all (length from - at) (drop at from) (omega arith)) in
       rw (le-leb (n + length (drop at from)) (length list) (omega arith)) (record { place = omega arith; places = rw (whole, Post-is n end list (omega arith)) })
 
 module _ {text list : List ℕ} {n r : ℕ} {list' : List ℕ} (h : n ≤ length list) (a : Appends text list n r list') where

@@ -111,7 +111,7 @@ module _ (m : State) (unique : distinct m.published ≡ true) (sorted : ordered_
       answered (Cover k) (covers y) (λ x. (
         λ e. let s = (on x).0 e in (y, there, number, s.0, s.1),
         λ f.
-            let same = one_spell m.published unique f.0 y f.1 there (f.2 ∙ sym number) in
+            let same = one_spell f.0 y m.published unique f.1 there (f.2 ∙ sym number) in
             (on x).1 (rw same at f.3, rw same at f.4),
       )) lists
   answers Days r = answered Days (on_any q.days) (on_days q.days) (days_lists m q r)

@@ -110,7 +110,7 @@ module _ (m : State) (q : Request) where
 module _ (t : Spell → Bool) (p : List Spell) where
   -- LISTED are exactly the spells of the list that pass the test
   pub listed_exactly : (x : Spell) → List-as-Memᴰ x (filter t p) ↔ (List-as-Memᴰ x p × (t x ≡ true))
-  listed_exactly x = (filter_in t p x, λ i. in_filter t p x i.0 i.1)
+  listed_exactly x = (filter_in t p x, λ i. in_filter t x p i.0 i.1)
 
   -- in the order; the published list is in the order and has unique numbers in every state that calls lead to (`Runs.antt`)
   pub listed_ordered : ordered_by listed_before p ≡ true → ordered_by listed_before (filter t p) ≡ true

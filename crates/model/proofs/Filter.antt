@@ -14,11 +14,11 @@ module _ (t : Spell → Bool) where
       by_cases (λ (r : List Spell). List-as-Memᴰ x r → List-as-Memᴰ x (y ∷ l) × (t x ≡ true)) (t y)
       (λ e i. ⊎_elim (λ s. (List·Memᴰ·head s, ap t s ∙ e)) later (List·Memᴰ·cases-cons i)) (λ _. later) i
 
-  pub in_filter : (l : List Spell) (x : Spell) → List-as-Memᴰ x l → t x ≡ true → List-as-Memᴰ x (filter t l)
+  pub in_filter : (x : Spell) (l : List Spell) → List-as-Memᴰ x l → t x ≡ true → List-as-Memᴰ x (filter t l)
   unfolding filter
-  in_filter l x (List·Memᴰ·head {x = y} {xs = m} s) e = rw (rw s at e) (List·Memᴰ·head s)
-  in_filter l x (List·Memᴰ·tail {x = y} {xs = m} j) e =
-      let k = in_filter m x j e in by_test (t y) (λ f. rw f (List·Memᴰ·tail k)) (λ f. rw f k)
+  in_filter x l (List·Memᴰ·head {x = y} {xs = m} s) e = rw (rw s at e) (List·Memᴰ·head s)
+  in_filter x l (List·Memᴰ·tail {x = y} {xs = m} j) e =
+      let k = in_filter x m j e in by_test (t y) (λ f. rw f (List·Memᴰ·tail k)) (λ f. rw f k)
 
   -- ---- They are no more than the list has
 

@@ -62,7 +62,7 @@ module _ (P : Spell → Type 0) where
   after_kept : Cuts P → {m : State} → Kept P m → (qs : List Request) → ((q : Request) → List-as-Memᴰ q qs → Brings P q.call) → Kept P (after m qs)
   unfolding after
   after_kept cuts k [] b = k
-  after_kept cuts k (q ∷ qs) b = after_kept cuts (step_kept cuts q k (b q (List·Memᴰ·head refl))) qs (λ r i. b r (List·Memᴰ·tail i))
+  after_kept cuts {m = m} k (q ∷ qs) b = after_kept cuts {m = (step m q).state} (step_kept cuts q k (b q (List·Memᴰ·head refl))) qs (λ r i. b r (List·Memᴰ·tail i))
 
 -- ---- What is claimed of every list of calls
 
@@ -84,14 +84,14 @@ module _ {m₀ : State} (begin : Begun m₀) (calls : List Request) where
   pub always_idle : (q : Request) (s : Spell) → List-as-Memᴰ s (after m₀ calls).standing → step_of (Amend s) (after m₀ calls) q ≡ refuse accepted (after m₀ calls) q
   always_idle q s i =
       let o = always_kept.standing in
-      idle_keeps (after m₀ calls) q s (each_member Passes _ s o.each i) (idle_itself _ o.unique s i)
+      idle_keeps (after m₀ calls) q s (each_member Passes _ s o.each i) (idle_itself s _ o.unique i)
 
   -- and no other is idle, where each spell that a call brings is sound
   pub always_real : ((q : Request) → List-as-Memᴰ q calls → Brings Sound q.call)
       → (s : Spell) → Sound s → idle (after m₀ calls).standing s ≡ true ↔ List-as-Memᴰ s (after m₀ calls).standing
   always_real b s sound =
       let o = (always_sound b).standing in
-      (idle_member _ (each_map Sound (λ x. HeldUrgency x.urgency) (λ x g. g.held) _ o.each) s sound.held, idle_itself _ o.unique s)
+      (idle_member _ (each_map Sound (λ x. HeldUrgency x.urgency) (λ x g. g.held) _ o.each) s sound.held, idle_itself s _ o.unique)
 
   -- EACH ONCE, IN THE ORDER: an accepted question's answer is the numbers of the published spells that fit, each once, in the order, and
   -- their count

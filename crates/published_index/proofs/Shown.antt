@@ -109,21 +109,21 @@ module _ (l : List Spell) (sound : Each Sound l) (unique : distinct l ≡ true)
   abbrev n : ℕ
   n = length l
 
-  keys_are : (p : ℕ) → p < n → get_or (row_keys cs' fs' ls' n) p 0 ≡ row_key (row (l p).first) (row (l p).last) (row (l p).candidate)
+  keys_are : (p : ℕ) → p < n → get_or (row_keys cs' fs' ls' n) p 0 ≡ row_key ((row l p).first) ((row l p).last) ((row l p).candidate)
   keys_are p h =
       map_at (key_at cs' fs' ls') (positions 0 n) p 0 0 (omega (arith, positions_length 0 n)) ∙ rw (positions_at 0 n p h, zero-add p)
       (rw (holds _ l _ laid.first p h, holds _ l _ laid.last p h, holds _ l _ laid.candidate p h))
 
   -- last day and candidate have 16 bits
-  short : (p : ℕ) → p < n → (row (l p).last < 65536) × (row (l p).candidate < 65536)
+  short : (p : ℕ) → p < n → ((row l p).last < 65536) × ((row l p).candidate < 65536)
   short p h =
       let s = each_member Sound l (row l p) sound (in_at l p h) in
       (omega (arith, (entered (row l p) s.entered).last_day_fits), omega (arith, s.named))
 
   -- two spells of one number are one
-  by_number : (p q : ℕ) → p < n → q < n → by_minor ns' p q ≡ cond (eqb (row (l p).number) (row (l q).number)) false (ltb (row (l p).number) (row (l q).number))
+  by_number : (p q : ℕ) → p < n → q < n → by_minor ns' p q ≡ cond (eqb ((row l p).number) ((row l q).number)) false (ltb ((row l p).number) ((row l q).number))
   by_number p q h k = by_place ns' p q ∙ rw (holds _ l _ laid.number p h, holds _ l _ laid.number q k)
-      (by_test (eqb (row (l p).number) (row (l q).number)) (λ e. rw e (le-ltb p q (
+      (by_test (eqb ((row l p).number) ((row l q).number)) (λ e. rw e (le-ltb p q (
       let no : p < q → ⊥ = λ lt. differ l unique q p lt k (eqb-true _ _ e) in omega arith))) (λ e. rw e))
 
   agree : (p q : ℕ) → p < n → q < n → by_both (row_keys cs' fs' ls' n) ns' p q ≡ listed_before (row l p) (row l q)

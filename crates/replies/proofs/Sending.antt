@@ -25,12 +25,9 @@ sends_bytes p = (sends_put p).written
 
 -- a text copied into the places before `at`
 pub put_copied : (out text : List ℕ) (at : ℕ) → length text ≤ at → at ≤ length out → (part : List ℕ)
-    → part ≡ take (length text) text ++ drop (length text) (mid_of (at - length text) (at - (at - length text)) out)
+    → part ≡ text
     → Puts (length text) (bytes_text text) out at (at - length text) (put_mid (at - length text) (at - (at - length text)) out part)
-put_copied out text at h k part e =
-    let few = mid_len (at - length text) at out (omega arith) in
-    let over = drop_of_length-le (mid_of (at - length text) (at - (at - length text)) out) {i = length text} (omega arith) in
-    let whole : part ≡ text = rw (e, take-length text, over) (append-nil text) in
+put_copied out text at h k part whole =
     let same : at - length text ≡ length out - length (text ++ drop at out) = omega (arith, length-append text (drop at out), length-drop at out) in
     let room = le-leb (length text) at h in
     let fits = le-leb at (length out) k in

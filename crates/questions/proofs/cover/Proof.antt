@@ -4,7 +4,7 @@ use Rattle.questions.proofs.{Names.{◌∙◌, ◌≡◌, refl, sym, ◌<◌, su
 -- the first spell of the number k, or none
 cover_hit : (p : List Spell) (k : ℕ) → distinct p ≡ true → (x : Spell) → List-as-Memᴰ x p → x.number ≡ k → cover k p p ≡ reaching x.first x.last p
 cover_hit p k d x i e = cover_does (λ r. r ≡ reaching x.first x.last p) p k p
-    (λ none. absurd (stands_none p k none x i e)) (λ y j f. rw (one_spell p d y x j i (f ∙ sym e)))
+    (λ none. absurd (stands_none p k none x i e)) (λ y j f. rw (one_spell y x p d j i (f ∙ sym e)))
 
 cover_miss : (p : List Spell) (k : ℕ) (l : List Spell) → ((j : ℕ) → j < length l → (get_or l j blank).number ≡ k → ⊥) → cover k l p ≡ refused unknown_number
 unfolding cover

@@ -1,0 +1,10 @@
+use Rattle.basis.proofs.Prelude.{◌-◌, ◌≤◌, take, arith, rules}
+use Rattle.packing.proofs.{Blocks.{put_done, put_long, put_more, put_nothing, put_short}, Names.{PutAll, mul_comm, spell_of, spell_words}, Words.spell_long}
+use Rattle.packing.proofs.put_spells.Given as goal
+
+abbrev pub invariant-loop-i : goal.invariant-loop-i
+invariant-loop-i l = (l.i ≤ 1024) × PutAll spell_words spell_of (take l.i l.spells) l.fn.out l.out
+
+abbrev pub decreases-loop-i : goal.decreases-loop-i
+decreases-loop-i l = 1024 - l.i
+

@@ -1,8 +1,0 @@
--- `reply_lines::put_refused` meets its contract. Assumes nothing.
-use Rattle.basis.proofs.Prelude.{rules}
-use Rattle.replies.{specs.Replies.refused_text, proofs.Sending.placing}
-use Rattle.reply_lines.proofs.put_refused.{Statement.statement, Tie.{close, spec}}
-
-pub put_refused_spec : {M : Type 1} → statement M
-unfolding refused_text
-put_refused_spec = close (spec (λ c κs. search rules) (λ c. search rules) (λ c κs. search rules) (λ c. search placing depth 8))

@@ -1,0 +1,6 @@
+-- `standing_journal::none` meets its contract. Assumes nothing.
+use Rattle.basis.proofs.Prelude.{rules}
+use Rattle.standing_journal.proofs.none.Goals as goal
+
+pub returns : goal.returns
+returns c = rw c.blank.ensures
