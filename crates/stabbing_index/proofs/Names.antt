@@ -4,5 +4,3 @@ pub use Rattle.stabbing.{proofs.{Columns.{column_at, column_length, column_only}
 unfoldable pub use Rattle.stabbing.specs.{Index.{block_of, column, in_bucket, laid, rows_after}, Stored.{latest}, Tree.{below, child, head, last_child, left_sibling, next, parent, start}}
 pub use Rattle.stabbing_index.specs.{Clauses.{AdvanceAt, Chained, ClimbAt, Climbed, Under, lasts_to, Columns, ColumnsOf, DayAt, Dayed, DaysAsks, DaysAt, Extends, Grown, HeadAt, Linked, Named, RowsOf, beside, head_at, lower_word, mark_words, name_words}, declared.Way.Way}
 unfoldable pub use Rattle.stabbing_index.specs.Clauses.{day_words, link_words}
-pub use borrow.Fn.PlainCycle.{Measures, is, falls, and}
-pub use Rattle.stabbing_words.proofs.to_usize.Reads.{Asked, Learnt}

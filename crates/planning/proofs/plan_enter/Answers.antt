@@ -1,0 +1,10 @@
+-- `planning::plan_enter` meets its contract. Assumes nothing.
+use Rattle.basis.proofs.Prelude.{rules}
+use Rattle.planning.proofs.{Checks.{untaken, taken, entered, refused, passed}}
+use Rattle.planning.proofs.plan_enter.Goals as goal
+
+pub returns-then-refusal-ne-ACCEPTED : goal.returns-then-refusal-ne-ACCEPTED
+returns-then-refusal-ne-ACCEPTED c = (search (refused, entered, c.if-refusal-ne-ACCEPTED.true), untaken c.unplanned.ensures c.if-refusal-ne-ACCEPTED.true)
+
+pub returns : goal.returns
+returns c = (search (passed, entered), λ e. search taken)
