@@ -5,7 +5,7 @@ use Rattle.stabbing_query.proofs.cover.Goals as goal
 
 pub returns-then-m-eq0 : goal.returns-then-m-eq0
 returns-then-m-eq0 c = unfold cover_of covering in refusal {n = 7}
-    (rw (sym c.find-m.ensures.0 ∙ c.if-m-eq0.true)) c.refuse.ensures
+    (rw (sym c.find-m.ensures.value ∙ c.if-m-eq0.true)) c.refuse.ensures
 
 pub overflow_add-first : goal.overflow_add-first
 overflow_add-first c = search (first_word, rules)
@@ -17,7 +17,7 @@ pub bounds-index-first : goal.bounds-index-first
 bounds-index-first c = search (first_word, rules)
 
 pub answer-requires : goal.answer-requires
-answer-requires c = cover_asks _ _ c.find-m.ensures.0 (search) (search) c.to-usize.ensures.0 c.to-usize2.ensures.0
+answer-requires c = cover_asks _ _ c.find-m.ensures.value (search) (search) c.to_usize-first.ensures.value c.to_usize.ensures.value
 
 pub returns : goal.returns
-returns c = cover_gives _ _ c.find-m.ensures.0 (search) (search) c.to-usize.ensures.0 c.to-usize2.ensures.0 _ c.answer.ensures c.decode.ensures
+returns c = cover_gives _ _ c.find-m.ensures.value (search) (search) c.to_usize-first.ensures.value c.to_usize.ensures.value _ c.answer.ensures c.decode.ensures
