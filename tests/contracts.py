@@ -140,31 +140,31 @@ def listing() -> str:
 
 SHAPES = '''
 pub fn plain(a: u16) -> bool { true }
-fn own() requires { ⌜ no ⌝ } { }
+fn own() requires { no } { }
 // pub fn in_a_comment() {}
 pub fn long(
     a: &[u8; 4], // the bytes; pub fn not_this()
     b: u8,
 ) -> [u16; 3]
-    requires named { ⌜ f record { a = 1 } ⌝ }
-    ensures { λ r. ⌜ requires ⌝ }
-    requires { ⌜ x
-        ≤ 3 ⌝ }
+    requires named { f record { a = 1 } }
+    ensures { result.requires }
+    requires small { x
+        ≤ 3 }
 {
     let s = b"pub fn inside() { \\" {";
 }
-#[no_mangle]
+#[unsafe(no_mangle)]
 pub extern "C" fn exported(n: usize)
-    ensures { ⌜ a ⌝ }
+    ensures { a }
 { }
-impl Pair { pub fn swap(self) -> Pair requires { ⌜ y ⌝ } { self } }
+impl Pair { pub fn swap(self) -> Pair requires { y } { self } }
 '''
 
 READ = [
     "m::plain\n    pub fn plain(a: u16) -> bool\n",
-    "m::long\n    pub fn long(a: &[u8; 4], b: u8) -> [u16; 3]\n    requires named { ⌜ f record { a = 1 } ⌝ }\n    requires { ⌜ x ≤ 3 ⌝ }\n",
+    "m::long\n    pub fn long(a: &[u8; 4], b: u8) -> [u16; 3]\n    requires named { f record { a = 1 } }\n    requires small { x ≤ 3 }\n",
     'm::exported\n    pub extern "C" fn exported(n: usize)\n',
-    "m::swap\n    pub fn swap(self) -> Pair\n    requires { ⌜ y ⌝ }\n",
+    "m::swap\n    pub fn swap(self) -> Pair\n    requires { y }\n",
 ]
 
 

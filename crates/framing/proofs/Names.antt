@@ -4,4 +4,4 @@ pub use Rattle.framing.specs.{Clauses.{PlaceIn, Puts, TakesLine, TakesText, take
 pub use Rattle.streams.specs.{Advancing.{Advances, HostAdvances, Kept, Progress, advanced_of, after, done, going, line_in, partial_of, progress_of, ready, refused_frame, sent_of}, Stream.{Partial, in_line}, declared.{Advanced.Advanced, Frame.Frame, Framed.{Framed, TheVariants.{Part, Whole}}}}
 unfoldable pub use Rattle.streams.specs.{Advancing.{next, part_of, through}, Stream.{feed, kept, line_fed, settled, wants}}
 pub use contract.Lifetimes.{Lfts}
-pub use denote.Ref.{Bor, MutBor}
+pub use denote.Ref.{Bor}

@@ -178,9 +178,8 @@ fn refused() -> Advanced
     }
 }
 
-// `advance` for a host. The frame of a request of which nothing has come is all zeros.
-#[unsafe(no_mangle)]
-pub extern "C" fn phayaklit_advance(
+// `advance` for a host, as `framing_c` exports it. The frame of a request of which nothing has come is all zeros.
+pub fn phayaklit_advance(
     frame: Frame,
     arrived: &[u8],
     from: usize,

@@ -4,4 +4,4 @@ pub use Rattle.service.{proofs.Tied.Is, specs.{Packed.unpacked, Service.{Given, 
 pub use Rattle.sharing.{proofs.{Carrying.{change_none, change_packed, changed_requested, done_requested, edit_carried, edit_turned, edits_requested, held_requested, lent, no_edit, unpacked_given, wanted_below, wanted_requested}, Words.{changed_no, changed_yes}}, specs.{Carrying.Requested, declared.Carried.Carried}}
 unfoldable pub use Rattle.sharing.specs.Words.{changed_at, power_of}
 pub use contract.Lifetimes.{Lfts}
-pub use denote.Ref.{Bor, MutBor}
+pub use denote.Ref.{Bor}

@@ -2,6 +2,7 @@
 -- Assumes nothing.
 use Rattle.basis.proofs.Prelude.{◌≡◌, refl, ℕ, List, []}
 use contract.Lifetimes.{Lfts}
+use denote.MutBor.{MutBor}
 use denote.Ref.{Bor}
 use Rattle.register.specs.Text.{read_text}
 use Rattle.model.specs.{declared.{Call.{Call, TheVariants.{Enter, Amend, Strike, TakeBack, Publish, Write, Ask}}, Question.{Question, TheVariants.{Day, Span, Cover, Days, Mask}}}, Model.{fresh, begun}}
@@ -13,7 +14,7 @@ use Rattle.phayaklit.proofs as calls
 
 -- ---- The beginning
 
-module _ (κs : Lfts 2) (words words' index index' : Bor (List ℕ)) (u : Unit {0}) where
+module _ (κs : Lfts 2) (words words' index index' : MutBor (List ℕ)) (u : Unit {0}) where
   pub fresh_is : Is (calls.phayaklit_fresh.Reads.Pre κs) (calls.phayaklit_fresh.Reads.Post κs) (words, (index, tt)) u (words', (index', tt))
       (Unit {0}) (Represents (unpacked words'.now) (blocks index'.now) fresh × (Laid words'.now × (words'.now ≡ packed fresh_service)))
   fresh_is = (refl, refl)
@@ -21,7 +22,7 @@ module _ (κs : Lfts 2) (words words' index index' : Bor (List ℕ)) (u : Unit {
   pub fresh_opens : calls.phayaklit_fresh.Reads.Post κs (words, (index, tt)) u (words', (index', tt)) → Opens words'.now (blocks index'.now) fresh
   fresh_opens f = (f.0, f.1.0)
 
-module _ (κs : Lfts 3) (text words words' index index' : Bor (List ℕ)) (r : Opened) where
+module _ (κs : Lfts 3) (text : Bor (List ℕ)) (words words' index index' : MutBor (List ℕ)) (r : Opened) where
   pub read_is : Is (calls.phayaklit_read.Reads.Pre κs) (calls.phayaklit_read.Reads.Post κs) (text, (words, (index, tt))) r (text, (words', (index', tt)))
       (Unit {0}) (Begins (read_text text.now) (started_of words'.now r) (blocks index'.now) × Laid words'.now)
   read_is = (refl, refl)
@@ -32,7 +33,7 @@ module _ (κs : Lfts 3) (text words words' index index' : Bor (List ℕ)) (r : O
 
 -- ---- Edits
 
-module _ (κs : Lfts 1) (words words' : Bor (List ℕ)) (r : Reply) (bs : Blocks) (days numbers text : List ℕ) where
+module _ (κs : Lfts 1) (words words' : MutBor (List ℕ)) (r : Reply) (bs : Blocks) (days numbers text : List ℕ) where
   -- a contract gives an edit by the call c
   abbrev pub Edits : {A B : Type 0} → (A → Type 0) → (A → Reply → B → Type 0) → A → B → Call → Type 1
   Edits pre post a b c = Ties pre post a r b (Held words.now) (Called words.now bs (asking c days numbers text) r words'.now bs numbers text)
@@ -52,18 +53,18 @@ module _ (κs : Lfts 1) (words words' : Bor (List ℕ)) (r : Reply) (bs : Blocks
 -- ---- Publish and writing
 
 module _ (κs : Lfts 2) (words : Bor (List ℕ)) (r : Reply) (days numbers : List ℕ) where
-  pub publish_called : (text : List ℕ) (rule : ℕ) (index index' : Bor (List ℕ))
+  pub publish_called : (text : List ℕ) (rule : ℕ) (index index' : MutBor (List ℕ))
       → Ties (calls.phayaklit_publish.Reads.Pre κs) (calls.phayaklit_publish.Reads.Post κs) (words, (rule, (index, tt))) r (words, (rule, (index', tt)))
       (Held words.now) (Called words.now (blocks index.now) (asking (Publish rule) days numbers text) r words.now (blocks index'.now) numbers text)
   publish_called text rule index index' = (refl, published rule r)
 
-  pub write_called : (bs : Blocks) (text text' : Bor (List ℕ)) → Ties (calls.phayaklit_write.Reads.Pre κs) (calls.phayaklit_write.Reads.Post κs) (words, (text, tt)) r (words, (text', tt))
+  pub write_called : (bs : Blocks) (text text' : MutBor (List ℕ)) → Ties (calls.phayaklit_write.Reads.Pre κs) (calls.phayaklit_write.Reads.Post κs) (words, (text, tt)) r (words, (text', tt))
       (Held words.now) (Called words.now bs (asking Write days numbers text.now) r words.now bs numbers text'.now)
   write_called bs text text' = (refl, wrote r)
 
 -- ---- Questions
 
-module _ (index numbers numbers' : Bor (List ℕ)) (r : Reply) (words text : List ℕ) where
+module _ (index : Bor (List ℕ)) (numbers numbers' : MutBor (List ℕ)) (r : Reply) (words text : List ℕ) where
   -- a contract gives an answer to the question w, with the days of a days question
   abbrev pub Answers : {A B : Type 0} → (A → Type 0) → (A → Reply → B → Type 0) → A → B → Question → List ℕ → Type 1
   Answers pre post a b w days =
@@ -87,7 +88,7 @@ module _ (index numbers numbers' : Bor (List ℕ)) (r : Reply) (words text : Lis
 
 -- ---- A second index, and the version
 
-pub fresh_index_is : (κs : Lfts 1) (index index' : Bor (List ℕ)) (u : Unit {0})
+pub fresh_index_is : (κs : Lfts 1) (index index' : MutBor (List ℕ)) (u : Unit {0})
     → Is (calls.phayaklit_fresh_index.Reads.Pre κs) (calls.phayaklit_fresh_index.Reads.Post κs) (index, tt) u (index', tt) (Unit {0}) (index'.now ≡ index_of [])
 fresh_index_is κs index index' u = (refl, refl)
 

@@ -3,4 +3,4 @@ use Rattle.framing.proofs.{Names.{arith, length-take-le, rules, sym, wants}, tex
 
 pub text_length_spec : {M : Type 1} → statement M
 unfolding wants
-text_length_spec = close (spec (λ c. sym (search (length-take-le, arith))) (λ c κs. search rules) (λ c. c.text-length.ensures 32768))
+text_length_spec = close (spec (λ c. sym (search (length-take-le, arith))) (λ c κs. search rules) (λ c. c.text_length.ensures 32768))

@@ -6,4 +6,4 @@ call_word_spec = close (spec
     (λ c. search rules) (λ c. search rules) (λ c. search rules) (λ c. search rules) (λ c. search rules) (λ c. search rules) (λ c. search rules)
     (λ c κs. search rules) (λ c. search rules) (λ c. search rules) (λ c. search rules) (λ c. search rules) (λ c. search rules) (λ c. search rules)
     -- a question
-    (λ c. rw c.before.before.call.given.1 c.question-word.ensures))
+    (λ c. rw c.before.before.call.given.1 c.question_word.ensures))
