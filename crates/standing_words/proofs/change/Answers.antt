@@ -1,0 +1,10 @@
+-- `standing_words::change` meets its contract. Assumes nothing.
+use Rattle.basis.proofs.Prelude.{arith, rules}
+use Rattle.standing_words.proofs.{Changing.{changes, left_in}}
+use Rattle.standing_words.proofs.change.Goals as goal
+
+pub put_in-requires : goal.put_in-requires
+put_in-requires c = (search left_in, omega (arith, c.take_out.ensures.long))
+
+pub returns : goal.returns
+returns c = search changes

@@ -1,0 +1,16 @@
+-- `standing_words::place` meets its contract: i spells are passed, and s goes i and what the rest says further. Assumes nothing.
+use Rattle.basis.proofs.Prelude.{◌≡◌, sym, ◌+◌, ◌-◌, ◌≤◌, drop, take, zero-add, arith, rules, not-false, not-true}
+use Rattle.standing_words.proofs.{Names.{earlier_of, lead, place_end, place_here, place_next, place_of, spells_of}, Reading.{places, spell_is}}
+use Rattle.standing_words.proofs.place.Goals as goal
+
+pub loop-i-init : goal.loop-i-init
+loop-i-init c = (omega arith, sym (zero-add _))
+
+pub returns-then-not-earlier : goal.returns-then-not-earlier
+returns-then-not-earlier c = (search (place_here, places, spell_is, not-true), omega arith)
+
+pub loop-i-preserved : goal.loop-i-preserved
+loop-i-preserved c = (omega arith, search (place_next, places, spell_is, not-false))
+
+pub returns : goal.returns
+returns c = (search (place_end, places), omega arith)
