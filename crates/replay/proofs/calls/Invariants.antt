@@ -6,4 +6,3 @@ invariant-loop-made l = Going l.initial.s (blocks l.fn.index) l.codes l.days l.f
 
 abbrev pub decreases-loop-made : goal.decreases-loop-made
 decreases-loop-made l = l.whole - l.made
-
