@@ -1,25 +1,37 @@
 // Requests taken from standard input as they arrive, and answers gathered for standard output.
+#![tactic(auto)]
+
 ghost use Rattle.std.specs.Prelude.{◌≡◌, ◌≤◌, length, take, drop};
 ghost use Rattle.streams.specs.Advancing.{Advances};
 ghost use Rattle.serving.specs.Serving.{Gathers, Takes};
 
 use input::Input;
-use libc::{STDIN_FILENO, STDOUT_FILENO};
 use serving::{ARRIVED, Gathered, Incoming};
 use streams::{Frame, Framed, LINE, TEXT};
 
 // ---- Output: answers are gathered, and written together before a read that may wait
 
 // Writes the first n bytes of what is gathered; false where that can't be done, which is told.
-fn write_first(gathered: &[u8], n: usize) -> bool {
+fn write_first(rt: &HostRuntime, gathered: &[u8], n: usize) -> bool {
     if gathered.len() < n {
         return false;
     }
-    output::write(STDOUT_FILENO, &gathered[0..n], b"serve: standard output")
+    output::write(
+        &rt.stdout(),
+        &gathered[0..n],
+        &rt.stderr(),
+        b"serve: standard output",
+    )
 }
 
 // Puts the answer that ends `out` after those that are gathered, which are written first where there is no room for it.
-pub fn gather(gathered: &mut [u8], held: usize, out: &[u8], place: usize) -> Gathered
+pub fn gather(
+    rt: &HostRuntime,
+    gathered: &mut [u8],
+    held: usize,
+    out: &[u8],
+    place: usize,
+) -> Gathered
     ensures { Gathers (drop place out.now) gathered.old held result gathered.new }
 {
     let n = gathering::append(gathered, held, out, place);
@@ -29,7 +41,7 @@ pub fn gather(gathered: &mut [u8], held: usize, out: &[u8], place: usize) -> Gat
             open: true,
         };
     }
-    if !write_first(gathered, held) {
+    if !write_first(rt, gathered, held) {
         return Gathered {
             held: 0,
             open: false,
@@ -46,17 +58,17 @@ pub fn gather(gathered: &mut [u8], held: usize, out: &[u8], place: usize) -> Gat
 
 // Waits for input, once the first `held` bytes of what is gathered are written: how many bytes have arrived, none where it has ended, can't
 // be read or nothing can be written, which is told.
-fn wait(arrived: &mut [u8], gathered: &[u8], held: usize) -> usize
+fn wait(rt: &HostRuntime, arrived: &mut [u8], gathered: &[u8], held: usize) -> usize
     ensures { result ≤ length arrived.old }
 {
-    if !write_first(gathered, held) {
+    if !write_first(rt, gathered, held) {
         return 0;
     }
-    let got = input::await_some(STDIN_FILENO, arrived);
+    let got = input::await_some(&mut rt.stdin(), arrived);
     match got {
         Input::Read(n) => n,
-        Input::Failed => {
-            os::fail(b"serve: standard input");
+        Input::Failed(error) => {
+            output::tell(&rt.stderr(), b"serve: standard input", &error);
             0
         }
     }
@@ -90,6 +102,7 @@ fn within(arrived: &[u8], end: usize) -> usize
 // Takes the next request, as soon as all of it has arrived: of the bytes from `start` to `end`, or to the list's end where that comes first, and of those that are read after them. What is gathered is written before a read. A proved loop has to end, so its turns are counted down, from a number
 // that no request uses up.
 pub fn next(
+    rt: &HostRuntime,
     arrived: &mut [u8; ARRIVED],
     start: usize,
     end: usize,
@@ -123,7 +136,7 @@ pub fn next(
             }
         }
         at = 0;
-        to = wait(arrived, gathered, unsent);
+        to = wait(rt, arrived, gathered, unsent);
         unsent = 0;
         if to == 0 {
             turns = 0;

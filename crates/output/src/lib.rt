@@ -1,35 +1,78 @@
-// Writing all of a list to a descriptor. What fails is told on standard error.
-use libc::STDERR_FILENO;
+// Writing all of a list. What fails is told on standard error.
+#![tactic(auto)]
+
+ghost use Rattle.std.specs.Prelude.{◌≤◌, length};
+
+use arrayvec::ArrayString;
+use std::fmt::Write;
+use std::io;
+use std::io::Print;
+
+// The places of a list for what the system says of a failure, with its number.
+const WORDS: usize = 256;
+
+// What stands before the number that the library puts after the system's words.
+const NUMBER: &str = " (os error ";
+
+// ---- What is told
+
+// Says so on standard error. What can't be said there can't be told of either.
+pub fn say<E: Print>(to: &E, bytes: &[u8]) {
+    let _ = to.write_all(bytes);
+}
+
+// How long the system's words are, before the number.
+fn words(text: &str) -> usize
+    ensures { result ≤ length text.now }
+{
+    match text.rfind(NUMBER) {
+        Some(at) => at,
+        None => text.len(),
+    }
+}
+
+// Says what failed, as the caller names it, and why, in the system's words.
+pub fn tell<E: Print>(to: &E, name: &[u8], error: &io::Error) {
+    let mut text = ArrayString::<WORDS>::new();
+    let _ = write!(text, "{error}");
+    let end = words(&text);
+    say(to, name);
+    say(to, b": ");
+    say(to, &text.as_bytes()[..end]);
+    say(to, b"\n");
+}
 
 // Says that `name` takes no more.
-fn tell_stuck(name: &[u8]) {
-    io::write_all(STDERR_FILENO, name);
-    io::write_all(STDERR_FILENO, b": a write took nothing\n");
+fn tell_stuck<E: Print>(to: &E, name: &[u8]) {
+    say(to, name);
+    say(to, b": a write took nothing\n");
 }
+
+// ---- What is written
 
 // Writes all bytes; false where that fails, which is told under `name`. A write that takes a part is followed by one of the rest. A
 // proved loop has to end, so its turns are counted down, from a number that no output uses up.
-pub fn write(fd: i32, bytes: &[u8], name: &[u8]) -> bool {
+pub fn write<P: Print, E: Print>(to: &P, bytes: &[u8], failures: &E, name: &[u8]) -> bool {
     let mut done = 0;
     let mut turns = u64::MAX;
     while turns > 0 && done < bytes.len() {
-        let got = libc::write(fd, &bytes[done..]);
-        if got < 0 {
-            if !retry::again() {
-                os::fail(name);
-                return false;
+        match to.write_some(&bytes[done..]) {
+            Ok(0) => turns = 0,
+            Ok(more) => {
+                done += more;
+                turns -= 1;
             }
-        }
-        let more = io::count(got, &bytes[done..]);
-        done += more;
-        if got == 0 {
-            turns = 0;
-        } else {
-            turns -= 1;
+            Err(error) => {
+                if !retry::again(&error) {
+                    tell(failures, name, &error);
+                    return false;
+                }
+                turns -= 1;
+            }
         }
     }
     if done < bytes.len() {
-        tell_stuck(name);
+        tell_stuck(failures, name);
         return false;
     }
     true

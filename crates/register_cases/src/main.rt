@@ -4,15 +4,27 @@
 // into a list of just its length, of one place less, and of 40,000 places: the refusal's number, the length, and whether
 // the list then begins with the text and holds what it held in every place after it (same), holds what it held in every
 // place (kept), or neither (differs).
-use libc::{STDIN_FILENO, STDOUT_FILENO};
+#![tactic(auto)]
+
+ghost use Rattle.std.specs.Prelude.{◌≤◌, length};
+
 use spell::{Spell, Urgency};
+use std::io::Read;
 
 // What every place of a list holds before it is lent.
 const FILL: u8 = 7;
 
-fn next_number(n: u64) {
-    io::write_all(STDOUT_FILENO, b" ");
-    io::print_decimal(STDOUT_FILENO, n);
+fn print(rt: &HostRuntime, text: &[u8]) {
+    let _ = rt.write_all(text);
+}
+
+fn number(rt: &HostRuntime, n: u64) {
+    let _ = print!(rt; "{n}");
+}
+
+fn next_number(rt: &HostRuntime, n: u64) {
+    print(rt, b" ");
+    number(rt, n);
 }
 
 // Whether the list begins with the text and holds FILL in every place after it.
@@ -34,46 +46,53 @@ fn begins(list: &[u8], text: &[u8]) -> bool {
 }
 
 // Writes the spells into the first `room` places of the list.
-fn write_into(spells: [Spell; 1024], count: usize, list: &mut [u8], room: usize, text: &[u8]) {
+fn write_into(
+    rt: &HostRuntime,
+    spells: [Spell; 1024],
+    count: usize,
+    list: &mut [u8],
+    room: usize,
+    text: &[u8],
+) {
     if list.len() < room {
         return;
     }
     let w = register_write::write(spells, count, &mut list[0..room]);
-    io::write_all(STDOUT_FILENO, b" |");
-    next_number(w.refusal as u64);
-    next_number(w.length as u64);
+    print(rt, b" |");
+    next_number(rt, w.refusal as u64);
+    next_number(rt, w.length as u64);
     if begins(list, text) {
-        io::write_all(STDOUT_FILENO, b" same");
+        print(rt, b" same");
         return;
     }
     if begins(list, b"") {
-        io::write_all(STDOUT_FILENO, b" kept");
+        print(rt, b" kept");
         return;
     }
-    io::write_all(STDOUT_FILENO, b" differs");
+    print(rt, b" differs");
 }
 
-fn write(spells: [Spell; 1024], count: usize, room: usize, text: &[u8]) {
+fn write(rt: &HostRuntime, spells: [Spell; 1024], count: usize, room: usize, text: &[u8]) {
     let mut list = [FILL; 40000];
-    write_into(spells, count, &mut list, room, text);
+    write_into(rt, spells, count, &mut list, room, text);
 }
 
-fn show(text: &[u8]) {
+fn show(rt: &HostRuntime, text: &[u8]) {
     let r = register_read::read(text);
     let count = r.count;
-    io::print_decimal(STDOUT_FILENO, r.refusal as u64);
-    next_number(r.line as u64);
-    next_number(count as u64);
+    number(rt, r.refusal as u64);
+    next_number(rt, r.line as u64);
+    next_number(rt, count as u64);
     if r.refusal == 0 {
         let spells = r.spells;
         let n = text.len();
-        write(spells, count, n, text);
+        write(rt, spells, count, n, text);
         if 0 < n {
-            write(spells, count, n - 1, text);
+            write(rt, spells, count, n - 1, text);
         }
-        write(spells, count, 40000, text);
+        write(rt, spells, count, 40000, text);
     }
-    io::write_all(STDOUT_FILENO, b"\n");
+    print(rt, b"\n");
 }
 
 // 1,024 spells, numbered 1 upward, all of day 2.
@@ -97,50 +116,50 @@ fn many() -> [Spell; 1024] {
 }
 
 // Shows a text of 1,024 lines with those bytes after it.
-fn after(tail: &[u8]) {
+fn after(rt: &HostRuntime, tail: &[u8]) {
     let mut text = [0u8; 40000];
     let w = register_write::write(many(), 1024, &mut text);
     let end = gathering::append(&mut text, w.length, tail, 0);
     if end <= 40000 {
-        show(&text[0..end]);
+        show(rt, &text[0..end]);
     }
 }
 
 // Shows a text of 65,536 bytes, and one of a byte more.
-fn long(text: &[u8]) {
+fn long(rt: &HostRuntime, text: &[u8]) {
     if 65536 <= text.len() {
-        show(&text[0..65536]);
+        show(rt, &text[0..65536]);
     }
-    show(text);
+    show(rt, text);
 }
 
 // The length of a text: digits alone, and after 1,024 lines.
-fn lengths() {
-    io::write_all(
-        STDOUT_FILENO,
+fn lengths(rt: &HostRuntime) {
+    print(
+        rt,
         b"# the length of a text, checked before any line: digits alone, and after 1,024 lines\n",
     );
     let mut text = [48u8; 65537];
-    long(&text);
+    long(rt, &text);
     register_write::write(many(), 1024, &mut text);
-    long(&text);
+    long(rt, &text);
 }
 
 // A vector: a heading, bytes after 1,024 lines, or a text.
-fn vector(text: &[u8]) {
+fn vector(rt: &HostRuntime, text: &[u8]) {
     if text.len() == 0 {
-        show(text);
+        show(rt, text);
         return;
     }
     if text[0] == b'#' {
-        io::write_all(STDOUT_FILENO, text);
+        print(rt, text);
         return;
     }
     if text[0] == b'+' {
-        after(&text[1..]);
+        after(rt, &text[1..]);
         return;
     }
-    show(text);
+    show(rt, text);
 }
 
 // Whether a vector ends at `at`.
@@ -160,7 +179,7 @@ fn ends(input: &[u8], at: usize) -> bool {
     input[at + 2] == b'\n'
 }
 
-fn vectors(input: &[u8]) {
+fn vectors(rt: &HostRuntime, input: &[u8]) {
     let mut from: usize = 0;
     let mut at: usize = 0;
     while at < input.len() {
@@ -168,7 +187,7 @@ fn vectors(input: &[u8]) {
             return;
         }
         if ends(input, at) {
-            vector(&input[from..at]);
+            vector(rt, &input[from..at]);
             at += 3;
             from = at;
         } else {
@@ -177,9 +196,23 @@ fn vectors(input: &[u8]) {
     }
 }
 
-fn main() {
+// Reads until the list is full, the input ends or a read fails, and returns how many bytes it read.
+fn read_full(rt: &HostRuntime, list: &mut [u8]) -> usize
+    ensures { result ≤ length list.old }
+{
+    let mut done = 0;
+    while done < list.len() {
+        match rt.stdin().read(&mut list[done..]) {
+            Ok(0) | Err(_) => return done,
+            Ok(more) => done += more,
+        }
+    }
+    done
+}
+
+fn main(rt: HostRuntime) {
     let mut input = [0u8; 65536];
-    let got = io::read_full(STDIN_FILENO, &mut input);
-    vectors(&input[..got]);
-    lengths();
+    let got = read_full(&rt, &mut input);
+    vectors(&rt, &input[..got]);
+    lengths(&rt);
 }

@@ -1,10 +1,11 @@
 // Reads a damaged register on standard input and writes the good one that is made of it on standard output. On standard error it says each
 // dropped line with the number that it met, and last the length of the text, how many lines were dropped, and how many kept lines now stand
 // after a line that followed them. A text that is too long is refused there, and nothing is written.
+#![tactic(auto)]
+
 ghost use Rattle.std.specs.Prelude.{◌≤◌, ◌*◌, length};
 
 use input::Input;
-use libc::{STDERR_FILENO, STDOUT_FILENO};
 use refusal::ACCEPTED;
 use repair_lines::LINE;
 use repair_text::Said;
@@ -19,19 +20,24 @@ const REMARKS: usize = 131072;
 
 // ---- What is said on standard error
 
-fn say(said: Said) -> bool {
+fn say(rt: &HostRuntime, said: Said) -> bool {
     let mut line = [0u8; LINE];
     let n = repair_lines::put(&mut line, said);
-    output::write(STDERR_FILENO, &line[0..n], b"repair: standard error")
+    output::write(
+        &rt.stderr(),
+        &line[0..n],
+        &rt.stderr(),
+        b"repair: standard error",
+    )
 }
 
 // The dropped lines, each with its number, as long as they can be said.
-fn say_dropped(remarks: &[u32], dropped: usize) -> bool
+fn say_dropped(rt: &HostRuntime, remarks: &[u32], dropped: usize) -> bool
     requires { 2 * dropped ≤ length remarks.now }
 {
     let mut i = 0;
     while i < dropped {
-        if !say(Said::Dropped(remarks[2 * i], remarks[2 * i + 1])) {
+        if !say(rt, Said::Dropped(remarks[2 * i], remarks[2 * i + 1])) {
             return false;
         }
         i += 1;
@@ -41,32 +47,41 @@ fn say_dropped(remarks: &[u32], dropped: usize) -> bool
 
 // ---- The program
 
-fn repair(text: &[u8]) {
+fn repair(rt: &HostRuntime, text: &[u8]) {
     let mut out = [0u8; OUT];
     let mut remarks = [0u32; REMARKS];
     let r = register_repair::repair(text, &mut out, &mut remarks);
     if r.refusal != ACCEPTED {
-        say(Said::Refused(r.refusal as u64, r.line as u64));
+        say(rt, Said::Refused(r.refusal as u64, r.line as u64));
         return;
     }
     let n = r.length;
-    if !output::write(STDOUT_FILENO, &out[0..n], b"repair: standard output") {
+    if !output::write(
+        &rt.stdout(),
+        &out[0..n],
+        &rt.stderr(),
+        b"repair: standard output",
+    ) {
         return;
     }
-    if !say_dropped(&remarks, r.dropped) {
+    if !say_dropped(rt, &remarks, r.dropped) {
         return;
     }
-    say(Said::Repaired(n as u64, r.dropped as u64, r.displaced as u64));
+    say(
+        rt,
+        Said::Repaired(n as u64, r.dropped as u64, r.displaced as u64),
+    );
 }
 
-fn main() {
+fn main(rt: HostRuntime) {
     let mut text = [0u8; TEXT];
     let got = standard_input::read(
+        &rt,
         &mut text,
         b"usage: repair < DAMAGED > REGISTER\nReads a damaged register on standard input and writes the good one that is made of it. On standard error it says the dropped\nlines, each with the number that it met, and last how long the text is, how many lines were dropped and how many were displaced.\n",
         b"repair: standard input",
     );
     if let Input::Read(n) = got {
-        repair(&text[0..n]);
+        repair(&rt, &text[0..n]);
     }
 }

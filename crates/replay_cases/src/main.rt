@@ -1,4 +1,5 @@
 // A whole list of calls, run and checked: each expectation is proved from the contract of `replay::run` alone.
+#![tactic(auto)]
 
 // Ten calls, of ten words each.
 const CALLS: [u64; 100] = [

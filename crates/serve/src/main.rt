@@ -1,19 +1,25 @@
 // The service that stays up: reads requests on standard input and writes one answer for each on standard output, until the input
 // ends. With a file's name it begins by reading that register. What fails is told on standard error.
+#![tactic(auto)]
+
 ghost use Rattle.std.specs.Prelude.{◌≤◌, length, take};
 ghost use Rattle.published_index.specs.Index.{Published};
 ghost use Rattle.service.specs.Service.{blocks, Given};
 ghost use Rattle.conversations.specs.Answering.{Looks};
 ghost use Rattle.serving.specs.Serving.{Sees, Finishes};
+ghost use Rattle.input.specs.Input.{Within};
 
 use conversations::{Answered, DAYS, Looked, ROOM, Wanted};
 use input::Input;
-use libc::{STDERR_FILENO, STDOUT_FILENO};
 use replies::OUT;
 use requests::Request;
 use service::Service;
 use serving::{ARRIVED, Seen};
 use stabbing::INDEX;
+use std::env::{Env, FillError};
+use std::fs::File;
+use std::io::{ErrorKind, Print};
+use std::{io, str};
 use streams::{LINE, TEXT};
 
 const DASH: u8 = 45;
@@ -21,19 +27,22 @@ const DASH: u8 = 45;
 // One byte more than a register's text may have.
 const FILE: usize = 65537;
 
+// The places of a list for the file's name.
+const PATH: usize = 4096;
+
 // ---- Requests
 
 // Writes what stands from `at` on; false where that can't be done, which is told.
-fn write_from(fd: i32, out: &[u8], at: usize, name: &[u8]) -> bool {
+fn write_from<P: Print>(rt: &HostRuntime, to: &P, out: &[u8], at: usize, name: &[u8]) -> bool {
     if out.len() < at {
         return false;
     }
-    output::write(fd, &out[at..], name)
+    output::write(to, &out[at..], &rt.stderr(), name)
 }
 
 // Sends the answer that ends the list.
-fn send(out: &[u8; OUT], at: usize) -> bool {
-    write_from(STDOUT_FILENO, out, at, b"serve: standard output")
+fn send(rt: &HostRuntime, out: &[u8; OUT], at: usize) -> bool {
+    write_from(rt, &rt.stdout(), out, at, b"serve: standard output")
 }
 
 // A look at the first n bytes of the line.
@@ -55,6 +64,7 @@ fn look(
 
 // Takes the next request and looks at it: what wants no service is answered. One that the input's end cuts short is not looked at.
 fn see(
+    rt: &HostRuntime,
     index: &[u16; INDEX],
     room: usize,
     arrived: &mut [u8; ARRIVED],
@@ -72,7 +82,7 @@ fn see(
     requires { Published index.now }
     ensures { Sees (blocks index.now) room arrived.old start end days.old numbers.old text.now out.old result arrived.new line.new payload.new days.new numbers.new out.new }
 {
-    let q = incoming::next(arrived, start, end, line, payload, gathered, held);
+    let q = incoming::next(rt, arrived, start, end, line, payload, gathered, held);
     if !q.whole {
         let looked = Looked::Done(Request::Malformed, room, OUT);
         return Seen {
@@ -131,6 +141,7 @@ fn carry(
 // Serves requests until the input ends or the output is closed. A proved loop has to end, so its turns are counted down, from a
 // number that no service uses up.
 fn converse(
+    rt: &HostRuntime,
     service: Service,
     index: &mut [u16; INDEX],
     arrived: &mut [u8; ARRIVED],
@@ -152,8 +163,8 @@ fn converse(
     let mut turns = u64::MAX;
     while turns > 0 {
         let q = see(
-            index, room, arrived, start, end, line, payload, days, numbers, text, out, gathered,
-            held,
+            rt, index, room, arrived, start, end, line, payload, days, numbers, text, out,
+            gathered, held,
         );
         if !q.whole {
             return;
@@ -174,7 +185,7 @@ fn converse(
                 place = a.place;
             }
         }
-        let g = incoming::gather(gathered, q.held, out, place);
+        let g = incoming::gather(rt, gathered, q.held, out, place);
         if !g.open {
             return;
         }
@@ -186,7 +197,7 @@ fn converse(
 }
 
 // Lends a conversation its lists.
-fn serve(service: Service, index: &mut [u16; INDEX])
+fn serve(rt: &HostRuntime, service: Service, index: &mut [u16; INDEX])
     requires { Given service (blocks index.old) }
 {
     let mut arrived = [0u8; ARRIVED];
@@ -198,6 +209,7 @@ fn serve(service: Service, index: &mut [u16; INDEX])
     let mut out = [0u8; OUT];
     let mut gathered = [0u8; OUT];
     converse(
+        rt,
         service,
         index,
         &mut arrived,
@@ -213,10 +225,10 @@ fn serve(service: Service, index: &mut [u16; INDEX])
 
 // ---- The beginning
 
-fn serve_fresh() {
+fn serve_fresh(rt: &HostRuntime) {
     let mut index = [0u16; INDEX];
     let service = service::fresh(&mut index);
-    serve(service, &mut index);
+    serve(rt, service, &mut index);
 }
 
 // Whether the answer of a reading, from the place `at` on, refuses the text: it begins with the first letter of `refused`, and else with
@@ -229,74 +241,87 @@ fn is_refused(out: &[u8; OUT], at: usize) -> bool {
 }
 
 // Says that the file's register is refused, by the answer of its reading.
-fn tell_refusal(path: &[u8], out: &[u8; OUT], at: usize) {
-    io::write_all(STDERR_FILENO, b"serve: ");
-    io::write_all(STDERR_FILENO, path);
-    io::write_all(STDERR_FILENO, b": the register is not taken: ");
-    write_from(STDERR_FILENO, out, at, b"serve: standard error");
+fn tell_refusal(rt: &HostRuntime, path: &[u8], out: &[u8; OUT], at: usize) {
+    output::say(&rt.stderr(), b"serve: ");
+    output::say(&rt.stderr(), path);
+    output::say(&rt.stderr(), b": the register is not taken: ");
+    write_from(rt, &rt.stderr(), out, at, b"serve: standard error");
 }
 
 // Begins on a register's text, and sends the answer of its reading first. A refused register is told too, and nothing is served.
-fn serve_text(path: &[u8], text: &[u8]) {
+fn serve_text(rt: &HostRuntime, path: &[u8], text: &[u8]) {
     let mut index = [0u16; INDEX];
     let mut out = [0u8; OUT];
     let a = wire::restart(&mut index, ROOM, text.len() as u64, text, &mut out);
-    let open = send(&out, a.place);
+    let open = send(rt, &out, a.place);
     if is_refused(&out, a.place) {
-        tell_refusal(path, &out, a.place);
+        tell_refusal(rt, path, &out, a.place);
         return;
     }
     if open {
         let service = a.service;
-        serve(service, &mut index);
+        serve(rt, service, &mut index);
     }
 }
 
 // Says what failed with the file.
-fn report(path: &[u8]) {
-    io::write_all(STDERR_FILENO, b"serve: ");
-    os::fail(path);
+fn report(rt: &HostRuntime, path: &[u8], error: &io::Error) {
+    output::say(&rt.stderr(), b"serve: ");
+    output::tell(&rt.stderr(), path, error);
 }
 
-fn serve_file(path: &[u8]) {
-    let fd = os::open_read(path);
-    if fd < 0 {
-        report(path);
-        return;
+// Opens the file of that name, which the library takes as text alone.
+fn open(rt: &HostRuntime, path: &[u8]) -> io::Result<File> {
+    match str::from_utf8(path) {
+        Ok(name) => File::open(rt, name),
+        Err(_) => Err(io::Error::from(ErrorKind::InvalidFilename)),
     }
+}
+
+// Reads the file of that name until the text is full or the file ends, and closes it.
+fn read_file(rt: &HostRuntime, path: &[u8], text: &mut [u8]) -> Input
+    ensures { Within (length text.old) result }
+{
+    match open(rt, path) {
+        Ok(mut file) => input::fill(&mut file, text),
+        Err(error) => Input::Failed(error),
+    }
+}
+
+fn serve_file(rt: &HostRuntime, path: &[u8]) {
     let mut text = [0u8; FILE];
-    let got = input::fill(fd, &mut text);
-    match got {
-        Input::Read(n) => {
-            libc::close(fd);
-            serve_text(path, &text[0..n]);
-        }
-        Input::Failed => report(path),
+    match read_file(rt, path, &mut text) {
+        Input::Read(n) => serve_text(rt, path, &text[0..n]),
+        Input::Failed(error) => report(rt, path, &error),
     }
 }
 
-fn usage() {
-    io::write_all(
-        STDERR_FILENO,
+fn usage(rt: &HostRuntime) {
+    output::say(
+        &rt.stderr(),
         b"usage: serve [FILE]\nReads requests on standard input and writes one answer for each on standard output, until the input ends.\nWith FILE it begins by reading that register, and its first line of output is the answer to that reading. Where the\nregister is refused nothing is served.\nThe requests and answers are described in docs/PROTOCOL.md.\n",
     );
 }
 
-fn main() {
-    let count = os::arg_count();
-    if count < 2 {
-        serve_fresh();
+// Begins on the file that the first argument names, where it is the only one and no option.
+fn serve_named(rt: &HostRuntime, path: &[u8; PATH], n: usize)
+    requires { n ≤ 4096 }
+{
+    if !matches!(rt.arg(2, &mut []), Err(FillError::NotPresent)) || path[0] == DASH {
+        usage(rt);
         return;
     }
-    let mut path = io::buffer();
-    let n = os::arg(1, &mut path);
-    if os::errno() != 0 {
-        os::fail(b"serve: the name of the file");
-        return;
+    serve_file(rt, &path[..n]);
+}
+
+fn main(rt: HostRuntime) {
+    let mut path = [0u8; PATH];
+    match rt.arg(1, &mut path) {
+        Ok(n) => serve_named(&rt, &path, n),
+        Err(FillError::NotPresent) => serve_fresh(&rt),
+        Err(FillError::TooLong) => output::say(
+            &rt.stderr(),
+            b"serve: the name of the file: File name too long\n",
+        ),
     }
-    if count > 2 || path[0] == DASH {
-        usage();
-        return;
-    }
-    serve_file(&path[..n]);
 }

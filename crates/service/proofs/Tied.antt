@@ -1,6 +1,7 @@
 -- The contract of each public function and of each question, as the prover reads it, is a beginning or a step of `Made`; and what each asks. Assumes nothing.
 use Rattle.basis.proofs.Prelude.{◌≡◌, refl, ℕ, List}
 use contract.Lifetimes.{Lfts}
+use denote.MutBor.{MutBor}
 use denote.Ref.{Bor}
 use Rattle.service.proofs.{Names.{Spell, read_text, Call, Enter, Amend, Strike, TakeBack, Publish, Write, Ask, Question, fresh, Outcome, asking, Published, Service, Stepped, Started, fresh_service, Blocks, blocks, Valid, Represents, Given, keeping, Met, Changed, Changes, Begins, Steps}, Asking.asked_met, Beginning.publishes_met}
 use Rattle.model.specs.declared.Question.TheVariants.{Day, Span, Cover, Days, Mask}
@@ -18,11 +19,11 @@ Ties pre post a r b asks step = (pre a ≡ asks) × ((pre a → post a r b) → 
 
 -- ---- The beginning
 
-pub fresh_is : (κs : Lfts 1) (sv : Service) (index index' : Bor (List ℕ)) → Is (calls.fresh.Reads.Pre κs) (calls.fresh.Reads.Post κs) (index, tt) sv (index', tt)
+pub fresh_is : (κs : Lfts 1) (sv : Service) (index index' : MutBor (List ℕ)) → Is (calls.fresh.Reads.Pre κs) (calls.fresh.Reads.Post κs) (index, tt) sv (index', tt)
     (Unit {0}) (Represents sv (blocks index'.now) fresh × (sv ≡ fresh_service))
 fresh_is κs sv index index' = (refl, refl)
 
-pub read_is : (κs : Lfts 2) (r : Started) (text index index' : Bor (List ℕ)) → Is (calls.read.Reads.Pre κs) (calls.read.Reads.Post κs) (text, (index, tt)) r (text, (index', tt))
+pub read_is : (κs : Lfts 2) (r : Started) (text : Bor (List ℕ)) (index index' : MutBor (List ℕ)) → Is (calls.read.Reads.Pre κs) (calls.read.Reads.Post κs) (text, (index, tt)) r (text, (index', tt))
     (Unit {0}) (Begins (read_text text.now) r (blocks index'.now))
 read_is κs r text index index' = (refl, refl)
 
@@ -46,18 +47,18 @@ module _ (κs : Lfts 0) (sv : Service) (r : Stepped) where
 -- ---- Publish and writing
 
 module _ (κs : Lfts 1) (sv : Service) (bs : Blocks) (days numbers text : List ℕ) where
-  pub publish_steps : (r : Stepped) (rule : ℕ) (index index' : Bor (List ℕ))
+  pub publish_steps : (r : Stepped) (rule : ℕ) (index index' : MutBor (List ℕ))
       → Ties (calls.publish.Reads.Pre κs) (calls.publish.Reads.Post κs) (sv, (rule, (index, tt))) r (sv, (rule, (index', tt)))
       (Valid sv) (Steps sv (blocks index.now) (asking (Publish rule) days numbers text) r (blocks index'.now) numbers text)
   publish_steps r rule index index' = (refl, λ met g. publishes_met (met g.valid) days numbers text g)
 
-  pub write_steps : (o : Outcome) (text text' : Bor (List ℕ)) → Ties (calls.write.Reads.Pre κs) (calls.write.Reads.Post κs) (sv, (text, tt)) o (sv, (text', tt))
+  pub write_steps : (o : Outcome) (text text' : MutBor (List ℕ)) → Ties (calls.write.Reads.Pre κs) (calls.write.Reads.Post κs) (sv, (text, tt)) o (sv, (text', tt))
       (Valid sv) (Steps sv bs (asking Write days numbers text.now) (keeping sv o) bs numbers text'.now)
   write_steps o text text' = (refl, λ met g. (met g.valid).met bs days numbers g)
 
 -- ---- Questions
 
-module _ (index numbers numbers' : Bor (List ℕ)) (o : Outcome) (sv : Service) (text : List ℕ) where
+module _ (index : Bor (List ℕ)) (numbers numbers' : MutBor (List ℕ)) (o : Outcome) (sv : Service) (text : List ℕ) where
   -- a contract gives a step of the question w, with the days of a days question
   abbrev pub Asks : {A B : Type 0} → (A → Type 0) → (A → Outcome → B → Type 0) → A → B → Question → List ℕ → Type 1
   Asks pre post a b w days = Ties pre post a o b (Published index.now) (Steps sv (blocks index.now) (asking (Ask w) days numbers.now text) (keeping sv o) (blocks index.now) numbers'.now text)
@@ -84,7 +85,7 @@ module _ (index numbers numbers' : Bor (List ℕ)) (o : Outcome) (sv : Service) 
 
 -- ---- Any call: the step itself, and nothing weaker
 
-module _ (κs : Lfts 4) (sv : Service) (call : Call) (index index' days numbers numbers' text text' : Bor (List ℕ)) (r : Stepped) where
+module _ (κs : Lfts 4) (sv : Service) (call : Call) (days : Bor (List ℕ)) (index index' numbers numbers' text text' : MutBor (List ℕ)) (r : Stepped) where
   pub step_is : Is (calls.step.Reads.Pre κs) (calls.step.Reads.Post κs)
       (sv, (index, (call, (days, (numbers, (text, tt)))))) r (sv, (index', (call, (days, (numbers', (text', tt))))))
       (Given sv (blocks index.now)) (Met sv (blocks index.now) (asking call days.now numbers.now text.now) r (blocks index'.now) numbers'.now text'.now)
@@ -92,9 +93,9 @@ module _ (κs : Lfts 4) (sv : Service) (call : Call) (index index' days numbers 
 
 -- ---- In words
 
-module _ (κs : Lfts 1) (words words' : Bor (List ℕ)) (sv : Service) where
-  pub pack_is : (u : Unit {0}) → Is (calls.pack.Reads.Pre κs) (calls.pack.Reads.Post κs) (sv, (words, tt)) u (sv, (words', tt)) (Valid sv) (Packs sv words'.now)
-  pack_is u = (refl, refl)
+module _ (κs : Lfts 1) (sv : Service) where
+  pub pack_is : (words words' : MutBor (List ℕ)) (u : Unit {0}) → Is (calls.pack.Reads.Pre κs) (calls.pack.Reads.Post κs) (sv, (words, tt)) u (sv, (words', tt)) (Valid sv) (Packs sv words'.now)
+  pack_is words words' u = (refl, refl)
 
-  pub unpack_is : Is (calls.unpack.Reads.Pre κs) (calls.unpack.Reads.Post κs) (words, tt) sv (words, tt) (Unit {0}) (sv ≡ unpacked words.now)
-  unpack_is = (refl, refl)
+  pub unpack_is : (words : Bor (List ℕ)) → Is (calls.unpack.Reads.Pre κs) (calls.unpack.Reads.Post κs) (words, tt) sv (words, tt) (Unit {0}) (sv ≡ unpacked words.now)
+  unpack_is words = (refl, refl)

@@ -9,22 +9,23 @@
 // the counts listed, the sum of the comparisons, and a checksum over every answer. Each question is asked with a list of 1,025 places
 // and, where it lists some, again with just as many places as it lists and with one less; the sums are of the first of these, the
 // checksum is of all three: refusal, count, comparisons, the numbers listed, and the place after them, which must hold what it held.
+#![tactic(auto)]
+
 ghost use Rattle.std.specs.Prelude.{◌≡◌, true};
 ghost use Rattle.stabbing.specs.Index.{Block, Built};
 
-use libc::{STDIN_FILENO, STDOUT_FILENO};
 use stabbing::{INDEX, Listed, ROWS};
+use std::io::Read;
 
 // What every place of a list holds before it is lent.
 const MARK: u16 = 60001;
 
-fn print(text: &[u8]) {
-    io::write_all(STDOUT_FILENO, text);
+fn print(rt: &HostRuntime, text: &[u8]) {
+    let _ = rt.write_all(text);
 }
 
-fn next_number(n: u64) {
-    print(b" ");
-    io::print_decimal(STDOUT_FILENO, n);
+fn next_number(rt: &HostRuntime, n: u64) {
+    let _ = print!(rt; " {n}");
 }
 
 // ---- Lines of standard input
@@ -45,54 +46,65 @@ fn digit(v: u16, b: u8) -> u16 {
     ((v as u32 * 10 + b as u32 % 16) % 65536) as u16
 }
 
+// Reads the next six places, as far as there are so many.
+fn read_places(rt: &HostRuntime, t: &mut [u8; 6]) {
+    let _ = rt.stdin().read_exact(t);
+}
+
 // The number in the next six places. Past the end they are spaces.
-fn read_number() -> u16 {
+fn read_number(rt: &HostRuntime) -> u16 {
     let mut t = [32u8; 6];
-    io::read_full(STDIN_FILENO, &mut t);
+    read_places(rt, &mut t);
     let hundreds = digit(digit(digit(0, t[0]), t[1]), t[2]);
     digit(digit(digit(hundreds, t[3]), t[4]), t[5])
 }
 
-fn read_line() -> Line {
+fn read_line(rt: &HostRuntime) -> Line {
     Line {
-        a: read_number(),
-        b: read_number(),
-        c: read_number(),
+        a: read_number(rt),
+        b: read_number(rt),
+        c: read_number(rt),
     }
 }
 
 // Prints a byte of a name; a space is none.
-fn print_letter(b: u8) {
+fn print_letter(rt: &HostRuntime, b: u8) {
     if 32 < b {
-        print(&[b]);
+        print(rt, &[b]);
     }
 }
 
 // Prints what the next six places have of a name.
-fn print_letters() {
+fn print_letters(rt: &HostRuntime) {
     let mut t = [32u8; 6];
-    io::read_full(STDIN_FILENO, &mut t);
-    print_letter(t[0]);
-    print_letter(t[1]);
-    print_letter(t[2]);
-    print_letter(t[3]);
-    print_letter(t[4]);
-    print_letter(t[5]);
+    read_places(rt, &mut t);
+    print_letter(rt, t[0]);
+    print_letter(rt, t[1]);
+    print_letter(rt, t[2]);
+    print_letter(rt, t[3]);
+    print_letter(rt, t[4]);
+    print_letter(rt, t[5]);
 }
 
 // Prints the name in the next line.
-fn print_name() {
-    print_letters();
-    print_letters();
-    print_letters();
+fn print_name(rt: &HostRuntime) {
+    print_letters(rt);
+    print_letters(rt);
+    print_letters(rt);
 }
 
 // The numbers of the next n lines, in three columns.
-fn read_rows(a: &mut [u16; 1024], b: &mut [u16; 1024], c: &mut [u16; 1024], n: u16) {
+fn read_rows(
+    rt: &HostRuntime,
+    a: &mut [u16; 1024],
+    b: &mut [u16; 1024],
+    c: &mut [u16; 1024],
+    n: u16,
+) {
     let m = n as usize % 1025;
     let mut p: usize = 0;
     while p < m {
-        let l = read_line();
+        let l = read_line(rt);
         a[p] = l.a;
         b[p] = l.b;
         c[p] = l.c;
@@ -145,13 +157,13 @@ fn several(index: &[u16; INDEX], a: u16, b: u16, n: u16, out: &mut [u16]) -> Lis
     requires { Built index.now }
 {
     let mut days = [0u16; 4000];
-    let step = std::num::wrapping_sub_u16(b, a);
+    let step = b.wrapping_sub(a);
     let m = n as usize % 4001;
     let mut d = a;
     let mut i: usize = 0;
     while i < m {
         days[i] = d;
-        d = std::num::wrapping_add_u16(d, step);
+        d = d.wrapping_add(step);
         i += 1;
     }
     stabbing_days::days(index, &days[0..m], out)
@@ -181,7 +193,7 @@ fn hear(index: &[u16; INDEX], kind: u16, q: Line, room: usize, hash: u64) -> Hea
     let a = mix(hash, to_u64(r.refusal));
     let b = mix(a, k as u64);
     let c = mix(b, comparisons);
-    let next = std::num::wrapping_add_usize(k, 1);
+    let next = k.wrapping_add(1);
     Heard {
         listed: k,
         comparisons: comparisons,
@@ -202,8 +214,8 @@ fn ask(index: &[u16; INDEX], kind: u16, q: Line, t: Heard) -> Heard
         h = c.hash;
     }
     Heard {
-        listed: std::num::wrapping_add_usize(t.listed, k),
-        comparisons: std::num::wrapping_add_u64(t.comparisons, a.comparisons),
+        listed: t.listed.wrapping_add(k),
+        comparisons: t.comparisons.wrapping_add(a.comparisons),
         hash: h,
     }
 }
@@ -251,16 +263,17 @@ fn each(
     t
 }
 
-fn report(asked: u16, t: Heard) {
-    next_number(to_u64(asked));
-    next_number(t.listed as u64);
-    next_number(t.comparisons);
-    next_number(t.hash);
-    print(b"\n");
+fn report(rt: &HostRuntime, asked: u16, t: Heard) {
+    next_number(rt, to_u64(asked));
+    next_number(rt, t.listed as u64);
+    next_number(rt, t.comparisons);
+    next_number(rt, t.hash);
+    print(rt, b"\n");
 }
 
 // The questions of as many kinds as n says.
 fn ask_all(
+    rt: &HostRuntime,
     index: &[u16; INDEX],
     number: &[u16; 1024],
     a: &[u16; 1024],
@@ -272,9 +285,9 @@ fn ask_all(
 {
     let mut k: u16 = 0;
     while k < n {
-        print_name();
-        let kind = read_line();
-        report(kind.c, each(index, number, a, b, c, kind));
+        print_name(rt);
+        let kind = read_line(rt);
+        report(rt, kind.c, each(index, number, a, b, c, kind));
         k += 1;
     }
 }
@@ -300,6 +313,7 @@ fn own_numbers(index: &[u16; INDEX]) -> bool
 // The index of the rows, and whether it may be asked. The rows are taken into a checksum of their own, so that both accounts are
 // seen to have the same; where they cannot be published the index is to be as it was.
 fn built(
+    rt: &HostRuntime,
     number: &[u16; 1024],
     first: &[u16; 1024],
     last: &[u16; 1024],
@@ -308,43 +322,52 @@ fn built(
 ) -> bool
     ensures { result ≡ true → Built index.new }
 {
-    next_number(mix_list(mix_list(mix_list(0, number, n), first, n), last, n));
-    print(b"\n");
+    next_number(
+        rt,
+        mix_list(mix_list(mix_list(0, number, n), first, n), last, n),
+    );
+    print(rt, b"\n");
     let before = mix_list(0, index, INDEX);
     if stabbing_index::build(number, first, last, n, index) {
         return own_numbers(index);
     }
     if before == mix_list(0, index, INDEX) {
-        print(b"refused kept\n");
+        print(rt, b"refused kept\n");
     }
     false
 }
 
 // The next family.
-fn family(a: &[u16; 1024], b: &[u16; 1024], c: &[u16; 1024], index: &mut [u16; INDEX]) {
+fn family(
+    rt: &HostRuntime,
+    a: &[u16; 1024],
+    b: &[u16; 1024],
+    c: &[u16; 1024],
+    index: &mut [u16; INDEX],
+) {
     let mut number = [0u16; 1024];
     let mut first = [0u16; 1024];
     let mut last = [0u16; 1024];
-    print_name();
-    let l = read_line();
-    read_rows(&mut number, &mut first, &mut last, l.b);
-    print(b" rows");
-    next_number(to_u64(l.c));
-    if built(&number, &first, &last, l.c as usize, index) {
-        ask_all(index, &number, a, b, c, l.a);
+    print_name(rt);
+    let l = read_line(rt);
+    read_rows(rt, &mut number, &mut first, &mut last, l.b);
+    print(rt, b" rows");
+    next_number(rt, to_u64(l.c));
+    if built(rt, &number, &first, &last, l.c as usize, index) {
+        ask_all(rt, index, &number, a, b, c, l.a);
     }
 }
 
-fn main() {
+fn main(rt: HostRuntime) {
     let mut a = [0u16; 1024];
     let mut b = [0u16; 1024];
     let mut c = [0u16; 1024];
     let mut index = [0u16; INDEX];
-    let l = read_line();
-    read_rows(&mut a, &mut b, &mut c, l.a);
+    let l = read_line(&rt);
+    read_rows(&rt, &mut a, &mut b, &mut c, l.a);
     let mut i: u16 = 0;
     while i < l.b {
-        family(&a, &b, &c, &mut index);
+        family(&rt, &a, &b, &c, &mut index);
         i += 1;
     }
 }

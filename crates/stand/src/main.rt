@@ -1,10 +1,11 @@
 // Reads a register on standard input and publishes it. For each day on which somebody stands it prints a line: the day, how many
 // stand, the comparisons made and their spell numbers. A refused register prints the refusal's number and the line. What fails, a
 // refusal too, is told on standard error.
+#![tactic(auto)]
+
 ghost use Rattle.stand_text.specs.Report.{PrintedOf};
 
 use input::Input;
-use libc::STDERR_FILENO;
 use printing::Days;
 use replies::OUT;
 use stabbing::INDEX;
@@ -13,31 +14,27 @@ use stabbing::INDEX;
 const TEXT: usize = 65537;
 
 // Says on standard error that the register is refused.
-fn tell_refusal(number: u16, line: u16) {
-    io::write_all(STDERR_FILENO, b"stand: the register is refused: ");
-    io::print_decimal(STDERR_FILENO, number as u64);
-    io::write_all(STDERR_FILENO, b" at line ");
-    io::print_decimal(STDERR_FILENO, line as u64);
-    io::write_all(STDERR_FILENO, b"\n");
+fn tell_refusal(rt: &HostRuntime, number: u16, line: u16) {
+    let _ = eprintln!(rt; "stand: the register is refused: {number} at line {line}");
 }
 
-fn print_refusal(number: u16, line: u16) {
+fn print_refusal(rt: &HostRuntime, number: u16, line: u16) {
     let mut out = [0u8; OUT];
     let at = reply_lines::put_refused_line(&mut out, number, line);
-    printing::print_line(&out, at);
-    tell_refusal(number, line);
+    printing::print_line(rt, &out, at);
+    tell_refusal(rt, number, line);
 }
 
 // ---- The program
 
 // Publishes the register and prints the text of all days, or its refusal and no day.
-fn stand(text: &[u8]) -> Days
+fn stand(rt: &HostRuntime, text: &[u8]) -> Days
     ensures { PrintedOf text.now result.next result.whole }
 {
     let mut index = [0u16; INDEX];
     let started = service::read(text, &mut index);
     if started.refusal != 0 {
-        print_refusal(started.refusal, started.line);
+        print_refusal(rt, started.refusal, started.line);
         return Days {
             next: 1,
             whole: false,
@@ -45,17 +42,18 @@ fn stand(text: &[u8]) -> Days
     }
     let service = started.service;
     service::publish(service, 1, &mut index);
-    printing::print_days(&index)
+    printing::print_days(rt, &index)
 }
 
-fn main() {
+fn main(rt: HostRuntime) {
     let mut text = [0u8; TEXT];
     let got = standard_input::read(
+        &rt,
         &mut text,
         b"usage: stand < REGISTER\nReads a register on standard input and prints a line for each day on which somebody stands: the day, how many\nstand, the looks that the question took and the spell numbers, parted by tabs.\n",
         b"stand: standard input",
     );
     if let Input::Read(n) = got {
-        stand(&text[0..n]);
+        stand(&rt, &text[0..n]);
     }
 }

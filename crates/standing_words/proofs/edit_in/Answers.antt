@@ -13,7 +13,7 @@ pub overflow_cast-depth : goal.overflow_cast-depth
 overflow_cast-depth c = search (depth_fits, rules)
 
 pub change-requires : goal.change-requires
-change-requires c = (search count_within, search array_long)
+change-requires c = record { n_bound = search count_within; words_len = search array_long }
 
 pub bounds-words-7745 : goal.bounds-words-7745
 bounds-words-7745 c = simp length-set (omega arith)
@@ -22,5 +22,4 @@ pub shape_of-words : goal.shape_of-words
 shape_of-words c = simp length-set (omega arith)
 
 pub returns : goal.returns
-returns c = let deep = c.before in
-    edited _ _ _ deep.before.before.before.plan-in.ensures c.change.ensures c.note.ensures deep.before.counted.ensures deep.deeper.ensures
+returns c = edited _ _ _ c.plan_in-plan.ensures c.change.ensures c.note.ensures c.counted-count.ensures c.deeper-depth.ensures

@@ -1,5 +1,5 @@
 -- `standing_words::place` meets its contract: i spells are passed, and s goes i and what the rest says further. Assumes nothing.
-use Rattle.basis.proofs.Prelude.{◌≡◌, sym, ◌+◌, ◌-◌, ◌≤◌, drop, take, zero-add, arith, rules, not-false, not-true}
+use Rattle.basis.proofs.Prelude.{◌≡◌, sym, ◌+◌, ◌-◌, ◌≤◌, drop, take, zero-add, arith, rules}
 use Rattle.standing_words.proofs.{Names.{earlier_of, lead, place_end, place_here, place_next, place_of, spells_of}, Reading.{places, spell_is}}
 use Rattle.standing_words.proofs.place.Goals as goal
 
@@ -7,10 +7,10 @@ pub loop-i-init : goal.loop-i-init
 loop-i-init c = (omega arith, sym (zero-add _))
 
 pub returns-then-not-earlier : goal.returns-then-not-earlier
-returns-then-not-earlier c = (search (place_here, places, spell_is, not-true), omega arith)
+returns-then-not-earlier c = record { value = search (place_here, places, spell_is); upper_bound = omega arith }
 
 pub loop-i-preserved : goal.loop-i-preserved
-loop-i-preserved c = (omega arith, search (place_next, places, spell_is, not-false))
+loop-i-preserved c = (omega arith, search (place_next, places, spell_is))
 
 pub returns : goal.returns
-returns c = (search (place_end, places), omega arith)
+returns c = record { value = search (place_end, places); upper_bound = omega arith }

@@ -13,9 +13,8 @@ pub overflow_mul-last_place : goal.overflow_mul-last_place
 overflow_mul-last_place c = omega (arith, c.shared_slice_known-3-1.given depth_place)
 
 pub find-found-requires : goal.find-found-requires
-find-found-requires c = (search count_within, search array_long)
+find-found-requires c = record { n_bound = search count_within; words_len = search array_long }
 
 pub returns : goal.returns
-returns c = let start = c.before in
-    planned_in _ _ start.pre.0 start.pre.1 c.last_place.ensures c.entry_at-e.ensures c.number_of-k.ensures c.find-found.ensures
-    c.planned.ensures
+returns c = planned_in _ _ c.requires.words_len c.requires.wf c.last_place.ensures c.entry_at-e.ensures c.number_of-k.ensures c.find-found.ensures
+    (c.planned.ensures.value, c.planned.ensures.takes)
