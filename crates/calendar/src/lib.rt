@@ -1,4 +1,6 @@
 // The calendar: the days 1 to 4,000.
+#![tactic(auto)]
+
 ghost use Rattle.std.specs.Prelude.{◌≡◌};
 ghost use Rattle.calendar.specs.Calendar.{is_day};
 

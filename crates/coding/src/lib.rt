@@ -1,4 +1,6 @@
 // A call coded in words, as types here and definitions in specs/.
+#![tactic(auto)]
+
 use model::Call;
 
 // A call in ten words: its number (`op_of` in specs/Coded.antt), the fields of a spell, and how many places of the lists of days, numbers and

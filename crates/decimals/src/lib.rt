@@ -1,4 +1,6 @@
 // The decimals of a text, each ended by a byte: reading them at a place of a text, and writing them before a place of a list.
+#![tactic(auto)]
+
 ghost use Rattle.std.specs.Prelude.{◌≡◌, suc, ◌+◌, ◌*◌, ◌^◌, ◌<◌, ◌≤◌, length, drop};
 ghost use Rattle.fields.specs.Fields.{read_digits, read_length, read_number, number_text, wide_text, end_before, numbers_text};
 ghost use Rattle.fields.specs.Answers.{field_at, field_of, length_at, length_of, Reads, Puts};

@@ -1,4 +1,6 @@
 // The call of a code.
+#![tactic(auto)]
+
 ghost use Rattle.std.specs.Prelude.{◌≡◌};
 ghost use Rattle.coding.specs.Coded.{low16, urgency_of, spell_of, call_of, next_of, question_number};
 

@@ -1,4 +1,6 @@
 // Single bytes of a text: digits, the byte at a place, the byte that ends a field, one that is written.
+#![tactic(auto)]
+
 ghost use Rattle.std.specs.Prelude.{◌≡◌};
 ghost use Rattle.fields.specs.Fields.{onward, passed, is_at, is_digit, byte_text};
 ghost use Rattle.fields.specs.Answers.{length_at, length_of, Reads, Puts};

@@ -1,4 +1,6 @@
 // Texts gathered one after another in the first places of a list.
+#![tactic(auto)]
+
 ghost use Rattle.std.specs.Prelude.{drop};
 ghost use Rattle.gathering.specs.Gathering.{Appended};
 

@@ -1,5 +1,7 @@
 // The hex digits of a text, eight and the byte that ends them: reading them at a place of a text, and writing them before a
 // place of a list.
+#![tactic(auto)]
+
 ghost use Rattle.std.specs.Prelude.{◌≡◌, ◌<◌, ◌≤◌, drop};
 ghost use Rattle.fields.specs.Fields.{onward, passed, hex_value, read_hex, read_bits, read_mask, hex_digit, bits_text};
 ghost use Rattle.fields.specs.Answers.{length_at, length_of, Reads, Puts};

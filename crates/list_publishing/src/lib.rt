@@ -1,4 +1,6 @@
 // Publishing: the index of nobody, and what publish makes of an index by a rule.
+#![tactic(auto)]
+
 ghost use Rattle.std.specs.Prelude.{◌≡◌, []};
 ghost use Rattle.standing.specs.Standing.{Wf, list_of};
 ghost use Rattle.model.specs.Publishing.{published_of};

@@ -1,4 +1,6 @@
 // The ticked days of a sheet, put into a list.
+#![tactic(auto)]
+
 ghost use Rattle.std.specs.Prelude.{◌≡◌};
 ghost use Rattle.buffer.specs.Buffer.{over};
 ghost use Rattle.calendar.specs.Calendar.{days_ok};

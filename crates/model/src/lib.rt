@@ -1,4 +1,6 @@
 // The plain account of document 01: its calls, and as definitions in specs/ its state and what each call does to it.
+#![tactic(auto)]
+
 use spell::Spell;
 
 // A question of the published list. The days of `Days` stand beside it; those of `Mask` are the ticked ones of its base day and mask.

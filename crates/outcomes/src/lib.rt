@@ -1,4 +1,5 @@
 // What a call tells beside its lent lists. Its values stand in specs/, and `telling` has the functions that make them.
+#![tactic(auto)]
 
 // What a call returns beside its lent lists: the refusal's number or 0, how many spells are listed, the comparisons made
 // (document 01's looks), the length of a written text, the number of days ticked.

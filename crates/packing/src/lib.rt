@@ -1,5 +1,7 @@
 // A spell in seven words of 16 bits, and back: number, candidate, first day, last day, the kind of its urgency, and the low and
 // high 16 bits of the urgency's value.
+#![tactic(auto)]
+
 ghost use Rattle.std.specs.Prelude.{◌≡◌, drop};
 ghost use Rattle.packing.specs.Blocks.{parts, Put, PutAll};
 ghost use Rattle.packing.specs.Layout.{spell_width};

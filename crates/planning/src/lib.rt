@@ -1,4 +1,6 @@
 // An edit planned on small values, before anything is moved: its checks, which spell goes and which is put in, and what the journal notes.
+#![tactic(auto)]
+
 ghost use Rattle.std.specs.Prelude.{◌≡◌, cond};
 ghost use Rattle.model.specs.Edits.{or_else};
 ghost use Rattle.refusal.specs.Table.{accepted};

@@ -1,4 +1,6 @@
 // The plan of an edit on small values: definitions in specs/, laws in proofs/.
+#![tactic(auto)]
+
 use journal::Undo;
 use spell::Spell;
 

@@ -1,4 +1,6 @@
 // The questions of document 01 and the mask of document 02: the published index is read where it lies.
+#![tactic(auto)]
+
 ghost use Rattle.std.specs.Prelude.{ℕ, List};
 ghost use Rattle.published_index.specs.Index.{Published};
 ghost use Rattle.questions.specs.Asked.{Asked};

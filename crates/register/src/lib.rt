@@ -1,5 +1,7 @@
 // The register text: what reading and writing it answer. What the text is stands in specs/, and that reading and writing undo each
 // other in proofs/Claims.antt; register_line, register_read and register_write have the functions.
+#![tactic(auto)]
+
 use spell::Spell;
 
 // A line's spell and the place after the line, or a field that can't be read.

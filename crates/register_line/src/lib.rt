@@ -1,4 +1,6 @@
 // A line of a register text read, field by field.
+#![tactic(auto)]
+
 ghost use Rattle.std.specs.Prelude.{◌≡◌, drop};
 ghost use Rattle.fields.specs.Answers.{field_of, Reads};
 ghost use Rattle.register.specs.Text.{is_letter, read_letter, read_value, read_urgency, read_line};

@@ -1,4 +1,6 @@
 // Reading a register text, line by line, into a list of spells.
+#![tactic(auto)]
+
 ghost use Rattle.std.specs.Prelude.{◌≡◌};
 ghost use Rattle.register.specs.Text.{bad, read_text};
 ghost use Rattle.register.specs.Answers.{reading_of};

@@ -1,4 +1,6 @@
 // A damaged register text made good: the spells of its kept lines written in the order, and a remark for each line that was dropped.
+#![tactic(auto)]
+
 ghost use Rattle.std.specs.Prelude.{◌≡◌, ◌≤◌, length, take};
 ghost use Rattle.buffer.specs.Buffer.{over};
 ghost use Rattle.repairing.specs.Repair.{remarks_from, places_of};

@@ -1,4 +1,6 @@
 // The lines of a damaged register text gone through from the top, each kept or dropped.
+#![tactic(auto)]
+
 ghost use Rattle.std.specs.Prelude.{◌≤◌, ◌<◌, length};
 ghost use Rattle.register_sift.specs.Sifting.{within_limit, Sifts};
 ghost use Rattle.register_sift.specs.Clauses.{Past, Judges};

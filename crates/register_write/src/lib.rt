@@ -1,4 +1,6 @@
 // Writing a list of spells as a register text.
+#![tactic(auto)]
+
 ghost use Rattle.std.specs.Prelude.{◌≡◌, take, drop};
 ghost use Rattle.register.specs.Text.{urgency_text, line_text, write_all};
 ghost use Rattle.register.specs.Answers.{Writes};

@@ -1,4 +1,6 @@
 // The lines that the program `repair` says, each put into the first places of a buffer.
+#![tactic(auto)]
+
 ghost use Rattle.std.specs.Prelude.{◌≤◌, length};
 ghost use Rattle.repair_text.specs.Lines.{repaired_line, word_and_two, said_line, Says};
 

@@ -1,5 +1,6 @@
 // What the program `repair` says on standard error: its lines, as definitions and laws. `repair_lines` has the function that puts them into a
 // buffer.
+#![tactic(auto)]
 
 // What is said: a dropped line, by its place in the text, with the number that it met; a refused text, with its number and line; a repaired
 // text, with its length and how many lines were dropped and displaced.

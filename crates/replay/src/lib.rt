@@ -1,4 +1,6 @@
 // A whole coded list of calls, run through the public functions of `service` alone: its claim follows from their contracts.
+#![tactic(auto)]
+
 ghost use Rattle.std.specs.Prelude.{◌≡◌, ◌+◌, ◌-◌, ◌*◌, ◌≤◌, ◌<◌, ◌/◌, min, length};
 ghost use Rattle.service.specs.Service.{blocks, Given};
 ghost use Rattle.coding.specs.Coded.{code_width, result_width, word, code_at};

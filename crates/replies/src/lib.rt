@@ -1,4 +1,5 @@
 // The answers of the program `serve`, byte for byte as its protocol gives them, as types here and definitions in specs/.
+#![tactic(auto)]
 
 // The places of the list that is lent for an answer: every answer is shorter.
 pub const OUT: usize = 131072;

@@ -1,4 +1,6 @@
 // The answer of a call: by the shape of what it tells, its numbers or its text.
+#![tactic(auto)]
+
 ghost use Rattle.std.specs.Prelude.{◌≡◌, ◌≤◌, length};
 ghost use Rattle.outcomes.specs.Outcomes.{answer_of};
 ghost use Rattle.replies.specs.Replies.{listed_text, dashed_text, several_text, ticked_text, written_text, question_shape, shape_of, call_text};

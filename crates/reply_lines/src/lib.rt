@@ -1,4 +1,6 @@
 // The answers of one line: a request that is done, one of no form, a refusal.
+#![tactic(auto)]
+
 ghost use Rattle.std.specs.Prelude.{◌≤◌, length};
 ghost use Rattle.fields.specs.Answers.{Puts};
 ghost use Rattle.replies.specs.Replies.{ok_text, malformed_text, bytes_text, refused_text, refused_line};

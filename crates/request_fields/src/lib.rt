@@ -1,4 +1,6 @@
 // The fields of a request's line, by their layout: what they ask.
+#![tactic(auto)]
+
 ghost use Rattle.std.specs.Prelude.{◌≡◌, drop};
 ghost use Rattle.requests.specs.Words.{spell_call, asked_with, number_call, limit_of};
 ghost use Rattle.requests.specs.Parsing.{Asks, if_ended, length_request};

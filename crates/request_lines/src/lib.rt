@@ -1,4 +1,6 @@
 // A request's line: what it asks, and how many bytes follow it.
+#![tactic(auto)]
+
 ghost use Rattle.std.specs.Prelude.{◌≡◌, ◌<◌, length, take, drop};
 ghost use Rattle.fields.specs.Fields.{read_number};
 ghost use Rattle.requests.specs.Words.{alone_call};

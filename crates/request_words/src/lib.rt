@@ -1,4 +1,6 @@
 // The word of a request's line: the table of all of them, with the layout of what follows each.
+#![tactic(auto)]
+
 ghost use Rattle.std.specs.Prelude.{◌≡◌};
 ghost use Rattle.requests.specs.Words.{begins, head_or, head_of, table};
 

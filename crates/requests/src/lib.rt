@@ -1,4 +1,6 @@
 // The requests of the program `serve`: what the bytes of a line may ask, as its protocol gives them, as types here and definitions in specs/.
+#![tactic(auto)]
+
 use model::{Call, Question};
 
 // What follows a request's word. Where several words share a layout, it says which of them it is.

@@ -1,4 +1,6 @@
 // The rules of publishing, and the last day with which a rule publishes a spell.
+#![tactic(auto)]
+
 ghost use Rattle.std.specs.Prelude.{◌≡◌};
 ghost use Rattle.rules.specs.Rules.{is_rule, lapsed, last_of};
 

@@ -1,4 +1,6 @@
 // The service: the standing list with its journal, the published index, and the calls of document 01.
+#![tactic(auto)]
+
 ghost use Rattle.std.specs.Prelude.{◌≡◌};
 ghost use Rattle.register.specs.Text.{read_text};
 ghost use Rattle.model.specs.Model.{fresh};

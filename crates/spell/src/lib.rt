@@ -1,4 +1,5 @@
 // A spell of a candidate on the waiting list: its fields, and as definitions in specs/ the checks of an entry, the order of spells, equality.
+#![tactic(auto)]
 
 // The urgency: a listed grade or a measured reading.
 #[derive(Clone, Copy)]

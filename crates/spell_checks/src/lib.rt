@@ -1,4 +1,6 @@
 // The checks of an entry, the order of two spells, and their equality in all fields.
+#![tactic(auto)]
+
 ghost use Rattle.std.specs.Prelude.{◌≡◌};
 ghost use Rattle.spell.specs.Blank.{blank};
 ghost use Rattle.spell.specs.Entry.{urgency_ok, refusal_of};

@@ -1,5 +1,7 @@
 // The question of several days over the published index. Each day is asked by itself, and what it adds to the days before it goes
 // into an answer of the question's own, which goes to the caller's list once its count is known.
+#![tactic(auto)]
+
 ghost use Rattle.std.specs.Prelude.{◌≡◌, ◌<◌, ◌≤◌, length, get_or, drop};
 ghost use Rattle.buffer.specs.Buffer.{overlaid};
 ghost use Rattle.stabbing.specs.Index.{Built};

@@ -1,5 +1,7 @@
 // The builder of the index: rows that can be published become the block that the questions read. It finds the links in one
 // sweep, the tables by day in another, and lays the block column by column.
+#![tactic(auto)]
+
 ghost use Rattle.std.specs.Prelude.{◌≡◌, ◌&&◌, ◌++◌, ◌+◌, ◌≤◌, ◌<◌, length, take};
 ghost use Rattle.stabbing.specs.Tree.{day_at};
 ghost use Rattle.stabbing.specs.Index.{capacity, day_count, parent_column, start_table, bucket_table, row_count, index_length, last_of, row_ok, may_follow, rows_ok, column, block_of};

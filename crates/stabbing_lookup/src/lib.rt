@@ -1,5 +1,7 @@
 // A published row by its spell number. Numbers fall into buckets: each bucket leads to its latest row, and each row to the one before
 // it in its bucket, so that a search goes along the rows of one bucket alone.
+#![tactic(auto)]
+
 ghost use Rattle.std.specs.Prelude.{◌≡◌, ◌≤◌};
 ghost use Rattle.stabbing.specs.Index.{Block, mark_in};
 

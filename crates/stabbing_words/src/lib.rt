@@ -1,4 +1,6 @@
 // What the questions of the sibling tree and its builder share: a word of the index as a place, and a refusal.
+#![tactic(auto)]
+
 ghost use Rattle.std.specs.Prelude.{◌≡◌, ◌<◌};
 
 use stabbing::Listed;

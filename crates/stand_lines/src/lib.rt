@@ -1,4 +1,6 @@
 // What the program `stand` prints, put into lent lists: each line into the last places of a buffer, and the whole text in parts of many lines.
+#![tactic(auto)]
+
 ghost use Rattle.published_index.specs.Index.{Published};
 ghost use Rattle.stand_text.specs.Report.{DayEnds, PartStands};
 

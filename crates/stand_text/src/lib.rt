@@ -1,5 +1,6 @@
 // What the program `stand` prints: its lines, and the whole text in parts of many lines, as definitions and laws. `stand_lines` has the
 // functions that put them into lent lists.
+#![tactic(auto)]
 
 // The places of a buffer: a line has at most 1,027 numbers, and each takes six at most with the byte that ends it.
 pub const LINE: usize = 8192;

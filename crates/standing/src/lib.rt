@@ -1,4 +1,6 @@
 // The standing list: an array of spells in the order, of which the first `count` stand, with a journal of the last 64 edits.
+#![tactic(auto)]
+
 ghost use Rattle.std.specs.Prelude.{map, ◌≡◌, cond};
 ghost use Rattle.spell_places.specs.List.{LaidOut};
 ghost use Rattle.journal.specs.Journal.{noting};

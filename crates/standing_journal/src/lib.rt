@@ -1,4 +1,6 @@
 // The journal of edits as an array, of which the first `depth` places hold entries, the oldest first; and its words of 16 bits.
+#![tactic(auto)]
+
 ghost use Rattle.std.specs.Prelude.{◌≡◌, drop};
 ghost use Rattle.packing.specs.Layout.{entry_width};
 ghost use Rattle.packing.specs.Blocks.{parts, Put, PutAll};

@@ -1,5 +1,7 @@
 // A standing list edited in its words, where they lie: nothing is unpacked, and no word is written that an edit does not change. The words are those
 // of `standing::words`: seven for each of 1,024 places, nine for each of the journal's 64, the count and the depth.
+#![tactic(auto)]
+
 ghost use Rattle.std.specs.Prelude.{◌≡◌, ◌+◌, ◌≤◌, length, take};
 ghost use Rattle.packing.specs.Layout.{spells_length, journal_length, standing_length};
 ghost use Rattle.spell_places.specs.Search.{place_of, found_in};

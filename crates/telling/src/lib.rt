@@ -1,4 +1,6 @@
 // The functions that make what a call tells beside its lent lists: every outcome is made here.
+#![tactic(auto)]
+
 ghost use Rattle.std.specs.Prelude.{◌≡◌};
 ghost use Rattle.outcomes.specs.Outcomes.{told_of, found_of, wrote_of, ticking_of};
 

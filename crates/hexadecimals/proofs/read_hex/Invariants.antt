@@ -9,4 +9,3 @@ invariant-loop-k l = (l.k ≤ l.digits) × (l.v < 16 ^ l.k) × (read_hex l.digit
 
 abbrev pub decreases-loop-k : goal.decreases-loop-k
 decreases-loop-k l = l.digits - l.k
-

@@ -8,4 +8,3 @@ invariant-loop-left l = Ticking l.base l.mask l.fn.days l.days l.left l.i l.n
 
 abbrev pub decreases-loop-left : goal.decreases-loop-left
 decreases-loop-left l = 64 - l.i
-

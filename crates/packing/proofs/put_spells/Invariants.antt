@@ -7,4 +7,3 @@ invariant-loop-i l = (l.i ≤ 1024) × PutAll spell_words spell_of (take l.i l.s
 
 abbrev pub decreases-loop-i : goal.decreases-loop-i
 decreases-loop-i l = 1024 - l.i
-

@@ -7,4 +7,3 @@ invariant-loop-i l = (l.i ≤ 1024) × (length l.spells ≡ 1024) × (take l.i l
 
 abbrev pub decreases-loop-i : goal.decreases-loop-i
 decreases-loop-i l = 1024 - l.i
-

@@ -7,4 +7,3 @@ invariant-loop-i l = (l.at ≤ l.i) × (l.i ≤ length l.text) × (after_line (d
 
 abbrev pub decreases-loop-i : goal.decreases-loop-i
 decreases-loop-i l = length l.text - l.i
-

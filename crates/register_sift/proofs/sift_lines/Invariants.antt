@@ -7,4 +7,3 @@ invariant-loop-at l = State l.text l.fn.met l.met l.spells l.seen l.count l.line
 
 abbrev pub decreases-loop-at : goal.decreases-loop-at
 decreases-loop-at l = length l.text - l.at
-

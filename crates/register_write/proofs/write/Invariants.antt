@@ -7,4 +7,3 @@ invariant-loop-i l = Back (take l.count l.spells) l.buf l.at l.i
 
 abbrev pub decreases-loop-i : goal.decreases-loop-i
 decreases-loop-i l = l.i
-

@@ -8,4 +8,3 @@ invariant-loop-k l = (length l.days ≡ length l.fn.days) × (l.k ≤ length l.f
 
 abbrev pub decreases-loop-k : goal.decreases-loop-k
 decreases-loop-k l = length l.fn.days - l.k
-

@@ -7,4 +7,3 @@ invariant-loop-i l = Going l.index l.days l.fn.answer l.answer l.begun l.at l.i
 
 abbrev pub decreases-loop-i : goal.decreases-loop-i
 decreases-loop-i l = length l.days - l.i
-

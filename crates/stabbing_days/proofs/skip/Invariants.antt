@@ -7,4 +7,3 @@ invariant-loop-lo l = Halving l.index l.found l.m l.lo l.hi
 
 abbrev pub decreases-loop-lo : goal.decreases-loop-lo
 decreases-loop-lo l = l.hi - l.lo
-

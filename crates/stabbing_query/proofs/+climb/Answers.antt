@@ -22,17 +22,17 @@ descend-b-requires t c = search (asks_beside, visit_up)
 pub climb-requires : goal.climb-requires
 climb-requires t c =
     let d : Does c.args.index.now c.args.found.now c.args.s c.if-l-beside.found c.if-l-beside.b (beside_of c.args.index.now c.args.l (c.args.m - 1)) =
-        elim c.if-l-beside.branch [
-            then-l-beside w ↦ rw (w.found-is, w.b-is) (search (all_beside, visit_up))
-          | else-l-beside w ↦ rw (w.found-is, w.b-is) (search (none_beside, visit_up))
-          ] in
+    elim c.if-l-beside.branch [
+      | then-l-beside w ↦ rw (w.found-is, w.b-is) (search (all_beside, visit_up))
+      | else-l-beside w ↦ rw (w.found-is, w.b-is) (search (none_beside, visit_up))
+    ] in
     search (falls_up, asks_up)
 
 pub returns : goal.returns
 returns t c =
     let d : Does c.args.index.now c.args.found.now c.args.s c.if-l-beside.found c.if-l-beside.b (beside_of c.args.index.now c.args.l (c.args.m - 1)) =
-        elim c.if-l-beside.branch [
-            then-l-beside w ↦ rw (w.found-is, w.b-is) (search (all_beside, visit_up))
-          | else-l-beside w ↦ rw (w.found-is, w.b-is) (search (none_beside, visit_up))
-          ] in
+    elim c.if-l-beside.branch [
+      | then-l-beside w ↦ rw (w.found-is, w.b-is) (search (all_beside, visit_up))
+      | else-l-beside w ↦ rw (w.found-is, w.b-is) (search (none_beside, visit_up))
+    ] in
     search goes_up

@@ -18,10 +18,10 @@ descend-b-requires t c = calls_deep _ c.requires (search) (search) c.to_usize-c.
 pub chain-d-requires : goal.chain-d-requires
 chain-d-requires t c =
     let d : Does c.args.index.now c.args.found.now (c.args.s + c.comparison.result) c.if-l-deep.found c.if-l-deep.b (below_of c.args.index.now c.args.l (c.to_usize-c.result - 1)) =
-        elim c.if-l-deep.branch [
-            then-l-deep w ↦ rw (w.found-is, w.b-is) (search (all_below_lem, asks_below))
-          | else-l-deep w ↦ rw (w.found-is, w.b-is) (search (none_below, asks_below))
-          ] in
+    elim c.if-l-deep.branch [
+      | then-l-deep w ↦ rw (w.found-is, w.b-is) (search (all_below_lem, asks_below))
+      | else-l-deep w ↦ rw (w.found-is, w.b-is) (search (none_below, asks_below))
+    ] in
     search (asks_chain, visit, asks_below)
 
 pub bounds-index-c-then-l-below : goal.bounds-index-c-then-l-below
@@ -33,97 +33,97 @@ overflow_sub-to_usize-then-l-near t c = search (linked_beside, headed_below)
 pub descend-a-requires : goal.descend-a-requires
 descend-a-requires t c =
     let d : Does c.args.index.now c.args.found.now (c.args.s + c.comparison.result) c.if-l-deep.found c.if-l-deep.b (below_of c.args.index.now c.args.l (c.to_usize-c.result - 1)) =
-        elim c.if-l-deep.branch [
-            then-l-deep w ↦ rw (w.found-is, w.b-is) (search (all_below_lem, asks_below))
-          | else-l-deep w ↦ rw (w.found-is, w.b-is) (search (none_below, asks_below))
-          ] in
+    elim c.if-l-deep.branch [
+      | then-l-deep w ↦ rw (w.found-is, w.b-is) (search (all_below_lem, asks_below))
+      | else-l-deep w ↦ rw (w.found-is, w.b-is) (search (none_below, asks_below))
+    ] in
     calls_aside _ c.requires (search) (search) c.to_usize-c.ensures.value c.decreases d c.chain-d.ensures (search) (search) c.to_usize-then-l-near.ensures.value
 
 -- and what is below w, by each arm
 pub chain-e-requires : goal.chain-e-requires
 chain-e-requires t c =
     let d : Does c.args.index.now c.args.found.now c.args.s c.if-l-below.found c.if-l-below.a (below_of c.args.index.now c.args.l c.args.w) =
-        elim c.if-l-below.branch [
-            then-l-below+then-l-near w ↦
-              let d : Does c.args.index.now c.args.found.now (c.args.s + c.comparison.result) w.if-l-deep.found w.if-l-deep.b (below_of c.args.index.now c.args.l (w.to_usize-c.result - 1)) =
-                  elim w.if-l-deep.branch [
-                      then-l-deep v ↦ rw (v.found-is, v.b-is) (search (all_below_lem, asks_below))
-                    | else-l-deep v ↦ rw (v.found-is, v.b-is) (search (none_below, asks_below))
-                    ] in
-              rw (w.found-is, w.a-is) (search (all_below_lem, stepped, asks_below, visit, all_beside))
-          | then-l-below+else-l-near w ↦
-              let d : Does c.args.index.now c.args.found.now (c.args.s + c.comparison.result) w.if-l-deep.found w.if-l-deep.b (below_of c.args.index.now c.args.l (w.to_usize-c.result - 1)) =
-                  elim w.if-l-deep.branch [
-                      then-l-deep v ↦ rw (v.found-is, v.b-is) (search (all_below_lem, asks_below))
-                    | else-l-deep v ↦ rw (v.found-is, v.b-is) (search (none_below, asks_below))
-                    ] in
-              rw (w.found-is, w.a-is) (search (all_below_lem, stepped, asks_below, visit, none_beside))
-          | else-l-below w ↦ rw (w.found-is, w.a-is) (search none_below)
+    elim c.if-l-below.branch [
+      | then-l-below+then-l-near w ↦
+          let d : Does c.args.index.now c.args.found.now (c.args.s + c.comparison.result) w.if-l-deep.found w.if-l-deep.b (below_of c.args.index.now c.args.l (w.to_usize-c.result - 1)) =
+          elim w.if-l-deep.branch [
+            | then-l-deep v ↦ rw (v.found-is, v.b-is) (search (all_below_lem, asks_below))
+            | else-l-deep v ↦ rw (v.found-is, v.b-is) (search (none_below, asks_below))
           ] in
+          rw (w.found-is, w.a-is) (search (all_below_lem, stepped, asks_below, visit, all_beside))
+      | then-l-below+else-l-near w ↦
+          let d : Does c.args.index.now c.args.found.now (c.args.s + c.comparison.result) w.if-l-deep.found w.if-l-deep.b (below_of c.args.index.now c.args.l (w.to_usize-c.result - 1)) =
+          elim w.if-l-deep.branch [
+            | then-l-deep v ↦ rw (v.found-is, v.b-is) (search (all_below_lem, asks_below))
+            | else-l-deep v ↦ rw (v.found-is, v.b-is) (search (none_below, asks_below))
+          ] in
+          rw (w.found-is, w.a-is) (search (all_below_lem, stepped, asks_below, visit, none_beside))
+      | else-l-below w ↦ rw (w.found-is, w.a-is) (search none_below)
+    ] in
     search (asks_chain, visit)
 
 pub returns-then-beside-l : goal.returns-then-beside-l
 returns-then-beside-l t c =
     let d : Does c.args.index.now c.args.found.now c.args.s c.if-l-below.found c.if-l-below.a (below_of c.args.index.now c.args.l c.args.w) =
-        elim c.if-l-below.branch [
-            then-l-below+then-l-near w ↦
-              let d : Does c.args.index.now c.args.found.now (c.args.s + c.comparison.result) w.if-l-deep.found w.if-l-deep.b (below_of c.args.index.now c.args.l (w.to_usize-c.result - 1)) =
-                  elim w.if-l-deep.branch [
-                      then-l-deep v ↦ rw (v.found-is, v.b-is) (search (all_below_lem, asks_below))
-                    | else-l-deep v ↦ rw (v.found-is, v.b-is) (search (none_below, asks_below))
-                    ] in
-              rw (w.found-is, w.a-is) (search (all_below_lem, stepped, asks_below, visit, all_beside))
-          | then-l-below+else-l-near w ↦
-              let d : Does c.args.index.now c.args.found.now (c.args.s + c.comparison.result) w.if-l-deep.found w.if-l-deep.b (below_of c.args.index.now c.args.l (w.to_usize-c.result - 1)) =
-                  elim w.if-l-deep.branch [
-                      then-l-deep v ↦ rw (v.found-is, v.b-is) (search (all_below_lem, asks_below))
-                    | else-l-deep v ↦ rw (v.found-is, v.b-is) (search (none_below, asks_below))
-                    ] in
-              rw (w.found-is, w.a-is) (search (all_below_lem, stepped, asks_below, visit, none_beside))
-          | else-l-below w ↦ rw (w.found-is, w.a-is) (search none_below)
+    elim c.if-l-below.branch [
+      | then-l-below+then-l-near w ↦
+          let d : Does c.args.index.now c.args.found.now (c.args.s + c.comparison.result) w.if-l-deep.found w.if-l-deep.b (below_of c.args.index.now c.args.l (w.to_usize-c.result - 1)) =
+          elim w.if-l-deep.branch [
+            | then-l-deep v ↦ rw (v.found-is, v.b-is) (search (all_below_lem, asks_below))
+            | else-l-deep v ↦ rw (v.found-is, v.b-is) (search (none_below, asks_below))
           ] in
+          rw (w.found-is, w.a-is) (search (all_below_lem, stepped, asks_below, visit, all_beside))
+      | then-l-below+else-l-near w ↦
+          let d : Does c.args.index.now c.args.found.now (c.args.s + c.comparison.result) w.if-l-deep.found w.if-l-deep.b (below_of c.args.index.now c.args.l (w.to_usize-c.result - 1)) =
+          elim w.if-l-deep.branch [
+            | then-l-deep v ↦ rw (v.found-is, v.b-is) (search (all_below_lem, asks_below))
+            | else-l-deep v ↦ rw (v.found-is, v.b-is) (search (none_below, asks_below))
+          ] in
+          rw (w.found-is, w.a-is) (search (all_below_lem, stepped, asks_below, visit, none_beside))
+      | else-l-below w ↦ rw (w.found-is, w.a-is) (search none_below)
+    ] in
     search (stepped, none_beside, visit)
 
 pub descend-requires : goal.descend-requires
 descend-requires t c =
     let d : Does c.args.index.now c.args.found.now c.args.s c.if-l-below.found c.if-l-below.a (below_of c.args.index.now c.args.l c.args.w) =
-        elim c.if-l-below.branch [
-            then-l-below+then-l-near w ↦
-              let d : Does c.args.index.now c.args.found.now (c.args.s + c.comparison.result) w.if-l-deep.found w.if-l-deep.b (below_of c.args.index.now c.args.l (w.to_usize-c.result - 1)) =
-                  elim w.if-l-deep.branch [
-                      then-l-deep v ↦ rw (v.found-is, v.b-is) (search (all_below_lem, asks_below))
-                    | else-l-deep v ↦ rw (v.found-is, v.b-is) (search (none_below, asks_below))
-                    ] in
-              rw (w.found-is, w.a-is) (search (all_below_lem, stepped, asks_below, visit, all_beside))
-          | then-l-below+else-l-near w ↦
-              let d : Does c.args.index.now c.args.found.now (c.args.s + c.comparison.result) w.if-l-deep.found w.if-l-deep.b (below_of c.args.index.now c.args.l (w.to_usize-c.result - 1)) =
-                  elim w.if-l-deep.branch [
-                      then-l-deep v ↦ rw (v.found-is, v.b-is) (search (all_below_lem, asks_below))
-                    | else-l-deep v ↦ rw (v.found-is, v.b-is) (search (none_below, asks_below))
-                    ] in
-              rw (w.found-is, w.a-is) (search (all_below_lem, stepped, asks_below, visit, none_beside))
-          | else-l-below w ↦ rw (w.found-is, w.a-is) (search none_below)
+    elim c.if-l-below.branch [
+      | then-l-below+then-l-near w ↦
+          let d : Does c.args.index.now c.args.found.now (c.args.s + c.comparison.result) w.if-l-deep.found w.if-l-deep.b (below_of c.args.index.now c.args.l (w.to_usize-c.result - 1)) =
+          elim w.if-l-deep.branch [
+            | then-l-deep v ↦ rw (v.found-is, v.b-is) (search (all_below_lem, asks_below))
+            | else-l-deep v ↦ rw (v.found-is, v.b-is) (search (none_below, asks_below))
           ] in
+          rw (w.found-is, w.a-is) (search (all_below_lem, stepped, asks_below, visit, all_beside))
+      | then-l-below+else-l-near w ↦
+          let d : Does c.args.index.now c.args.found.now (c.args.s + c.comparison.result) w.if-l-deep.found w.if-l-deep.b (below_of c.args.index.now c.args.l (w.to_usize-c.result - 1)) =
+          elim w.if-l-deep.branch [
+            | then-l-deep v ↦ rw (v.found-is, v.b-is) (search (all_below_lem, asks_below))
+            | else-l-deep v ↦ rw (v.found-is, v.b-is) (search (none_below, asks_below))
+          ] in
+          rw (w.found-is, w.a-is) (search (all_below_lem, stepped, asks_below, visit, none_beside))
+      | else-l-below w ↦ rw (w.found-is, w.a-is) (search none_below)
+    ] in
     calls_beside _ c.requires d c.chain-e.ensures (search) (search) c.to_usize-2.ensures.value c.decreases
 
 pub returns : goal.returns
 returns t c =
     let d : Does c.args.index.now c.args.found.now c.args.s c.if-l-below.found c.if-l-below.a (below_of c.args.index.now c.args.l c.args.w) =
-        elim c.if-l-below.branch [
-            then-l-below+then-l-near w ↦
-              let d : Does c.args.index.now c.args.found.now (c.args.s + c.comparison.result) w.if-l-deep.found w.if-l-deep.b (below_of c.args.index.now c.args.l (w.to_usize-c.result - 1)) =
-                  elim w.if-l-deep.branch [
-                      then-l-deep v ↦ rw (v.found-is, v.b-is) (search (all_below_lem, asks_below))
-                    | else-l-deep v ↦ rw (v.found-is, v.b-is) (search (none_below, asks_below))
-                    ] in
-              rw (w.found-is, w.a-is) (search (all_below_lem, stepped, asks_below, visit, all_beside))
-          | then-l-below+else-l-near w ↦
-              let d : Does c.args.index.now c.args.found.now (c.args.s + c.comparison.result) w.if-l-deep.found w.if-l-deep.b (below_of c.args.index.now c.args.l (w.to_usize-c.result - 1)) =
-                  elim w.if-l-deep.branch [
-                      then-l-deep v ↦ rw (v.found-is, v.b-is) (search (all_below_lem, asks_below))
-                    | else-l-deep v ↦ rw (v.found-is, v.b-is) (search (none_below, asks_below))
-                    ] in
-              rw (w.found-is, w.a-is) (search (all_below_lem, stepped, asks_below, visit, none_beside))
-          | else-l-below w ↦ rw (w.found-is, w.a-is) (search none_below)
+    elim c.if-l-below.branch [
+      | then-l-below+then-l-near w ↦
+          let d : Does c.args.index.now c.args.found.now (c.args.s + c.comparison.result) w.if-l-deep.found w.if-l-deep.b (below_of c.args.index.now c.args.l (w.to_usize-c.result - 1)) =
+          elim w.if-l-deep.branch [
+            | then-l-deep v ↦ rw (v.found-is, v.b-is) (search (all_below_lem, asks_below))
+            | else-l-deep v ↦ rw (v.found-is, v.b-is) (search (none_below, asks_below))
           ] in
+          rw (w.found-is, w.a-is) (search (all_below_lem, stepped, asks_below, visit, all_beside))
+      | then-l-below+else-l-near w ↦
+          let d : Does c.args.index.now c.args.found.now (c.args.s + c.comparison.result) w.if-l-deep.found w.if-l-deep.b (below_of c.args.index.now c.args.l (w.to_usize-c.result - 1)) =
+          elim w.if-l-deep.branch [
+            | then-l-deep v ↦ rw (v.found-is, v.b-is) (search (all_below_lem, asks_below))
+            | else-l-deep v ↦ rw (v.found-is, v.b-is) (search (none_below, asks_below))
+          ] in
+          rw (w.found-is, w.a-is) (search (all_below_lem, stepped, asks_below, visit, none_beside))
+      | else-l-below w ↦ rw (w.found-is, w.a-is) (search none_below)
+    ] in
     search (stepped, all_beside, visit)

@@ -7,4 +7,3 @@ invariant-loop-i l = (l.i ≤ l.n) × (stands_at l.k (take l.n (spells_of l.word
 
 abbrev pub decreases-loop-i : goal.decreases-loop-i
 decreases-loop-i l = l.n - l.i
-

@@ -7,4 +7,3 @@ invariant-loop-i l = (l.from ≤ l.i) × (l.i ≤ l.to) × (l.to + l.by ≤ leng
 
 abbrev pub decreases-loop-i : goal.decreases-loop-i
 decreases-loop-i l = l.to - l.i
-

@@ -7,4 +7,3 @@ invariant-loop-i l = (l.i ≤ l.m) × (place_of l.s (take l.m (spells_of l.words
 
 abbrev pub decreases-loop-i : goal.decreases-loop-i
 decreases-loop-i l = l.m - l.i
-
