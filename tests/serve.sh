@@ -74,6 +74,9 @@ says "a directory as the register" ''
 run "$program" "$(head -c 5000 /dev/zero | tr '\0' a)" < "$stored/stdin" > "$work/out" 2> "$work/told"
 told "a name longer than a path" $? "serve: the name of the file: File name too long"
 says "a name longer than a path" ''
+run "$program" "$(printf '%b' 'a\0377')" < "$stored/stdin" > "$work/out" 2> "$work/told"
+told "a name that is not UTF-8" $? 'serve: a\0377: invalid filename'
+says "a name that is not UTF-8" ''
 
 # arguments
 for arguments in --help -x 'a b'; do
