@@ -1,5 +1,5 @@
 -- `decimals::end_before` meets its contract. Assumes nothing.
-use Rattle.decimals.proofs.{Names.{by_mark, rules}}
+use Rattle.decimals.proofs.Names.{by_mark}
 use Rattle.decimals.proofs.end_before.Goals as goal
 
 pub returns : goal.returns

@@ -1,5 +1,5 @@
 -- `decimals::read_number` meets its contract: a length that is read is at most the limit. Assumes nothing.
-use Rattle.decimals.proofs.{Decimals.length_within, Names.{arith, narrowed, rules, none_narrowed, said}}
+use Rattle.decimals.proofs.{Decimals.length_within, Names.{arith, narrowed, none_narrowed, said}}
 use Rattle.decimals.proofs.read_number.Goals as goal
 
 pub returns-in_default : goal.returns-in_default

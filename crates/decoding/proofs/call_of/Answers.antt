@@ -1,5 +1,5 @@
 -- `decoding::call_of` meets its contract: one arm a call. Assumes nothing.
-use Rattle.basis.proofs.Prelude.{rules, ne_eqb}
+use Rattle.basis.proofs.Prelude.{ne_eqb}
 use Rattle.coding.specs.Coded.{call_of}
 use Rattle.decoding.proofs.call_of.Goals as goal
 

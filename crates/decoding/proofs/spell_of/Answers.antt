@@ -1,5 +1,4 @@
 -- `decoding::spell_of` meets its contract: field by field. Assumes nothing.
-use Rattle.basis.proofs.Prelude.{rules}
 use Rattle.decoding.proofs.spell_of.Goals as goal
 
 pub returns : goal.returns

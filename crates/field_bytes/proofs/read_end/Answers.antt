@@ -1,5 +1,5 @@
 -- `field_bytes::read_end` meets its contract. Assumes nothing.
-use Rattle.basis.proofs.Prelude.{◌∙◌, sym, arith, rules}
+use Rattle.basis.proofs.Prelude.{◌∙◌, sym, arith}
 use Rattle.fields.proofs.Places.{at_inside, end_not, end_at}
 use Rattle.field_bytes.proofs.read_end.Goals as goal
 

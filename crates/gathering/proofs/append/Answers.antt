@@ -1,6 +1,6 @@
 -- `gathering::append` meets its contract. Assumes nothing.
-use Rattle.basis.proofs.Prelude.{inl, inr, arith, rules}
-use Rattle.gathering.proofs.{Gathering.{none_appended, left_appended, copied}}
+use Rattle.basis.proofs.Prelude.{inl, inr, arith}
+use Rattle.gathering.proofs.Gathering.{none_appended, left_appended, copied}
 use Rattle.gathering.proofs.append.Goals as goal
 
 pub returns-then-size-at : goal.returns-then-size-at

@@ -1,5 +1,5 @@
 -- `hexadecimals::hex_digit` meets its contract. Assumes nothing.
-use Rattle.basis.proofs.Prelude.{arith, rules, le-ltb, lt-ltb}
+use Rattle.basis.proofs.Prelude.{arith, le-ltb, lt-ltb}
 use Rattle.fields.specs.Fields.{hex_digit}
 use Rattle.hexadecimals.proofs.hex_digit.Goals as goal
 

@@ -1,5 +1,5 @@
 -- `hexadecimals::hex_value` meets its contract. Assumes nothing.
-use Rattle.basis.proofs.Prelude.{◌∙◌, sym, arith, rules}
+use Rattle.basis.proofs.Prelude.{◌∙◌, sym, arith}
 use Rattle.fields.{specs.Fields.hex_value, proofs.Bytes.digit_range}
 use Rattle.hexadecimals.proofs.{Hex.letter_from}
 use Rattle.hexadecimals.proofs.hex_value.Goals as goal

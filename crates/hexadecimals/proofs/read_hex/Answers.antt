@@ -1,7 +1,5 @@
 -- `hexadecimals::read_hex` meets its contract. The invariant: reading the digits left from the place i with the value v gives what was to be read. Assumes nothing.
-use Prim.Native.Nat.{◌^◌}
-use Rattle.basis.proofs.Prelude.{◌≡◌, ◌-◌, ◌<◌, ◌≤◌, drop, arith}
-use Rattle.fields.specs.Fields.{read_hex}
+use Rattle.basis.proofs.Prelude.{◌≡◌, ◌-◌, arith}
 use Rattle.hexadecimals.proofs.{Hex.{value_fits, digit_fits, digit_limit}, Places.{hex_all, hex_past, hex_none, hex_more}}
 use Rattle.hexadecimals.proofs.read_hex.Goals as goal
 

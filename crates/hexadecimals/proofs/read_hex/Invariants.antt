@@ -1,7 +1,6 @@
 use Prim.Native.Nat.{◌^◌}
-use Rattle.basis.proofs.Prelude.{◌≡◌, ◌-◌, ◌<◌, ◌≤◌, drop, arith}
+use Rattle.basis.proofs.Prelude.{◌≡◌, ◌-◌, ◌<◌, ◌≤◌, drop}
 use Rattle.fields.specs.Fields.{read_hex}
-use Rattle.hexadecimals.proofs.{Hex.{value_fits, digit_fits, digit_limit}, Places.{hex_all, hex_past, hex_none, hex_more}}
 use Rattle.hexadecimals.proofs.read_hex.Given as goal
 
 abbrev pub invariant-loop-k : goal.invariant-loop-k

@@ -1,7 +1,7 @@
 -- `list_publishing::publish` meets its contract: the rule is tested, and the index laid. Assumes nothing.
 use Rattle.basis.proofs.Prelude.{ap, not}
 use Rattle.published_index.proofs.Shown.{no_rule, by_rule}
-use Rattle.list_publishing.proofs.{Laying.{rules, list_of}}
+use Rattle.list_publishing.proofs.Laying.{list_of}
 use Rattle.list_publishing.proofs.publish.Goals as goal
 
 pub returns-then-not-is_rule : goal.returns-then-not-is_rule

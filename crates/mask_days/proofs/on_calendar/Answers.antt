@@ -1,7 +1,7 @@
 -- `mask_days::on_calendar` meets its contract. Assumes nothing.
-use Rattle.basis.proofs.Prelude.{arith, rules}
+use Rattle.basis.proofs.Prelude.{arith}
 use lib.Count.{trailing_le}
-use Rattle.mask_days.proofs.{Ticking.{empty_on, low_off, high_on, zeros_above}}
+use Rattle.mask_days.proofs.Ticking.{empty_on, low_off, high_on, zeros_above}
 use Rattle.mask_days.proofs.on_calendar.Goals as goal
 
 pub returns-then-mask-eq0 : goal.returns-then-mask-eq0

@@ -1,7 +1,7 @@
 -- `mask_days::put` meets its contract: the first n ticked days are put, and those of the bits from i on are still to come. Assumes nothing.
 use Rattle.basis.proofs.Prelude.{◌∙◌, sym, ◌+◌, ◌-◌, ◌<◌, ◌≤◌, arith}
 use lib.Count.{count_trailing_zeros}
-use Rattle.mask_days.proofs.{Ticking.{Ticking, begins, turn, goes_on, ends}}
+use Rattle.mask_days.proofs.Ticking.{begins, turn, goes_on, ends}
 use Rattle.mask_days.proofs.put.Goals as goal
 
 known : (c : goal.In-loop-left) → let i = c.loop-left.i + count_trailing_zeros 64 c.loop-left.left in

@@ -1,6 +1,5 @@
-use Rattle.basis.proofs.Prelude.{◌∙◌, sym, ◌+◌, ◌-◌, ◌<◌, ◌≤◌, arith}
-use lib.Count.{count_trailing_zeros}
-use Rattle.mask_days.proofs.{Ticking.{Ticking, begins, turn, goes_on, ends}}
+use Rattle.basis.proofs.Prelude.{◌-◌}
+use Rattle.mask_days.proofs.Ticking.{Ticking}
 use Rattle.mask_days.proofs.put.Given as goal
 
 abbrev pub invariant-loop-left : goal.invariant-loop-left

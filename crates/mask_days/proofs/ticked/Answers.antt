@@ -1,7 +1,7 @@
 -- `mask_days::ticked` meets its contract. Assumes nothing.
 use Rattle.basis.proofs.Prelude.{arith, rules}
 use lib.Count.{ones-le}
-use Rattle.mask_days.proofs.{Ticking.{off, is_on, all}}
+use Rattle.mask_days.proofs.Ticking.{off, is_on, all}
 use Rattle.mask_days.proofs.ticked.Goals as goal
 
 pub returns-then-not-on_calendar : goal.returns-then-not-on_calendar

@@ -1,6 +1,6 @@
 -- `packing::put_spells` meets its contract. The loop's invariant: the words of the first i spells are put. Assumes nothing.
-use Rattle.basis.proofs.Prelude.{◌-◌, ◌≤◌, take, arith, rules}
-use Rattle.packing.proofs.{Blocks.{put_done, put_long, put_more, put_nothing, put_short}, Names.{PutAll, mul_comm, spell_of, spell_words}, Words.spell_long}
+use Rattle.basis.proofs.Prelude.{◌-◌, arith}
+use Rattle.packing.proofs.{Blocks.{put_done, put_long, put_more, put_nothing, put_short}, Names.{mul_comm, spell_of, spell_words}, Words.spell_long}
 use Rattle.packing.proofs.put_spells.Goals as goal
 
 pub returns-then-out-lt-SPELLS : goal.returns-then-out-lt-SPELLS

@@ -1,5 +1,5 @@
-use Rattle.basis.proofs.Prelude.{◌-◌, ◌≤◌, take, arith, rules}
-use Rattle.packing.proofs.{Blocks.{put_done, put_long, put_more, put_nothing, put_short}, Names.{PutAll, mul_comm, spell_of, spell_words}, Words.spell_long}
+use Rattle.basis.proofs.Prelude.{◌-◌, ◌≤◌, take}
+use Rattle.packing.proofs.Names.{PutAll, spell_of, spell_words}
 use Rattle.packing.proofs.put_spells.Given as goal
 
 abbrev pub invariant-loop-i : goal.invariant-loop-i

@@ -1,6 +1,6 @@
 -- `packing::spell_at` meets its contract. Assumes nothing.
-use Rattle.basis.proofs.Prelude.{arith, rules}
-use Rattle.packing.proofs.{Words.{room, spell_none, spell_read}}
+use Rattle.basis.proofs.Prelude.{arith}
+use Rattle.packing.proofs.Words.{room, spell_none, spell_read}
 use Rattle.packing.proofs.spell_at.Goals as goal
 
 pub returns-then-words-lt-SPELL : goal.returns-then-words-lt-SPELL

@@ -1,6 +1,6 @@
 -- `packing::spells_at` meets its contract. The loop's invariant: the first i spells are read. Assumes nothing.
-use Rattle.basis.proofs.Prelude.{◌≡◌, ◌-◌, ◌≤◌, length, length-set, take, arith, rules}
-use Rattle.packing.proofs.{Blocks.{parts_done, parts_more}, Names.{mul_comm, parts, spell_of, spell_width}}
+use Rattle.basis.proofs.Prelude.{◌-◌, length-set, arith, rules}
+use Rattle.packing.proofs.{Blocks.{parts_done, parts_more}, Names.{mul_comm, parts}}
 use Rattle.packing.proofs.spells_at.Goals as goal
 
 pub loop-i-init : goal.loop-i-init

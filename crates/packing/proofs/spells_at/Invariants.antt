@@ -1,5 +1,5 @@
-use Rattle.basis.proofs.Prelude.{◌≡◌, ◌-◌, ◌≤◌, length, length-set, take, arith, rules}
-use Rattle.packing.proofs.{Blocks.{parts_done, parts_more}, Names.{mul_comm, parts, spell_of, spell_width}}
+use Rattle.basis.proofs.Prelude.{◌≡◌, ◌-◌, ◌≤◌, length, take}
+use Rattle.packing.proofs.Names.{parts, spell_of, spell_width}
 use Rattle.packing.proofs.spells_at.Given as goal
 
 abbrev pub invariant-loop-i : goal.invariant-loop-i

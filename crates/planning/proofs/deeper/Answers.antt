@@ -1,5 +1,5 @@
 -- `planning::deeper` meets its contract. Assumes nothing.
-use Rattle.basis.proofs.Prelude.{arith, le-leb, lt-leb}
+use Rattle.basis.proofs.Prelude.{le-leb, lt-leb}
 use Rattle.planning.proofs.deeper.Goals as goal
 
 pub returns-then-not-notes : goal.returns-then-not-notes

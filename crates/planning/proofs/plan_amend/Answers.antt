@@ -1,6 +1,5 @@
 -- `planning::plan_amend` meets its contract. Assumes nothing.
-use Rattle.basis.proofs.Prelude.{rules}
-use Rattle.planning.proofs.{Checks.{untaken, taken, amended, refused, passed, same, other}}
+use Rattle.planning.proofs.Checks.{untaken, taken, amended, refused, passed, same, other}
 use Rattle.planning.proofs.plan_amend.Goals as goal
 
 pub returns-then-refusal-ne-ACCEPTED : goal.returns-then-refusal-ne-ACCEPTED

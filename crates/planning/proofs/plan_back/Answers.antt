@@ -1,5 +1,5 @@
 -- `planning::plan_back` meets its contract. Assumes nothing.
-use Rattle.basis.proofs.Prelude.{arith, rules, eq-eqb, ne_eqb}
+use Rattle.basis.proofs.Prelude.{arith, eq-eqb, ne_eqb}
 use Rattle.planning.proofs.plan_back.Goals as goal
 
 pub returns-then-d-eq0 : goal.returns-then-d-eq0

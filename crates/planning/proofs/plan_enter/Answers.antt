@@ -1,6 +1,5 @@
 -- `planning::plan_enter` meets its contract. Assumes nothing.
-use Rattle.basis.proofs.Prelude.{rules}
-use Rattle.planning.proofs.{Checks.{untaken, taken, entered, refused, passed}}
+use Rattle.planning.proofs.Checks.{untaken, taken, entered, refused, passed}
 use Rattle.planning.proofs.plan_enter.Goals as goal
 
 pub returns-then-refusal-ne-ACCEPTED : goal.returns-then-refusal-ne-ACCEPTED

@@ -1,5 +1,5 @@
 -- `planning::plan_strike` meets its contract. Assumes nothing.
-use Rattle.basis.proofs.Prelude.{rules, le-leb, lt-leb}
+use Rattle.basis.proofs.Prelude.{le-leb, lt-leb}
 use Rattle.planning.proofs.plan_strike.Goals as goal
 
 pub returns-then-p-n : goal.returns-then-p-n

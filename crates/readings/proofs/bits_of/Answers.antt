@@ -1,6 +1,6 @@
 -- `readings::bits_of` meets its contract. Assumes nothing.
 -- what the test `x != x` tells
-use Rattle.basis.proofs.Prelude.{◌≡◌, false, rules, not, T, true≢false}
+use Rattle.basis.proofs.Prelude.{◌≡◌, false, not, T, true≢false}
 use lib.Ieee.{Float, nan, inf, fin, ne, is_nan, to_bits, Compare.differs_from_itself}
 use Rattle.readings.proofs.bits_of.Goals as goal
 

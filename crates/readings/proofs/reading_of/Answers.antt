@@ -1,5 +1,5 @@
 -- `readings::reading_of` meets its contract. Assumes nothing.
-use Rattle.basis.proofs.Prelude.{◌∙◌, ◌≡◌, refl, sym, rules, le-ltb, lt-ltb, T}
+use Rattle.basis.proofs.Prelude.{◌∙◌, ◌≡◌, refl, sym, le-ltb, lt-ltb, T}
 use lib.Ieee.{Float, nan, inf, fin, is_nan, binary32, div, of_bits, Bits.{nan_bits_is, nan_bits_above}}
 use Rattle.readings.proofs.reading_of.Goals as goal
 

@@ -1,7 +1,7 @@
 -- `register_line::read_letter` meets its contract. Assumes nothing.
-use Rattle.basis.proofs.Prelude.{◌∙◌, sym, arith, rules, not-false}
+use Rattle.basis.proofs.Prelude.{◌∙◌, sym, arith}
 use Rattle.fields.proofs.Places.{at_inside}
-use Rattle.register_line.proofs.{Places.{letter_past, letter_other, letter_alone, letter_there}}
+use Rattle.register_line.proofs.Places.{letter_past, letter_other, letter_alone, letter_there}
 use Rattle.register_line.proofs.read_letter.Goals as goal
 
 pub returns-then-text-at : goal.returns-then-text-at

@@ -1,6 +1,6 @@
 -- `register_line::read_line` meets its contract: each field is read where the one before it ended. Assumes nothing.
 use Rattle.register.specs.Text.{read_line}
-use Rattle.register_line.proofs.{Places.{none, after, no_urgency, whole_line}}
+use Rattle.register_line.proofs.Places.{none, after, no_urgency, whole_line}
 use Rattle.register_line.proofs.read_line.Goals as goal
 
 pub read_number-requires : goal.read_number-requires

@@ -1,6 +1,6 @@
 -- `register_repair::repair` meets its contract. Assumes nothing.
 use Rattle.basis.proofs.Prelude.{ap, length, arith}
-use Rattle.register_repair.proofs.{Whole.{too_long, known, remarks_short, text_short, given, out_sized, said_sized}}
+use Rattle.register_repair.proofs.Whole.{too_long, known, remarks_short, text_short, given, out_sized, said_sized}
 use Rattle.register_repair.proofs.repair.Goals as goal
 
 pub refused-requires : goal.refused-requires

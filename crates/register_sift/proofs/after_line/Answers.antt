@@ -1,6 +1,6 @@
 -- `register_sift::after_line` meets its contract: what follows the line is what follows it from the place i on. Assumes nothing.
-use Rattle.basis.proofs.Prelude.{◌≡◌, ◌-◌, ◌≤◌, drop, length, arith, rules}
-use Rattle.register_sift.proofs.{Names.after_line, Judging.{ends_here, goes_on, ends_text}}
+use Rattle.basis.proofs.Prelude.{◌-◌, arith}
+use Rattle.register_sift.proofs.Judging.{ends_here, goes_on, ends_text}
 use Rattle.register_sift.proofs.after_line.Goals as goal
 
 pub loop-i-init : goal.loop-i-init

@@ -1,5 +1,5 @@
-use Rattle.basis.proofs.Prelude.{◌≡◌, ◌-◌, ◌≤◌, drop, length, arith, rules}
-use Rattle.register_sift.proofs.{Names.after_line, Judging.{ends_here, goes_on, ends_text}}
+use Rattle.basis.proofs.Prelude.{◌≡◌, ◌-◌, ◌≤◌, drop, length}
+use Rattle.register_sift.proofs.{Names.after_line}
 use Rattle.register_sift.proofs.after_line.Given as goal
 
 abbrev pub invariant-loop-i : goal.invariant-loop-i

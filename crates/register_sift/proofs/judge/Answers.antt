@@ -1,6 +1,6 @@
 -- `register_sift::judge` meets its contract. Assumes nothing.
 use Rattle.basis.proofs.Prelude.{rules}
-use Rattle.register_sift.proofs.{Judging.{unread, not_entered, taken, no_room, passes}}
+use Rattle.register_sift.proofs.Judging.{unread, not_entered, taken, no_room, passes}
 use Rattle.register_sift.proofs.judge.Goals as goal
 
 pub blank-none-requires : goal.blank-none-requires

@@ -1,6 +1,5 @@
 -- `register_sift::sift` meets its contract. Assumes nothing.
-use Rattle.basis.proofs.Prelude.{arith, rules}
-use Rattle.register_sift.proofs.{Sifting.{within, beyond}}
+use Rattle.register_sift.proofs.Sifting.{within, beyond}
 use Rattle.register_sift.proofs.sift.Goals as goal
 
 pub returns-then-text-gt-TEXT : goal.returns-then-text-gt-TEXT

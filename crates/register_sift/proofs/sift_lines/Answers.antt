@@ -1,6 +1,6 @@
 -- `register_sift::sift_lines` meets its contract. The invariant is `State`: the lines so far are kept or dropped. Assumes nothing.
-use Rattle.basis.proofs.Prelude.{◌-◌, length, arith, rules}
-use Rattle.register_sift.proofs.{Sifting.{State, begins, drops, keeps_one, ends}}
+use Rattle.basis.proofs.Prelude.{◌-◌, arith, rules}
+use Rattle.register_sift.proofs.Sifting.{begins, drops, keeps_one, ends}
 use Rattle.register_sift.proofs.sift_lines.Goals as goal
 
 pub blank-none-requires : goal.blank-none-requires

@@ -1,5 +1,5 @@
-use Rattle.basis.proofs.Prelude.{◌-◌, length, arith, rules}
-use Rattle.register_sift.proofs.{Sifting.{State, begins, drops, keeps_one, ends}}
+use Rattle.basis.proofs.Prelude.{◌-◌, length}
+use Rattle.register_sift.proofs.Sifting.{State}
 use Rattle.register_sift.proofs.sift_lines.Given as goal
 
 abbrev pub invariant-loop-at : goal.invariant-loop-at

@@ -1,5 +1,5 @@
 -- `register_write::put_urgency` meets its contract. Assumes nothing.
-use Rattle.register_write.proofs.{Backward.{grade_put, reading_put}}
+use Rattle.register_write.proofs.Backward.{grade_put, reading_put}
 use Rattle.register_write.proofs.put_urgency.Goals as goal
 
 pub enum_known-u : goal.enum_known-u

@@ -1,6 +1,6 @@
 -- `register_write::write` meets its contract. The invariant is `Back`: the text of the spells from i on stands at the end. Assumes nothing.
-use Rattle.basis.proofs.Prelude.{take, arith, rules, unmapped}
-use Rattle.register_write.proofs.{Backward.{Back, back_start, back_room, back_step, too_short, copy_fits, copied, copied_sized}}
+use Rattle.basis.proofs.Prelude.{rules, unmapped}
+use Rattle.register_write.proofs.Backward.{back_start, back_room, back_step}
 use Rattle.register_write.proofs.write.Goals as goal
 
 pub loop-i-init : goal.loop-i-init

@@ -1,5 +1,5 @@
-use Rattle.basis.proofs.Prelude.{take, arith, rules, unmapped}
-use Rattle.register_write.proofs.{Backward.{Back, back_start, back_room, back_step, too_short, copy_fits, copied, copied_sized}}
+use Rattle.basis.proofs.Prelude.{take}
+use Rattle.register_write.proofs.Backward.{Back}
 use Rattle.register_write.proofs.write.Given as goal
 
 abbrev pub invariant-loop-i : goal.invariant-loop-i

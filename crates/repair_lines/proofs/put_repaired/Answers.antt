@@ -1,5 +1,4 @@
 -- `repair_lines::put_repaired` meets its contract. Assumes nothing.
-use Rattle.basis.proofs.Prelude.{rules}
 use Rattle.repair_text.{specs.Lines.repaired_word, proofs.Lines.{ending, said}}
 use Rattle.repair_lines.proofs.put_repaired.Goals as goal
 

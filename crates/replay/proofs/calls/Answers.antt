@@ -1,6 +1,6 @@
 -- `replay::calls` meets its contract. The invariant is Going: what is done, followed by what is still to come, is the whole. The
 -- measure is the codes that are left. Assumes nothing.
-use Rattle.replay.proofs.{Names.{◌-◌, arith, blocks, rules, next_room}, Runs.{Going, ended_all, ended_stop, starts, turned}}
+use Rattle.replay.proofs.{Names.{◌-◌, arith, next_room}, Runs.{ended_all, ended_stop, starts, turned}}
 use Rattle.replay.proofs.calls.Goals as goal
 
 pub loop-made-init : goal.loop-made-init

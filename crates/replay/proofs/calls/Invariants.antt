@@ -1,4 +1,4 @@
-use Rattle.replay.proofs.{Names.{◌-◌, arith, blocks, rules, next_room}, Runs.{Going, ended_all, ended_stop, starts, turned}}
+use Rattle.replay.proofs.{Names.{◌-◌, blocks}, Runs.{Going}}
 use Rattle.replay.proofs.calls.Given as goal
 
 abbrev pub invariant-loop-made : goal.invariant-loop-made

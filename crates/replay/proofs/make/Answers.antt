@@ -1,5 +1,5 @@
 -- `replay::make` meets its contract: the parts that are lent lie in their lists, as it requires. Assumes nothing.
-use Rattle.replay.proofs.{Names.{arith, rules, refl}}
+use Rattle.replay.proofs.Names.{refl}
 use Rattle.replay.proofs.make.Goals as goal
 
 pub returns : goal.returns

@@ -1,7 +1,7 @@
 -- `reply_calls::put_fitting` meets its contract: a refused call, and each shape. Assumes nothing.
 use Rattle.basis.proofs.Prelude.{sym, length-take-le, rules}
 use Rattle.replies.specs.Replies.{shape_text}
-use Rattle.reply_calls.proofs.{Shapes.{few, sends_refused, sends_shape}}
+use Rattle.reply_calls.proofs.Shapes.{few, sends_refused, sends_shape}
 use Rattle.reply_calls.proofs.put_fitting.Goals as goal
 
 pub returns-then-o-ne-ACCEPTED : goal.returns-then-o-ne-ACCEPTED

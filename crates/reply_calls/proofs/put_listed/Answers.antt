@@ -1,5 +1,4 @@
 -- `reply_calls::put_listed` meets its contract. Assumes nothing.
-use Rattle.basis.proofs.Prelude.{rules}
 use Rattle.replies.{specs.Replies.listed_text, proofs.Sending.placing}
 use Rattle.reply_calls.proofs.put_listed.Goals as goal
 

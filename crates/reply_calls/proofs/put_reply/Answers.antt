@@ -1,5 +1,4 @@
 -- `reply_calls::put_reply` meets its contract: what fits its lists, and what does not. Assumes nothing.
-use Rattle.basis.proofs.Prelude.{rules}
 use Rattle.replies.proofs.{Sending.placing, Fitting.{fitted, put_whole, put_nothing}}
 use Rattle.reply_calls.proofs.put_reply.Goals as goal
 

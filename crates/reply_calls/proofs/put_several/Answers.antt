@@ -1,5 +1,4 @@
 -- `reply_calls::put_several` meets its contract. Assumes nothing.
-use Rattle.basis.proofs.Prelude.{rules}
 use Rattle.replies.{specs.Replies.several_text, proofs.Sending.placing}
 use Rattle.reply_calls.proofs.put_several.Goals as goal
 

@@ -1,5 +1,4 @@
 -- `reply_calls::put_ticked` meets its contract. Assumes nothing.
-use Rattle.basis.proofs.Prelude.{rules}
 use Rattle.replies.{specs.Replies.ticked_text, proofs.Sending.placing}
 use Rattle.reply_calls.proofs.put_ticked.Goals as goal
 

@@ -1,5 +1,4 @@
 -- `reply_calls::put_written` meets its contract. Assumes nothing.
-use Rattle.basis.proofs.Prelude.{rules}
 use Rattle.replies.{specs.Replies.written_text, proofs.Sending.placing}
 use Rattle.reply_calls.proofs.put_written.Goals as goal
 

@@ -1,5 +1,4 @@
 -- `reply_lines::put_alone` meets its contract. Assumes nothing.
-use Rattle.basis.proofs.Prelude.{rules}
 use Rattle.replies.proofs.Sending.{placing}
 use Rattle.reply_lines.proofs.put_alone.Goals as goal
 

@@ -1,5 +1,4 @@
 -- `reply_lines::put_bytes` meets its contract. Assumes nothing.
-use Rattle.basis.proofs.Prelude.{rules}
 use Rattle.replies.proofs.Sending.{put_copied}
 use Rattle.fields.proofs.Puts.{puts_before, puts_past}
 use Rattle.reply_lines.proofs.put_bytes.Goals as goal

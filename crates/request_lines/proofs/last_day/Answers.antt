@@ -1,6 +1,5 @@
 -- `request_lines::last_day` meets its contract. Assumes nothing.
-use Rattle.basis.proofs.Prelude.{rules}
-use Rattle.request_lines.proofs.{DayLists.{last_unread, last_more, last_one}}
+use Rattle.request_lines.proofs.DayLists.{last_unread, last_more, last_one}
 use Rattle.request_lines.proofs.last_day.Goals as goal
 
 pub returns-in_default : goal.returns-in_default

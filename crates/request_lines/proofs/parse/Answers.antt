@@ -1,6 +1,6 @@
 -- `request_lines::parse` meets its contract: each layout with what its fields ask. Assumes nothing.
 use Rattle.requests.specs.Requests.{asked_by, days_by}
-use Rattle.request_lines.proofs.{Parsed.{parses_long, parses_by, parses_alone, parses_days}}
+use Rattle.request_lines.proofs.Parsed.{parses_long, parses_by, parses_alone, parses_days}
 use Rattle.request_lines.proofs.parse.Goals as goal
 
 pub returns-then-line-gt-LONGEST_LINE : goal.returns-then-line-gt-LONGEST_LINE

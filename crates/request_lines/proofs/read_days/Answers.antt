@@ -1,8 +1,7 @@
 -- `request_lines::read_days` meets its contract. The invariant: k days stand in their places, and the rest is to be read from the place `at`.
 -- Assumes nothing.
-use Rattle.basis.proofs.Prelude.{◌≡◌, ◌-◌, ◌≤◌, drop, length, arith, rules}
-use Rattle.requests.specs.Requests.{read_days}
-use Rattle.request_lines.proofs.{DayLists.{Onward, onward_start, onward_step, onward_last, onward_full}}
+use Rattle.basis.proofs.Prelude.{◌-◌, arith, rules}
+use Rattle.request_lines.proofs.DayLists.{onward_start, onward_step, onward_last, onward_full}
 use Rattle.request_lines.proofs.read_days.Goals as goal
 
 pub loop-k-init : goal.loop-k-init

@@ -1,6 +1,6 @@
-use Rattle.basis.proofs.Prelude.{◌≡◌, ◌-◌, ◌≤◌, drop, length, arith, rules}
+use Rattle.basis.proofs.Prelude.{◌≡◌, ◌-◌, ◌≤◌, drop, length}
 use Rattle.requests.specs.Requests.{read_days}
-use Rattle.request_lines.proofs.{DayLists.{Onward, onward_start, onward_step, onward_last, onward_full}}
+use Rattle.request_lines.proofs.DayLists.{Onward}
 use Rattle.request_lines.proofs.read_days.Given as goal
 
 abbrev pub invariant-loop-k : goal.invariant-loop-k

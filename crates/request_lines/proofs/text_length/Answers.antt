@@ -1,6 +1,5 @@
 -- `request_lines::text_length` meets its contract: a line that is too long, one with another word, and a `read`. Assumes nothing.
 use Rattle.requests.proofs.Announced.{long_none, other_none, read_announces}
-use Rattle.basis.proofs.Prelude.{arith, rules}
 use Rattle.request_lines.proofs.text_length.Goals as goal
 
 pub returns-then-line-gt-LONGEST_LINE : goal.returns-then-line-gt-LONGEST_LINE

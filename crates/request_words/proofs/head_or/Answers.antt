@@ -1,5 +1,5 @@
 -- `request_words::head_or` meets its contract. Assumes nothing.
-use Rattle.basis.proofs.Prelude.{◌∙◌, sym, rules}
+use Rattle.basis.proofs.Prelude.{◌∙◌, sym}
 use Rattle.request_words.proofs.head_or.Goals as goal
 
 pub returns-then-begins : goal.returns-then-begins

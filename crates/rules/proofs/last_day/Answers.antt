@@ -1,5 +1,5 @@
 -- `rules::last_day` meets its contract. Assumes nothing.
-use Rattle.basis.proofs.Prelude.{eq-eqb, ne_eqb, rules}
+use Rattle.basis.proofs.Prelude.{eq-eqb, ne_eqb}
 use Rattle.rules.specs.Rules.{last_of}
 use Rattle.rules.proofs.last_day.Goals as goal
 

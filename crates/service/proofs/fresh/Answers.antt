@@ -1,5 +1,5 @@
 -- `service::fresh` meets its contract. Assumes nothing.
-use Rattle.basis.proofs.Prelude.{ap, rules}
+use Rattle.basis.proofs.Prelude.{ap}
 use Rattle.service.proofs.{Beginning.represents_fresh, Names.service_of}
 use Rattle.service.proofs.fresh.Goals as goal
 

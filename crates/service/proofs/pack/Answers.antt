@@ -1,5 +1,5 @@
 -- `service::pack` meets its contract: the words are those of its standing list. Assumes nothing.
-use Rattle.basis.proofs.Prelude.{ap, rules}
+use Rattle.basis.proofs.Prelude.{ap}
 use Rattle.service.proofs.{Names.service_of}
 use Rattle.service.proofs.pack.Goals as goal
 

@@ -1,5 +1,5 @@
 -- `service::published` meets its contract: what came of the index is told. Assumes nothing.
-use Rattle.basis.proofs.Prelude.{◌∙◌, ap, refl, rules}
+use Rattle.basis.proofs.Prelude.{◌∙◌, ap, refl}
 use Rattle.service.proofs.{Names.told_of}
 use Rattle.service.proofs.published.Goals as goal
 

@@ -1,5 +1,5 @@
 -- `service::unpack` meets its contract. Assumes nothing.
-use Rattle.basis.proofs.Prelude.{ap, rules}
+use Rattle.basis.proofs.Prelude.{ap}
 use Rattle.service.proofs.{Names.service_of}
 use Rattle.service.proofs.unpack.Goals as goal
 

@@ -1,5 +1,4 @@
 -- `spell_checks::same_urgency` meets its contract. Assumes nothing.
-use Rattle.basis.proofs.Prelude.{rules}
 use Rattle.spell_checks.proofs.same_urgency.Goals as goal
 
 pub returns-in-Grade-b : goal.returns-in-Grade-b

@@ -1,5 +1,5 @@
 -- `spell_checks::urgency_ok` meets its contract. Assumes nothing.
-use Rattle.basis.proofs.Prelude.{◌∙◌, ap, sym, rules, le-leb, lt-leb}
+use Rattle.basis.proofs.Prelude.{◌∙◌, ap, sym, le-leb, lt-leb}
 use Rattle.spell.{proofs.Entered.by_bits, specs.Entry.urgency_ok}
 use Rattle.spell_checks.proofs.urgency_ok.Goals as goal
 

@@ -1,8 +1,8 @@
 -- `stabbing_days::days` meets its contract: each need is a step of `proofs/Several.antt`. Assumes nothing.
 use Rattle.basis.proofs.Prelude.{◌∙◌, sym, rules}
 use Rattle.stabbing.specs.Answer.{days_of}
-use Rattle.stabbing_query.proofs.Answering.{refusal, off, on}
-use Rattle.stabbing_days.proofs.{Several.{part_count, part_in, asks_gather, too_many, all_written}}
+use Rattle.stabbing_query.proofs.Answering.{refusal}
+use Rattle.stabbing_days.proofs.Several.{part_count, part_in, asks_gather, too_many, all_written}
 use Rattle.stabbing_days.proofs.days.Goals as goal
 
 pub returns-then-not-on_calendar : goal.returns-then-not-on_calendar

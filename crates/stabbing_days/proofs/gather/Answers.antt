@@ -1,6 +1,6 @@
 -- `stabbing_days::gather` meets its contract: each need is a step of `proofs/Several.antt`. Assumes nothing.
-use Rattle.basis.proofs.Prelude.{◌-◌, length, rules}
-use Rattle.stabbing_days.proofs.{Several.{Going, begins, ends, some_left, asks_day, begun_word, small, goes_on}}
+use Rattle.basis.proofs.Prelude.{◌-◌, rules}
+use Rattle.stabbing_days.proofs.Several.{begins, ends, some_left, asks_day, begun_word, small, goes_on}
 use Rattle.stabbing_days.proofs.gather.Goals as goal
 
 pub loop-i-init : goal.loop-i-init

@@ -1,5 +1,5 @@
-use Rattle.basis.proofs.Prelude.{◌-◌, length, rules}
-use Rattle.stabbing_days.proofs.{Several.{Going, begins, ends, some_left, asks_day, begun_word, small, goes_on}}
+use Rattle.basis.proofs.Prelude.{◌-◌, length}
+use Rattle.stabbing_days.proofs.Several.{Going}
 use Rattle.stabbing_days.proofs.gather.Given as goal
 
 abbrev pub invariant-loop-i : goal.invariant-loop-i

@@ -1,6 +1,6 @@
 -- `stabbing_days::skip` meets its contract: each need is a step of `proofs/Skipping.antt`. Assumes nothing.
-use Rattle.basis.proofs.Prelude.{refl, ◌-◌, zero-le, arith, rules}
-use Rattle.stabbing_days.proofs.{Skipping.{Halving, all_new, begins, old, new, ends}}
+use Rattle.basis.proofs.Prelude.{refl, ◌-◌, zero-le, arith}
+use Rattle.stabbing_days.proofs.Skipping.{all_new, begins, old, new, ends}
 use Rattle.stabbing_days.proofs.skip.Goals as goal
 
 pub returns-then-m-eq0 : goal.returns-then-m-eq0

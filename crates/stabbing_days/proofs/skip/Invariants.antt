@@ -1,5 +1,5 @@
-use Rattle.basis.proofs.Prelude.{refl, ◌-◌, zero-le, arith, rules}
-use Rattle.stabbing_days.proofs.{Skipping.{Halving, all_new, begins, old, new, ends}}
+use Rattle.basis.proofs.Prelude.{◌-◌}
+use Rattle.stabbing_days.proofs.Skipping.{Halving}
 use Rattle.stabbing_days.proofs.skip.Given as goal
 
 abbrev pub invariant-loop-lo : goal.invariant-loop-lo

@@ -1,5 +1,5 @@
 -- `stabbing_index::fill` meets its contract: the columns make the block, and the count is its last word. Assumes nothing.
-use Rattle.stabbing_index.proofs.{Names.{arith, length-set, rules}, Assembling.filled}
+use Rattle.stabbing_index.proofs.{Names.{arith, length-set}, Assembling.filled}
 use Rattle.stabbing_index.proofs.fill.Goals as goal
 
 pub shape_of-index : goal.shape_of-index

@@ -1,6 +1,6 @@
 -- `stabbing_index::lay_tree` meets its contract: the links that `link` finds, and the tables by day, one column after another. Assumes
 -- nothing.
-use Rattle.stabbing_index.proofs.{Names.{arith, rules}, Assembling.{columns_of, days_asked, tree_laid, steps}}
+use Rattle.stabbing_index.proofs.{Names.{arith}, Assembling.{columns_of, days_asked, tree_laid, steps}}
 use Rattle.stabbing_index.proofs.lay_tree.Goals as goal
 
 pub link-requires : goal.link-requires

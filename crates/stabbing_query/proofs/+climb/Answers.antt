@@ -1,5 +1,5 @@
 -- `stabbing_query::climb` meets its contract: each goal is a step of `proofs/Walking.antt`. Assumes nothing.
-use Rattle.basis.proofs.Prelude.{◌+◌, ◌-◌, ℕ, rules}
+use Rattle.basis.proofs.Prelude.{◌-◌}
 use Rattle.stabbing_query.proofs.{Names.{Does, beside_of}, Walking.{asks_chain, linked_beside, none_beside, asks_beside, all_beside, stops, headed_up, visit_up, falls_up, asks_up, goes_up}}
 use Rattle.stabbing_query.proofs.+climb.Goals.{then-l-beside, else-l-beside}
 use Rattle.stabbing_query.proofs.+climb.Goals as goal

@@ -1,6 +1,6 @@
 -- `stabbing_query::descend` meets its contract: each goal is a step of `proofs/Walking.antt`, taken for w and for its last child c. Assumes
 -- nothing.
-use Rattle.basis.proofs.Prelude.{◌+◌, ◌-◌, ℕ, rules}
+use Rattle.basis.proofs.Prelude.{◌+◌, ◌-◌, rules}
 use Rattle.stabbing_query.proofs.{Names.{Does, below_of}, Walking.{linked_below, headed_below, word_below, linked_beside, asks_chain, none_beside, all_beside, none_below, asks_below, all_below_lem, visit, stepped, calls_beside, calls_deep, calls_aside}}
 use Rattle.stabbing_query.proofs.+descend.Goals.{then-l-deep, else-l-deep, then-l-below+then-l-near, then-l-below+else-l-near, else-l-below}
 use Rattle.stabbing_query.proofs.+descend.Goals as goal

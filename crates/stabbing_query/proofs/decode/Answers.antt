@@ -1,6 +1,6 @@
 -- `stabbing_query::decode` meets its contract. Assumes nothing.
-use Rattle.basis.proofs.Prelude.{◌∙◌, sym, rules}
-use Rattle.stabbing_query.proofs.{Answering.{decoded_none, decoded_all}}
+use Rattle.basis.proofs.Prelude.{◌∙◌, sym}
+use Rattle.stabbing_query.proofs.Answering.{decoded_none, decoded_all}
 use Rattle.stabbing_query.proofs.decode.Goals as goal
 
 pub returns-then-at-gt1024 : goal.returns-then-at-gt1024

@@ -1,5 +1,4 @@
 -- `standing::fresh` meets its contract. Assumes nothing.
-use Rattle.basis.proofs.Prelude.{rules}
 use Rattle.standing.proofs.{Loading.fresh_is}
 use Rattle.standing.proofs.fresh.Goals as goal
 

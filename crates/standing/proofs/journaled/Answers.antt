@@ -1,5 +1,4 @@
 -- `standing::journaled` meets its contract. Assumes nothing.
-use Rattle.basis.proofs.Prelude.{rules, not-false, not-true}
 use Rattle.standing.proofs.journaled.Goals as goal
 
 pub returns-then-not-notes : goal.returns-then-not-notes

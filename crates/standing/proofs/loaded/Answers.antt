@@ -1,5 +1,4 @@
 -- `standing::loaded` meets its contract. Assumes nothing.
-use Rattle.basis.proofs.Prelude.{rules}
 use Rattle.standing.proofs.loaded.Goals as goal
 
 pub returns : goal.returns

@@ -1,5 +1,4 @@
 -- `standing_journal::none` meets its contract. Assumes nothing.
-use Rattle.basis.proofs.Prelude.{rules}
 use Rattle.standing_journal.proofs.none.Goals as goal
 
 pub returns : goal.returns

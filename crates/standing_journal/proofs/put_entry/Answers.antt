@@ -1,5 +1,5 @@
 -- `standing_journal::put_entry` meets its contract: two stores and the spell's words, where there is room. Assumes nothing.
-use Rattle.basis.proofs.Prelude.{◌∙◌, ap, length, length-set, arith, rules}
+use Rattle.basis.proofs.Prelude.{◌∙◌, ap, length, length-set, arith}
 use Rattle.standing_journal.proofs.{Entries.entry_put, Names.{entry_held, entry_long, entry_of, entry_width, entry_words, put_length, room, unput}}
 use Rattle.standing_journal.proofs.put_entry.Goals as goal
 

@@ -1,6 +1,6 @@
 -- `standing_words::change` meets its contract. Assumes nothing.
-use Rattle.basis.proofs.Prelude.{arith, rules}
-use Rattle.standing_words.proofs.{Changing.{changes, left_in}}
+use Rattle.basis.proofs.Prelude.{arith}
+use Rattle.standing_words.proofs.Changing.{changes, left_in}
 use Rattle.standing_words.proofs.change.Goals as goal
 
 pub put_in-requires : goal.put_in-requires

@@ -1,6 +1,6 @@
 -- `standing_words::find` meets its contract: i spells are passed, and what is found is i and what the rest finds. Assumes nothing.
-use Rattle.basis.proofs.Prelude.{◌≡◌, sym, ◌+◌, ◌-◌, ◌≤◌, drop, take, zero-add, arith, rules}
-use Rattle.standing_words.proofs.{Names.{found_here, found_next, found_none, lead, passes, spells_of, stands_at}, Reading.{number_is, number_not, places, spell_is}}
+use Rattle.basis.proofs.Prelude.{sym, ◌-◌, zero-add, arith}
+use Rattle.standing_words.proofs.{Names.{found_here, found_next, found_none}, Reading.{number_is, number_not, places, spell_is}}
 use Rattle.standing_words.proofs.find.Goals as goal
 
 pub loop-i-init : goal.loop-i-init

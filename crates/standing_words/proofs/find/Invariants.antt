@@ -1,5 +1,5 @@
-use Rattle.basis.proofs.Prelude.{◌≡◌, sym, ◌+◌, ◌-◌, ◌≤◌, drop, take, zero-add, arith, rules}
-use Rattle.standing_words.proofs.{Names.{found_here, found_next, found_none, lead, passes, spells_of, stands_at}, Reading.{number_is, number_not, places, spell_is}}
+use Rattle.basis.proofs.Prelude.{◌≡◌, ◌+◌, ◌-◌, ◌≤◌, drop, take}
+use Rattle.standing_words.proofs.Names.{lead, passes, spells_of, stands_at}
 use Rattle.standing_words.proofs.find.Given as goal
 
 abbrev pub invariant-loop-i : goal.invariant-loop-i

@@ -1,6 +1,6 @@
 -- `standing_words::lower` meets its contract: the words up to i have moved. Assumes nothing.
-use Rattle.basis.proofs.Prelude.{◌≡◌, refl, ◌+◌, ◌-◌, ◌≤◌, length, length-set, arith}
-use Rattle.standing_words.proofs.{Moves.{lower_none, lower_step}, Names.lowered}
+use Rattle.basis.proofs.Prelude.{◌≡◌, refl, ◌-◌, length-set, arith}
+use Rattle.standing_words.proofs.Moves.{lower_none, lower_step}
 use Rattle.standing_words.proofs.lower.Goals as goal
 
 pub loop-i-init : goal.loop-i-init

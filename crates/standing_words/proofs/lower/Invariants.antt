@@ -1,5 +1,5 @@
-use Rattle.basis.proofs.Prelude.{◌≡◌, refl, ◌+◌, ◌-◌, ◌≤◌, length, length-set, arith}
-use Rattle.standing_words.proofs.{Moves.{lower_none, lower_step}, Names.lowered}
+use Rattle.basis.proofs.Prelude.{◌≡◌, ◌+◌, ◌-◌, ◌≤◌, length}
+use Rattle.standing_words.proofs.{Names.lowered}
 use Rattle.standing_words.proofs.lower.Given as goal
 
 abbrev pub invariant-loop-i : goal.invariant-loop-i

@@ -1,6 +1,6 @@
 -- `standing_words::place` meets its contract: i spells are passed, and s goes i and what the rest says further. Assumes nothing.
-use Rattle.basis.proofs.Prelude.{◌≡◌, sym, ◌+◌, ◌-◌, ◌≤◌, drop, take, zero-add, arith, rules}
-use Rattle.standing_words.proofs.{Names.{earlier_of, lead, place_end, place_here, place_next, place_of, spells_of}, Reading.{places, spell_is}}
+use Rattle.basis.proofs.Prelude.{sym, ◌-◌, zero-add, arith}
+use Rattle.standing_words.proofs.{Names.{place_end, place_here, place_next}, Reading.{places, spell_is}}
 use Rattle.standing_words.proofs.place.Goals as goal
 
 pub loop-i-init : goal.loop-i-init

@@ -1,5 +1,5 @@
-use Rattle.basis.proofs.Prelude.{◌≡◌, sym, ◌+◌, ◌-◌, ◌≤◌, drop, take, zero-add, arith, rules, not-false, not-true}
-use Rattle.standing_words.proofs.{Names.{earlier_of, lead, place_end, place_here, place_next, place_of, spells_of}, Reading.{places, spell_is}}
+use Rattle.basis.proofs.Prelude.{◌≡◌, ◌+◌, ◌-◌, ◌≤◌, drop, take}
+use Rattle.standing_words.proofs.Names.{earlier_of, lead, place_of, spells_of}
 use Rattle.standing_words.proofs.place.Given as goal
 
 abbrev pub invariant-loop-i : goal.invariant-loop-i

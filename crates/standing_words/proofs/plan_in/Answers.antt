@@ -1,5 +1,5 @@
 -- `standing_words::plan_in` meets its contract: what stands in the words is found, and the call is planned on it. Assumes nothing.
-use Rattle.basis.proofs.Prelude.{arith, rules}
+use Rattle.basis.proofs.Prelude.{arith}
 use Rattle.standing_words.proofs.{Edits.{count_within, planned_in}, Names.{array_long, count_place, depth_place}}
 use Rattle.standing_words.proofs.plan_in.Goals as goal
 

@@ -1,6 +1,6 @@
 -- `standing_words::raise` meets its contract: the words from i on have moved. Assumes nothing.
-use Rattle.basis.proofs.Prelude.{◌≡◌, refl, ◌+◌, ◌≤◌, length, length-set, arith}
-use Rattle.standing_words.proofs.{Moves.{raise_none, raise_step}, Names.raised}
+use Rattle.basis.proofs.Prelude.{◌≡◌, refl, length-set, arith}
+use Rattle.standing_words.proofs.Moves.{raise_none, raise_step}
 use Rattle.standing_words.proofs.raise.Goals as goal
 
 pub loop-i-init : goal.loop-i-init

@@ -1,5 +1,5 @@
-use Rattle.basis.proofs.Prelude.{◌≡◌, refl, ◌+◌, ◌≤◌, length, length-set, arith}
-use Rattle.standing_words.proofs.{Moves.{raise_none, raise_step}, Names.raised}
+use Rattle.basis.proofs.Prelude.{◌≡◌, ◌+◌, ◌≤◌, length}
+use Rattle.standing_words.proofs.{Names.raised}
 use Rattle.standing_words.proofs.raise.Given as goal
 
 abbrev pub invariant-loop-i : goal.invariant-loop-i

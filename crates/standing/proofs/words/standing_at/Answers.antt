@@ -1,6 +1,6 @@
 -- `standing::words::standing_at` meets its contract. Assumes nothing.
-use Rattle.basis.proofs.Prelude.{arith, rules}
-use Rattle.standing.proofs.{Names.{count_place, depth_place, unpacked}}
+use Rattle.basis.proofs.Prelude.{arith}
+use Rattle.standing.proofs.Names.{count_place, depth_place, unpacked}
 use Rattle.standing.proofs.words.standing_at.Goals as goal
 
 pub overflow_cast-result : goal.overflow_cast-result
