@@ -3,7 +3,7 @@
 use Rattle.basis.proofs.Prelude.{◌≡◌, ap, refl, ◌*◌, ◌≤◌, ℕ, List, Bool, drop, length, length-append, length-replicate, zero-le, arith, ◌∙◌, ◌<◌, min, ◌++◌, take, eq-eqb, le-leb, lt-leb, ne_eqb, sym, [], ◌∷◌, take-append-drop}
 use Rattle.spell.specs.{declared.Spell.Spell, Listing.Good}
 use Rattle.register.{specs.Text.{write_all, Register, read_text, Register.bad}, proofs.Texts.written_width}
-use Rattle.model.{specs.{declared.{Call.{Call, TheVariants.{Enter, Amend, Strike, TakeBack, Publish, Write, Ask}}, Question.Question}, Questions.listed, Effects.{After, gave}, Model.{State, Request, Answer, effect_of, step, fresh, begun}}, proofs.{Bridge.comparisons_le, Effects.every, Filter.listed_few, Call.the_type}}
+use Rattle.model.{specs.{declared.{Call.{Call, TheVariants.{Enter, Amend, Strike, TakeBack, Publish, Write, Ask}}, Question.Question}, Questions.listed, Effects.{After, gave}, Model.{State, Request, Answer, effect_of, step, fresh, begun}}, proofs.{Bridge.comparisons_le, Effects.every, Filter.listed_few}}
 use Rattle.service.{specs.{declared.{Service.Service, Stepped.Stepped, Started.Started}, Service.{Blocks, Given, Met, Represents, Begins, blocks}}, proofs.{Represented.{state_of, stands, represented}, Asking.asked_met}}
 use Rattle.outcomes.specs.{Outcomes.{asking}, declared.Outcome.Outcome}
 use Rattle.replies.{specs.{Sending.{Sends, reply_text}, Fitting.Fits, Replies.{ok_text, malformed_text, refused_line, reading_text}}, proofs.Fitting.replied}
@@ -11,8 +11,6 @@ use Rattle.conversations.specs.{Conversation.{call_of, turn_by, register_of, tur
 use Rattle.conversations.proofs.Shown.{Same, same_settle, same_call}
 use Rattle.buffer.proofs.Over.{least_names}
 use Rattle.requests.{specs.{Requests.{asks_call, malformed, asked_of}, declared.Request.{Request as RequestIn, TheVariants.{Call as RequestCall, Room as RequestRoom}}, Parsing.{request_of, asked_from, days_in, room_in, Parses}}, proofs.Asking.parsed_asked}
-use types.Run.{OneOf, miss}
-use denote.Enum.Declared.{tag_of}
 use Rattle.questions.specs.Asked.{Asked}
 
 -- ---- each number of an answer is one that a decimal has, and the lists are as long as it says
@@ -127,13 +125,12 @@ pub looks_question : {bs : Blocks} {room place : ℕ} {w : Question} {ds numbers
     → Carries sv bs room (asks_call (Ask w) ds) numbers text out (beside sv room place) bs (ns ++ drop room numbers) text out'
 looks_question {room = room} {text = text} t sv g payload = turn_call (t sv g) refl (sym (take-append-drop room text))
 
--- it wants nothing of the service, and a call of another tag is none
+-- it wants nothing of the service, and another call is none
 pub wants_none : {c : Call} {w : Question} (k : ℕ) → c ≡ Ask w → [] ≡ wanted_by (RequestCall c k)
 unfolding is_question
 wants_none k e = rw e
 
-pub wants_call : (c : Call) {k : ℕ} → OneOf (0 ∷ 1 ∷ 2 ∷ 3 ∷ 4 ∷ 5 ∷ []) (tag_of the_type c)
-    → (WantedCall c k ∷ []) ≡ wanted_by (RequestCall c k)
+pub wants_call : (c : Call) {k : ℕ} → ((w : Question) → c ≡ Ask w → ⊥) → (WantedCall c k ∷ []) ≡ wanted_by (RequestCall c k)
 unfolding is_question
 wants_call (Enter s) h = refl
 wants_call (Amend s) h = refl
@@ -141,7 +138,7 @@ wants_call (Strike k) h = refl
 wants_call TakeBack h = refl
 wants_call (Publish rule) h = refl
 wants_call Write h = refl
-wants_call (Ask w) h = absurd (miss (0 ∷ 1 ∷ 2 ∷ 3 ∷ 4 ∷ 5 ∷ []) 6 tt h)
+wants_call (Ask w) h = absurd (h w refl)
 
 -- ---- and its line
 pub looks : {bs : Blocks} (room : ℕ) {lent : ℕ} {line days numbers text out : List ℕ} {q : RequestIn} {r : Looked} {days' numbers' out' : List ℕ}

@@ -3,12 +3,14 @@
 use Rattle.basis.proofs.Prelude.{refl, ℕ, List}
 use contract.Lifetimes.{Lfts}
 use denote.Ref.{Bor}
+use denote.MutBor.{MutBor}
 use Rattle.service.{specs.{declared.Service.Service, Service.{blocks, Given}}, proofs.Tied.Is}
 use Rattle.conversations.specs.{declared.{Answered.Answered, Wanted.Wanted}, Answering.{Restarted, Answers, asked_in, room_of}}
 use Rattle.wire.proofs.carry.Reads as carry-reads
 use Rattle.wire.proofs.restart.Reads as restart-reads
 
-module _ (sv : Service) (room n : ℕ) (w : Wanted) (r : Answered) (index index' payload days numbers numbers' text text' out out' : Bor (List ℕ)) where
+module _ (sv : Service) (room n : ℕ) (w : Wanted) (r : Answered) (payload days : Bor (List ℕ))
+    (index index' numbers numbers' text text' out out' : MutBor (List ℕ)) where
   pub carry_is : (κs : Lfts 6) → Is (carry-reads.Pre κs) (carry-reads.Post κs) (sv, (index, (room, (w, (payload, (days, (numbers, (text, (out, tt))))))))) r
       (sv, (index', (room, (w, (payload, (days, (numbers', (text', (out', tt)))))))))
       (Given sv (blocks index.now))
