@@ -1,4 +1,6 @@
 // The conversations with the program `serve`, as types here and definitions in specs/: what a request is answered, and what it leaves.
+#![tactic(auto)]
+
 use model::Call;
 use requests::Request;
 use service::Service;

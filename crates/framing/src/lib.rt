@@ -1,4 +1,6 @@
 // The bytes that are sent to `serve`, cut into requests as they arrive.
+#![tactic(auto)]
+
 ghost use Rattle.std.specs.Prelude.{◌≡◌, ◌≤◌, length, take};
 ghost use Rattle.streams.specs.Stream.{wants};
 ghost use Rattle.streams.specs.Advancing.{Fits, Advances, ready, refused_frame, HostAdvances};

@@ -1,5 +1,7 @@
 // A look at a request's line: a question, a room and a line of no form are answered, and the index is read where it lies. What another
 // wants of the service is told.
+#![tactic(auto)]
+
 ghost use Rattle.std.specs.Prelude.{◌≡◌, ℕ, ◌≤◌, length, take};
 ghost use Rattle.requests.specs.Requests.{asks_call};
 ghost use Rattle.requests.specs.Parsing.{asked_from, days_in, room_in};

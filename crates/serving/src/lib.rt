@@ -1,4 +1,6 @@
 // What `serve` makes of the bytes that it reads, as types here and definitions in specs/: a request, a look at it, and its answer.
+#![tactic(auto)]
+
 use conversations::Looked;
 
 // The bytes that one read may bring.

@@ -1,4 +1,5 @@
 // The bytes that are sent to `serve`, as types here and definitions in specs/: how a stream is cut into requests, in whatever pieces it arrives.
+#![tactic(auto)]
 
 // One byte more than a request's line may have: what a longer line has beyond it is passed over.
 pub const LINE: usize = 65537;

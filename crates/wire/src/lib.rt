@@ -1,4 +1,6 @@
 // What a request wants of the service, carried out: from a call or a text to its answer's bytes.
+#![tactic(auto)]
+
 ghost use Rattle.std.specs.Prelude.{◌≡◌, ℕ, ◌≤◌, length, take};
 ghost use Rattle.requests.specs.Requests.{asks_call};
 ghost use Rattle.conversations.specs.Answering.{Restarted, Answers, Carries, asked_in, room_of};

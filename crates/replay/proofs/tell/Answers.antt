@@ -1,5 +1,5 @@
 -- `replay::tell` meets its contract: stores, one after the other. Assumes nothing.
-use Rattle.replay.proofs.Names.{◌*◌, add-four, add-one, add-three, add-two, answer_of, arith, length-set, result_width, sets-eq, told}
+use Rattle.replay.proofs.Names.{[], ◌*◌, add-four, add-one, add-three, add-two, answer_of, arith, length-set, result_width, sets-eq, told}
 use Rattle.replay.proofs.tell.Goals as goal
 
 pub bounds-results-at-2 : goal.bounds-results-at-2

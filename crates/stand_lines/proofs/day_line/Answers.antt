@@ -1,5 +1,5 @@
 -- `stand_lines::day_line` meets its contract: the answer of the day's question, put from its last number to the day. Assumes nothing.
-use Rattle.basis.proofs.Prelude.{sym, length-take-le, arith, rules}
+use Rattle.basis.proofs.Prelude.{sym, [], length-take-le, arith, rules}
 use Rattle.stand_text.proofs.Lines.{day_known, day_none, day_some}
 use Rattle.stand_lines.proofs.day_line.Goals as goal
 
