@@ -1,4 +1,4 @@
--- What the claims say of `look` is its contract itself, as the prover reads it: by computation, and not by copying. `looked-served` (Claims
+-- What the claims say of `look` is its contract itself, as the prover reads it: by computation, and not by copying. `looked_served` (Claims
 -- of `conversations`) makes the step of `Spoken` of it. Assumes nothing.
 use Rattle.basis.proofs.Prelude.{refl, ℕ, List}
 use contract.Lifetimes.{Lfts}

@@ -1,5 +1,5 @@
 -- What the claims say of `carry` and `restart` is their contracts themselves, as the prover reads them: by computation, and not by
--- copying. Of the first `carried-served` (Claims of `conversations`) makes the step of `Spoken`. Assumes nothing.
+-- copying. Of the first `carried_served` (Claims of `conversations`) makes the step of `Spoken`. Assumes nothing.
 use Rattle.basis.proofs.Prelude.{refl, ℕ, List}
 use contract.Lifetimes.{Lfts}
 use denote.Ref.{Bor}
