@@ -1,4 +1,6 @@
 // The repair of a register for other software: one function that C and Rust link, on lists that the host lends.
+#![tactic(auto)]
+
 ghost use Rattle.repairing.specs.Answers.{Repairs};
 
 use repairing::Repaired;

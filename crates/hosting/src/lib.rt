@@ -1,5 +1,6 @@
 // The service in a host's memory, as types here and definitions in specs/: the structs that hosts hand over and are given, what they and a
 // host's words stand for, and calls made on them.
+#![tactic(auto)]
 
 // A spell as a host gives it. Kind 0 is a grade, and `value` is the grade; kind 1 is a reading, and `value` is its bits. Any other
 // kind, and a grade above 65,535, is a bad urgency, which is refused in its turn among the checks.

@@ -1,5 +1,7 @@
 // The service for other software: functions that C and Rust link. The host lends the memory: a block of words for the service
 // and one for the index. Nothing is allocated and nothing is global.
+#![tactic(auto)]
+
 ghost use Rattle.std.specs.Prelude.{◌≡◌, ℕ, List, []};
 ghost use Rattle.model.specs.Model.{fresh};
 ghost use Rattle.register.specs.Text.{read_text};
