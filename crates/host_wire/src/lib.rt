@@ -1,5 +1,7 @@
 // A request from bytes to bytes for other software, on a host's words: what it asks is answered, and the host is told which word it was
 // and whether it changed the state.
+#![tactic(auto)]
+
 ghost use Rattle.std.specs.Prelude.{◌≡◌, ◌≤◌, ◌<◌, length};
 ghost use Rattle.service.specs.Packed.{unpacked};
 ghost use Rattle.service.specs.Service.{blocks, Given, Valid};

@@ -2,7 +2,7 @@
 use Rattle.basis.proofs.Prelude.{◌∙◌, ◌≡◌, ap, refl, sym, ◌-◌, ◌<◌, ◌≤◌, ℕ, ◌≢◌, List, ◌∷◌, Bool, cond, false, false≢true, true, eqb, ltb, get_or, length, length-append, take, get_or_at, length-take-le, take_all, arith, le-ltb, lt-ltb, ne_eqb, by_test}
 use Rattle.refusal.specs.Table.{accepted}
 use Rattle.fields.specs.Fields.{is_at}
-use Rattle.model.{specs.{declared.{Call.{Call, TheVariants.{Enter, Amend, Strike, TakeBack, Publish, Write, Ask}}}, Model.{State, Answer, step}, Journal.{reads, call, left, journal}}, proofs.Journal.journal_left}
+use Rattle.model.{specs.{declared.{Call.{Call, TheVariants.{Enter, Amend, Strike, TakeBack, Publish, Write, Ask}}}, Model.{State, Answer, step}, Journal.{reads, left, journal}}, proofs.Journal.journal_left}
 use Rattle.requests.specs.Requests.{Demand, asks_call, asks_room, asks_read, malformed}
 use Rattle.replies.specs.{Replies.{ok_text, refused_text, shape_of, shape_text, call_text}, Sending.Sends}
 use Rattle.conversations.specs.{Conversation.{turn_of, call_of}, Answering.{conv, only_reads}}
