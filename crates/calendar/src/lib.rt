@@ -8,8 +8,5 @@ ghost use Rattle.calendar.specs.Calendar.{is_day};
 pub fn is_day(d: u16) -> bool
     ensures { result ≡ is_day d }
 {
-    if d < 1 {
-        return false;
-    }
-    d <= 4000
+    1 <= d && d <= 4000
 }

@@ -1,18 +1,19 @@
 -- The calls that are still coded, at a code that is one and at one that is none; and every list of calls has words. Assumes nothing.
 use Rattle.basis.proofs.Prelude.{◌∙◌, ◌≡◌, refl, sym, suc, zero, ℕ, List, [], ◌∷◌, Bool, cond, false, true, leb, drop, length, take, leb-true, ap, ◌*◌, ◌<◌, ◌≤◌, ◌++◌, append_assoc, length-append, drop_at, get_or-append-add, take_at, mod-eq_of_lt, arith, le-leb}
+use Rattle.std.specs.Prelude.{Option, Some, None}
 use Rattle.model.specs.{declared.{Call.{Call, TheVariants.{Enter, Amend, Strike, TakeBack, Publish, Write, Ask}}, Question.TheVariants.{Day, Span, Cover, Days, Mask}}, Model.Request}
-use Rattle.coding.specs.{declared.{Code.Code, Next.{Next, TheVariants.{Stop, Go}}}, Coded.{code_at, next_of, decode_from, code_width, low16, urgency_of, call_of, Value, urgent, masked, Fields, spell_fields, fields_of, op_of, whole_of}, Coding.{Wide, Fits, Codable, lent_days, lent_numbers, lent_text, Coding}, Clauses.Room}
+use Rattle.coding.specs.{declared.Code.Code, Coded.{code_at, next_of, decode_from, code_width, low16, urgency_of, call_of, Value, urgent, masked, Fields, spell_fields, fields_of, op_of, whole_of}, Coding.{Wide, Fits, Codable, lent_days, lent_numbers, lent_text, Coding}, Clauses.Room}
 use lib.Ieee.{binary32, Bits.{of_bits-to_bits, to_bits-lt}}
 use Rattle.spell.specs.declared.{Urgency.{Urgency, TheVariants.{Grade, Reading}}, Spell.Spell}
 use Rattle.packing.specs.{Words.{kind_of, value_of, Narrow}, Blocks.{written, Every}}
 
 -- ---- A call is found only where there is room
 
-picked : (b : Bool) (y : Next) (q : Call) → cond b y Stop ≡ Go q → b ≡ true
+picked : (b : Bool) (y : Option Call) (q : Call) → cond b y None ≡ Some q → b ≡ true
 picked true y q e = refl
 picked false y q e = cc
 
-pub next_room : {c : Code} {days numbers text : ℕ} {x : Next} {q : Call} → x ≡ next_of c days numbers text → x ≡ Go q → Room c days numbers text
+pub next_room : {c : Code} {days numbers text : ℕ} {x : Option Call} {q : Call} → x ≡ next_of c days numbers text → x ≡ Some q → Room c days numbers text
 next_room {c} {days} {numbers} {text} {q = q} e go = unfold next_of in
     let d : leb c.days days ≡ true = picked (leb c.days days) _ q (sym e ∙ go) in
     let n : leb c.numbers numbers ≡ true = picked (leb c.numbers numbers) _ q (rw d at (sym e ∙ go)) in
@@ -22,13 +23,13 @@ next_room {c} {days} {numbers} {text} {q = q} e go = unfold next_of in
 -- ---- The calls that are still coded
 
 module _ (codes days numbers text : List ℕ) (k : ℕ) where
-  pub decode_stop : (n : ℕ) → next_of (code_at codes k) (length days) (length numbers) (length text) ≡ Stop
+  pub decode_stop : (n : ℕ) → next_of (code_at codes k) (length days) (length numbers) (length text) ≡ None
       → decode_from codes n k days numbers text ≡ []
   unfolding decode_from
   decode_stop zero e = refl
   decode_stop (suc n) e = simp e
 
-  pub decode_go : (n : ℕ) (c : Code) (q : Call) → c ≡ code_at codes k → next_of c (length days) (length numbers) (length text) ≡ Go q
+  pub decode_go : (n : ℕ) (c : Code) (q : Call) → c ≡ code_at codes k → next_of c (length days) (length numbers) (length text) ≡ Some q
       → decode_from codes (suc n) k days numbers text
       ≡ record { call = q; days = take c.days days; numbers = take c.numbers numbers; text = take c.text text }
       ∷ decode_from codes n (suc k) (drop c.days days) (drop c.numbers numbers) (drop c.text text)
@@ -65,10 +66,10 @@ spell_back : (s : Spell) → Fits (spell_fields s)
 spell_back s f = rw (mod-eq_of_lt f.number, mod-eq_of_lt f.candidate, mod-eq_of_lt f.first, mod-eq_of_lt f.last, urgency_back s.urgency f.value)
 
 call_back : (c : Call) (d n t : ℕ) (rest : List ℕ) → Fits (fields_of c)
-    → (call_of (code_at (words_of (op_of c) (fields_of c) d n t ++ rest) 0) ≡ Go c) × (op_of c ≤ 11)
+    → (call_of (code_at (words_of (op_of c) (fields_of c) d n t ++ rest) 0) ≡ Some c) × (op_of c ≤ 11)
 unfolding code_at call_of
-call_back (Enter s) d n t rest f = (ap (λ (x : Spell). Go (Enter x)) (spell_back s f), omega arith)
-call_back (Amend s) d n t rest f = (ap (λ (x : Spell). Go (Amend x)) (spell_back s f), omega arith)
+call_back (Enter s) d n t rest f = (ap (λ (x : Spell). Some (Enter x)) (spell_back s f), omega arith)
+call_back (Amend s) d n t rest f = (ap (λ (x : Spell). Some (Amend x)) (spell_back s f), omega arith)
 call_back (Strike k) d n t rest f = (rw (mod-eq_of_lt f.number), omega arith)
 call_back TakeBack d n t rest f = (refl, omega arith)
 call_back (Publish rule) d n t rest f = (rw (mod-eq_of_lt f.number), omega arith)

@@ -1,5 +1,5 @@
 -- A list of calls as words, and the words of their answers. Assumes nothing.
-use Rattle.std.specs.Prelude.{ℕ, zero, suc, ◌+◌, ◌*◌, ◌/◌, ◌%◌, min, cond, List, [], ◌∷◌, leb, eqb, length, take, drop, get_or}
+use Rattle.std.specs.Prelude.{ℕ, zero, suc, ◌+◌, ◌*◌, ◌/◌, ◌%◌, min, cond, Option, Some, None, List, [], ◌∷◌, leb, eqb, length, take, drop, get_or}
 use Rattle.std.specs.Float.{binary32}
 use Rattle.std.specs.Float.Ieee.{of_bits}
 use Rattle.spell.specs.declared.Urgency.{Urgency}
@@ -12,8 +12,6 @@ use Rattle.model.specs.declared.Question.TheVariants.{Day, Span, Cover, Days, Ma
 use Rattle.packing.specs.Blocks.{written}
 use Rattle.model.specs.Model.{Request, Answer}
 use Rattle.coding.specs.declared.Code.{Code}
-use Rattle.coding.specs.declared.Next.{Next}
-use Rattle.coding.specs.declared.Next.TheVariants.{Stop, Go}
 
 -- ---- One call's code
 
@@ -61,24 +59,24 @@ spell_of c = record {
 }
 
 -- the call, or none where no call has that number
-unfoldable pub call_of : Code → Next
+unfoldable pub call_of : Code → Option Call
 call_of c =
-    cond (eqb c.op 1) (Go (Enter (spell_of c)))
-    (cond (eqb c.op 2) (Go (Amend (spell_of c)))
-    (cond (eqb c.op 3) (Go (Strike c.number))
-    (cond (eqb c.op 4) (Go TakeBack)
-    (cond (eqb c.op 5) (Go (Publish c.number))
-    (cond (eqb c.op 6) (Go Write)
-    (cond (eqb c.op 7) (Go (Ask (Day c.first)))
-    (cond (eqb c.op 8) (Go (Ask (Span c.first c.last)))
-    (cond (eqb c.op 9) (Go (Ask (Cover c.number)))
-    (cond (eqb c.op 10) (Go (Ask Days))
-    (cond (eqb c.op 11) (Go (Ask (Mask c.first c.value))) Stop))))))))))
+    cond (eqb c.op 1) (Some (Enter (spell_of c)))
+    (cond (eqb c.op 2) (Some (Amend (spell_of c)))
+    (cond (eqb c.op 3) (Some (Strike c.number))
+    (cond (eqb c.op 4) (Some TakeBack)
+    (cond (eqb c.op 5) (Some (Publish c.number))
+    (cond (eqb c.op 6) (Some Write)
+    (cond (eqb c.op 7) (Some (Ask (Day c.first)))
+    (cond (eqb c.op 8) (Some (Ask (Span c.first c.last)))
+    (cond (eqb c.op 9) (Some (Ask (Cover c.number)))
+    (cond (eqb c.op 10) (Some (Ask Days))
+    (cond (eqb c.op 11) (Some (Ask (Mask c.first c.value))) None))))))))))
 
 -- none, too, where the lists of days, numbers and text have fewer places left than it is lent
-unfoldable pub next_of : Code → ℕ → ℕ → ℕ → Next
+unfoldable pub next_of : Code → ℕ → ℕ → ℕ → Option Call
 next_of c days numbers text =
-    cond (leb c.days days) (cond (leb c.numbers numbers) (cond (leb c.text text) (call_of c) Stop) Stop) Stop
+    cond (leb c.days days) (cond (leb c.numbers numbers) (cond (leb c.text text) (call_of c) None) None) None
 
 -- ---- The fields that a call's code has: its spell's, or its number and days in their places, and 0 in the others
 
@@ -140,9 +138,9 @@ op_of (Ask w) = 6 + question_number w
 abbrev pub whole_of : List ℕ → List ℕ → ℕ
 whole_of codes results = min (length codes / code_width) (length results / result_width)
 
-abbrev pub and_then : Next → List ℕ → List ℕ → List ℕ → List Request → List Request
-and_then Stop days numbers text rest = []
-and_then (Go c) days numbers text rest = record { call = c; days = days; numbers = numbers; text = text } ∷ rest
+abbrev pub and_then : Option Call → List ℕ → List ℕ → List ℕ → List Request → List Request
+and_then None days numbers text rest = []
+and_then (Some c) days numbers text rest = record { call = c; days = days; numbers = numbers; text = text } ∷ rest
 
 -- n codes from the code k on, up to the first that is no call. Each call is lent the next parts of days, numbers and text.
 unfoldable pub decode_from : List ℕ → ℕ → ℕ → List ℕ → List ℕ → List ℕ → List Request

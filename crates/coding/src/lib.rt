@@ -1,11 +1,9 @@
 // A call coded in words, as types here and definitions in specs/.
 #![tactic(auto)]
 
-use model::Call;
-
 // A call in ten words: its number (`op_of` in specs/Coded.antt), the fields of a spell, and how many places of the lists of days, numbers and
 // text it is lent. A mask stands in the place of the value, its base day in that of the first day.
-#[derive(Clone, Copy)]
+#[derive(Clone, Copy, Debug, PartialEq, Eq)]
 pub struct Code {
     pub op: u64,
     pub number: u16,
@@ -17,11 +15,4 @@ pub struct Code {
     pub days: usize,
     pub numbers: usize,
     pub text: usize,
-}
-
-// A code's call, or the end of the list.
-#[derive(Clone, Copy)]
-pub enum Next {
-    Stop,
-    Go(Call),
 }

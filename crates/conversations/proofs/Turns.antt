@@ -4,7 +4,7 @@ use Rattle.basis.proofs.Prelude.{◌≡◌, ap, refl, ◌*◌, ◌≤◌, ℕ, L
 use Rattle.spell.specs.{declared.Spell.Spell, Listing.Good}
 use Rattle.register.{specs.Text.{write_all, Register, read_text, Register.bad}, proofs.Texts.written_width}
 use Rattle.model.{specs.{declared.{Call.{Call, TheVariants.{Enter, Amend, Strike, TakeBack, Publish, Write, Ask}}, Question.Question}, Questions.listed, Effects.{After, gave}, Model.{State, Request, Answer, effect_of, step, fresh, begun}}, proofs.{Bridge.comparisons_le, Effects.every, Filter.listed_few}}
-use Rattle.service.{specs.{declared.{Service.Service, Stepped.Stepped, Started.Started}, Service.{Blocks, Given, Met, Represents, Begins, blocks}}, proofs.{Represented.{state_of, stands, represented}, Asking.asked_met}}
+use Rattle.service.{specs.{declared.{Service.Service, Stepped.Stepped}, Service.{Blocks, Given, Met, Represents, Begins, Begun, blocks}}, proofs.{Represented.{state_of, stands, represented}, Asking.asked_met}}
 use Rattle.outcomes.specs.{Outcomes.{asking}, declared.Outcome.Outcome}
 use Rattle.replies.{specs.{Sending.{Sends, reply_text}, Fitting.Fits, Replies.{ok_text, malformed_text, refused_line, reading_text}}, proofs.Fitting.replied}
 use Rattle.conversations.specs.{Conversation.{call_of, turn_by, register_of, turn_of}, Clauses.{CallTurn, AskTurn}, declared.{Answered.Answered, Wanted.{Wanted, TheVariants.{Call as WantedCall, Read as WantedRead}}, Looked.Looked}, Answering.{Taken, Restarted, Answers, Carries, asked_in, beside, lent_of, room_of, is_question, wanted_in, wanted_by, LooksAt, Looks}}
@@ -51,7 +51,7 @@ call_turned {sv} {bs} {call} {days} {numbers} {text} {room} {r} {bs'} {out = out
 -- ---- a reading
 
 -- the answer of a text that is read, by what the service began with
-module _ {t : Register} {g : Started} {bs : Blocks} {out out' : List ℕ} {place : ℕ} (b : Begins t g bs) where
+module _ {t : Register} {g : Begun} {bs : Blocks} {out out' : List ℕ} {place : ℕ} (b : Begins t g bs) where
   pub says_refused : (g.refusal ≡ 0 → ⊥) → Sends (refused_line g.refusal g.line) out place out' → Sends (reading_text t) out place out'
   unfolding reading_text
   says_refused e s = rw (← b.refusal, ← b.line, ne_eqb g.refusal 0 e) s

@@ -1,35 +1,48 @@
 -- Decimals parted by tabs, put into a list from the last to the first. Assumes nothing.
-use Rattle.decimals.proofs.Names.{List, Put, Puts, ◌*◌, ◌-◌, ◌/◌, ◌<◌, ◌∙◌, ◌∷◌, ◌≡◌, ◌≤◌, arith, decimal_wide, drop, drop-cons, drop-length, end_before, field_put, get_or, length, length-drop, number_width, number_text, numbers_text, put_none, put_on, put_place, puts_room, suc, ℕ}
+use Rattle.basis.proofs.Prelude.{[], ◌+◌, ◌++◌, append-nil, append_assoc, length-append}
+use Rattle.std.proofs.lemmas.List.{nil_from_length}
+use Rattle.decimals.proofs.Names.{List, Put, Puts, ◌*◌, ◌/◌, ◌∙◌, ◌∷◌, ◌≡◌, ◌≤◌, ap, arith, decimal_wide, drop, end_before, field_put, length, length-drop, number_width, number_text, numbers_text, put_none, put_on, put_place, puts_room, ℕ}
 
--- the decimals from i on stand in front of what stood from `at` on, in at most six places each
-pub record Rest (ns entry : List ℕ) (at : ℕ) (buf : List ℕ) (place i : ℕ) : Type 0 where
-  pub upto : i ≤ length ns
-  pub put : Put entry buf place (numbers_text (drop i ns) (drop at entry))
-  pub roomy : 6 * i ≤ place
+-- `left` are still to be put; the others, after those, stand in front of what stood from `at` on
+pub record Rest (ns entry : List ℕ) (at : ℕ) (buf : List ℕ) (place : ℕ) (left : List ℕ) (others : ℕ) : Type 0 where
+  pub done : List ℕ
+  pub all : left ++ done ≡ ns
+  pub count : others ≡ length done
+  pub put : Put entry buf place (numbers_text done (drop at entry))
+  pub roomy : 6 * length left ≤ place
 
-module _ (ns entry : List ℕ) (at : ℕ) (h : length ns ≤ at / 6) (k : at ≤ length entry) where
-  pub rest_none : Rest ns entry at entry at (length ns)
+module _ {ns entry : List ℕ} {at : ℕ} (h : length ns ≤ at / 6) (k : at ≤ length entry) where
+  pub rest_none : {left : List ℕ} {others : ℕ} → left ≡ ns → others ≡ 0 → Rest ns entry at entry at left others
   unfolding numbers_text
-  rest_none = record { upto = omega arith; put = rw (drop-length ns) (put_none entry at k); roomy = omega arith }
+  rest_none {left} all none = record {
+    done = [];
+    all = append-nil left ∙ all;
+    count = none;
+    put = put_none entry at k;
+    roomy = omega (arith, ap length all);
+  }
 
-  one_text : (i : ℕ) → i < length ns → numbers_text (drop i ns) (drop at entry)
-      ≡ number_text (get_or ns i 0) (end_before (length ns - suc i)) (numbers_text (drop (suc i) ns) (drop at entry))
-  unfolding numbers_text
-  one_text i l = rw (drop-cons ns i 0 l, length-drop (suc i) ns)
+  module _ {buf : List ℕ} {place : ℕ} {left : List ℕ} {others : ℕ} (g : Rest ns entry at buf place left others) where
+    pub rest_one : (n : ℕ) {front exit : List ℕ} {r e more : ℕ} → left ≡ front ++ (n ∷ []) → more ≡ others + 1 → e ≡ end_before others
+        → Puts 6 (number_text n e) buf place r exit → Rest ns entry at exit r front more
+    unfolding numbers_text
+    rest_one n {front} {exit} {r} {e} last one is p =
+        let long : length left ≡ length front + 1 = ap length last ∙ length-append front (n ∷ []) in
+        let in_buf : place ≤ length buf = omega (arith, g.put.sized, g.put.inside) in
+        let q = field_put 6 (number_text n e) (number_width n e) (omega (arith, g.roomy)) in_buf p in
+        let wide = decimal_wide n (e ∷ drop place buf) in
+        let less = put_place q.0 in
+        let rest = length-drop place buf in
+        let on = put_on g.put q.0 (omega arith) in
+        record {
+          done = n ∷ g.done;
+          all = rw (last, append_assoc) at g.all;
+          count = omega (arith, g.count);
+          put = rw (g.put.written, is, g.count) at on;
+          roomy = omega (arith, g.roomy);
+        }
 
-  pub rest_one : (buf exit : List ℕ) (place i r e : ℕ) → Rest ns entry at buf place i → 1 ≤ i → e ≡ end_before (length ns - i)
-      → Puts 6 (number_text (get_or ns (i - 1) 0) e) buf place r exit → Rest ns entry at exit r (i - 1)
-  rest_one buf exit place i r e g l is p =
-      let up : suc (i - 1) ≡ i = omega arith in
-      let in-buf : place ≤ length buf = omega (arith, g.put.sized, g.put.inside) in
-      let q = field_put 6 (number_text (get_or ns (i - 1) 0) e) (number_width (get_or ns (i - 1) 0) e) (omega (arith, g.roomy)) in-buf p in
-      let text : numbers_text (drop (i - 1) ns) (drop at entry) ≡ number_text (get_or ns (i - 1) 0) e (drop place buf)
-      = one_text (i - 1) (omega (arith, g.upto)) ∙ rw (up, g.put.written, is) in
-      let wide = decimal_wide (get_or ns (i - 1) 0) (e ∷ drop place buf) in
-      let less = put_place q.0 in
-      let left = length-drop place buf in
-      let on = put_on g.put q.0 (omega arith) in
-      search (arith, text)
-
-  pub rest_all : (exit : List ℕ) (r i : ℕ) → Rest ns entry at exit r i → i ≤ 0 → Puts (6 * length ns) (numbers_text ns) entry at r exit
-  rest_all exit r i g z = let none : i ≡ 0 = omega arith in puts_room (6 * length ns) (numbers_text ns) (omega arith) k (rw none at g.put)
+    pub rest_all : length left ≡ 0 → Puts (6 * length ns) (numbers_text ns) entry at place buf
+    rest_all none =
+        let whole : g.done ≡ ns = rw (nil_from_length left none) at g.all in
+        puts_room (6 * length ns) (numbers_text ns) (omega arith) k (rw whole at g.put)

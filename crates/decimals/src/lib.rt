@@ -3,69 +3,49 @@
 
 ghost use Rattle.std.specs.Prelude.{◌≡◌, suc, ◌+◌, ◌*◌, ◌^◌, ◌<◌, ◌≤◌, length, drop};
 ghost use Rattle.fields.specs.Fields.{read_digits, read_length, read_number, number_text, wide_text, end_before, numbers_text};
-ghost use Rattle.fields.specs.Answers.{field_at, field_of, length_at, length_of, Reads, Puts};
+ghost use Rattle.fields.specs.Answers.{answer_in, Reads, Puts};
 ghost use Rattle.decimals.specs.Clauses.{digits_text};
 
-use fields::{Field, Length};
-
-const TAB: u8 = 9;
-
-const LF: u8 = 10;
-
-// The digit 0.
-const ZERO: u8 = 48;
-
-// The digits from `start` on. No product and no sum wraps, whatever the limit: the tests come first.
-fn read_digits(text: &[u8], start: usize, limit: u64) -> Length
-    ensures { length_of text.now result ≡ read_digits limit 0 (drop start text.now) }
+// The digits from `start` on. A number above the limit ends the reading before it can wrap.
+fn read_digits(text: &[u8], start: usize, limit: u64) -> Option<(u64, usize)>
+    ensures { answer_in text.now result ≡ read_digits limit 0 (drop start text.now) }
 {
-    let tenth = limit / 10;
     let mut v: u64 = 0;
-    let mut i = start;
-    while i < text.len() {
+    for i in start..text.len() {
         let b = text[i];
-        if !field_bytes::is_digit(b) {
-            return Length::Value(v, i);
+        if !b.is_ascii_digit() {
+            return Some((v, i));
         }
-        if v > tenth {
-            return Length::Malformed;
+        let tens = v.checked_mul(10)?;
+        v = tens.checked_add(u64::from(b - b'0'))?;
+        if v > limit {
+            return None;
         }
-        let d = (b - ZERO) as u64;
-        if d > limit - 10 * v {
-            return Length::Malformed;
-        }
-        v = 10 * v + d;
-        i += 1;
     }
-    Length::Value(v, i)
+    Some((v, text.len()))
 }
 
 // A decimal up to a limit at `at` and the byte that ends it.
-pub fn read_length(text: &[u8], at: usize, end: u8, limit: u64) -> Length
-    ensures { Reads length_at length_of text.now result (read_length limit end (drop at text.now)) }
+pub fn read_length(text: &[u8], at: usize, end: u8, limit: u64) -> Option<(u64, usize)>
+    ensures { Reads text.now result (read_length limit end (drop at text.now)) }
 {
-    if text.len() <= at {
-        return Length::Malformed;
+    let b = *text.get(at)?;
+    if b == b'0' {
+        return field_bytes::read_end(text, Some((0, at + 1)), end);
     }
-    let b = text[at];
-    if b == ZERO {
-        return field_bytes::read_end(text, Length::Value(0, at + 1), end);
-    }
-    if !field_bytes::is_digit(b) {
-        return Length::Malformed;
+    if !b.is_ascii_digit() {
+        return None;
     }
     let value = read_digits(text, at, limit);
     field_bytes::read_end(text, value, end)
 }
 
 // A number at `at` and the byte that ends it.
-pub fn read_number(text: &[u8], at: usize, end: u8) -> Field
-    ensures { Reads field_at field_of text.now result (read_number end (drop at text.now)) }
+pub fn read_number(text: &[u8], at: usize, end: u8) -> Option<(u16, usize)>
+    ensures { Reads text.now result (read_number end (drop at text.now)) }
 {
-    let Length::Value(v, i) = read_length(text, at, end, 65535) else {
-        return Field::Malformed;
-    };
-    Field::Value(v as u16, i)
+    let (v, i) = read_length(text, at, end, u64::from(u16::MAX))?;
+    Some((v as u16, i))
 }
 
 // The decimal of n, which has at most so many digits after its first, and the byte that ends it, before the place `at`: the place where it
@@ -85,11 +65,11 @@ fn put_decimal(buf: &mut [u8], at: usize, n: u64, end: u8, after: usize) -> usiz
     let mut v = n;
     while v >= 10 {
         i -= 1;
-        buf[i] = ZERO + (v % 10) as u8;
+        buf[i] = b'0' + (v % 10) as u8;
         v /= 10;
     }
     i -= 1;
-    buf[i] = ZERO + v as u8;
+    buf[i] = b'0' + v as u8;
     i
 }
 
@@ -97,7 +77,7 @@ fn put_decimal(buf: &mut [u8], at: usize, n: u64, end: u8, after: usize) -> usiz
 pub fn put_number(buf: &mut [u8], at: usize, n: u16, end: u8) -> usize
     ensures { Puts 6 (number_text n end) buf.old at result buf.new }
 {
-    put_decimal(buf, at, n as u64, end, 4)
+    put_decimal(buf, at, u64::from(n), end, 4)
 }
 
 // The same of a number of up to 64 bits, for which 21 places are asked for.
@@ -111,10 +91,7 @@ pub fn put_wide(buf: &mut [u8], at: usize, n: u64, end: u8) -> usize
 pub fn end_before(others: usize) -> u8
     ensures { result ≡ end_before others }
 {
-    if others == 0 {
-        return LF;
-    }
-    TAB
+    if others == 0 { b'\n' } else { b'\t' }
 }
 
 // The decimals of the numbers, parted by tabs and ended by LF, before the place `at`: the place where they begin. Six places
@@ -128,13 +105,9 @@ pub fn put_numbers(buf: &mut [u8], at: usize, numbers: &[u16]) -> usize
     if buf.len() < at {
         return at;
     }
-    let n = numbers.len();
     let mut place = at;
-    let mut i = n;
-    while 0 < i {
-        let end = end_before(n - i);
-        i -= 1;
-        place = put_number(buf, place, numbers[i], end);
+    for (others, n) in numbers.iter().rev().enumerate() {
+        place = put_number(buf, place, *n, end_before(others));
     }
     place
 }

@@ -1,9 +1,5 @@
 -- What the answers of the readers say, and what the writers leave in the list that they are lent. Assumes nothing.
-use Rattle.std.specs.Prelude.{ℕ, ◌-◌, ◌≡◌, Bool, ◌&&◌, cond, List, ◌++◌, leb, length, take, drop}
-use Rattle.fields.specs.declared.Field.{Field}
-use Rattle.fields.specs.declared.Field.TheVariants.{Value as FieldValue, Malformed as FieldMalformed}
-use Rattle.fields.specs.declared.Length.{Length}
-use Rattle.fields.specs.declared.Length.TheVariants.{Value as LengthValue, Malformed as LengthMalformed}
+use Rattle.std.specs.Prelude.{ℕ, ◌-◌, ◌≡◌, Bool, ◌&&◌, cond, List, ◌++◌, leb, length, take, drop, Option, Some, None}
 use Rattle.fields.specs.Fields.{Found, found, unreadable}
 
 -- ---- Reading
@@ -13,26 +9,18 @@ abbrev pub place_of : List ℕ → List ℕ → ℕ
 place_of text rest = length text - length rest
 
 -- an answer, and what it says: the value with the text from the next place on, or that the field can't be read
-abbrev pub field_at : List ℕ → Found ℕ → Field
-field_at text (found v rest) = FieldValue v (place_of text rest)
-field_at text unreadable = FieldMalformed
+abbrev pub answer_at : {A : Type 0} → List ℕ → Found A → Option (A × ℕ)
+answer_at text (found v rest) = Some (v, place_of text rest)
+answer_at text unreadable = None
 
-abbrev pub field_of : List ℕ → Field → Found ℕ
-field_of text (FieldValue v next) = found v (drop next text)
-field_of text FieldMalformed = unreadable
+abbrev pub answer_in : {A : Type 0} → List ℕ → Option (A × ℕ) → Found A
+answer_in text (Some p) = found p.0 (drop p.1 text)
+answer_in text None = unreadable
 
-abbrev pub length_at : List ℕ → Found ℕ → Length
-length_at text (found v rest) = LengthValue v (place_of text rest)
-length_at text unreadable = LengthMalformed
-
-abbrev pub length_of : List ℕ → Length → Found ℕ
-length_of text (LengthValue v next) = found v (drop next text)
-length_of text LengthMalformed = unreadable
-
--- r is the answer of what is found in the text, and says that it is found. `At` makes the answer, `Of` says it
-pub record Reads {R A : Type 0} (At : List ℕ → Found A → R) (Of : List ℕ → R → Found A) (text : List ℕ) (r : R) (f : Found A) : Type 0 where
-  pub answer : r ≡ At text f
-  pub says : Of text r ≡ f
+-- r is the answer of what is found in the text, and says that it is found
+pub record Reads {A : Type 0} (text : List ℕ) (r : Option (A × ℕ)) (f : Found A) : Type 0 where
+  pub answer : r ≡ answer_at text f
+  pub says : answer_in text r ≡ f
 
 -- ---- Writing. A text is put into the places before `at`, so that it ends there; `room` places before `at` are asked for.
 

@@ -1,17 +1,19 @@
 -- The contracts of the private functions. Assumes nothing.
-use Rattle.std.specs.Prelude.{ℕ, ◌≤◌, ◌≡◌, cond, List, [], length, take, drop}
+use Rattle.std.specs.Prelude.{ℕ, ◌≤◌, ◌≡◌, ◌==◌, Bool, Option, Some, None, IfSome, List, [], ◌++◌, length, take, drop}
 use Rattle.streams.specs.declared.Framed.{Framed}
-use Rattle.framing.specs.declared.Taken.{Taken}
-use Rattle.streams.specs.Stream.{in_line, kept, wants, settled}
+use Rattle.streams.specs.Stream.{in_line, wants, settled}
 use Rattle.streams.specs.Advancing.{Progress, going, next, after, progress_of, Within, Kept, line_in, text_in}
 
--- a byte is put after the first n of a list
-pub record Puts (into : List ℕ) (n b r : ℕ) (into' : List ℕ) : Type 0 where
+-- bytes are put after the first n of a list, as many as there is room for
+pub record Keeps (into : List ℕ) (n : ℕ) (bytes : List ℕ) (r : ℕ) (into' : List ℕ) : Type 0 where
   pub sized : length into' ≡ length into
   pub within : r ≤ length into
-  pub on : n ≤ r
-  pub bytes : take r into' ≡ kept (length into) (take n into) b
+  pub bytes_kept : take r into' ≡ take (length into) (take n into ++ bytes)
   pub rest : Kept r into into'
+
+-- LF
+abbrev pub is_line_feed : ℕ → Bool
+is_line_feed b = b == 10
 
 -- r is the place n of a list, or its end where it has fewer places: the same stands before it, and the same from it on
 pub record PlaceIn (l : List ℕ) (n r : ℕ) : Type 0 where
@@ -19,15 +21,16 @@ pub record PlaceIn (l : List ℕ) (n r : ℕ) : Type 0 where
   pub first : take r l ≡ take n l
   pub rest : drop r l ≡ drop n l
 
--- a line that is taken up to its LF, or not whole
-abbrev pub taken_of : Taken → List ℕ → List ℕ → Progress
-taken_of t arrived line =
-    cond t.whole (after (settled (take t.line line) [] (wants (take t.line line))) (drop t.next arrived)) (going (in_line (take t.line line)))
+-- a line that is taken up to its LF, with the place after it, or not whole
+abbrev pub taken_of : ℕ → Option ℕ → List ℕ → List ℕ → Progress
+taken_of n (Some next) arrived line = after (settled (take n line) [] (wants (take n line))) (drop next arrived)
+taken_of n None arrived line = going (in_line (take n line))
 
-pub record TakesLine (n : ℕ) (arrived : List ℕ) (from : ℕ) (line : List ℕ) (r : Taken) (line' : List ℕ) : Type 0 where
-  pub progress : taken_of r arrived line' ≡ next (in_line (take n line)) (drop from arrived)
-  pub within : (r.line ≤ 65537) × (r.next ≤ length arrived)
-  pub rest : Kept r.line line line'
+pub record TakesLine (n : ℕ) (arrived : List ℕ) (from : ℕ) (line : List ℕ) (r : ℕ × Option ℕ) (line' : List ℕ) : Type 0 where
+  pub progress : taken_of r.0 r.1 arrived line' ≡ next (in_line (take n line)) (drop from arrived)
+  pub within : r.0 ≤ 65537
+  pub inside : IfSome r.1 (λ next. next ≤ length arrived)
+  pub rest : Kept r.0 line line'
 
 -- a text of which so many bytes are wanted, whatever line it comes after
 pub record TakesText (n m wanted : ℕ) (arrived : List ℕ) (from : ℕ) (payload : List ℕ) (r : Framed) (payload' : List ℕ) : Type 0 where

@@ -1,23 +1,13 @@
 // The bytes that are sent to `serve`, cut into requests as they arrive.
 #![tactic(auto)]
 
-ghost use Rattle.std.specs.Prelude.{◌≡◌, ◌≤◌, length, take};
+ghost use Rattle.std.specs.Prelude.{◌≡◌, ◌≤◌, length, take, position};
 ghost use Rattle.streams.specs.Stream.{wants};
 ghost use Rattle.streams.specs.Advancing.{Fits, Advances, ready, refused_frame, HostAdvances};
 ghost use Rattle.streams.specs.History.{opened};
-ghost use Rattle.framing.specs.Clauses.{Puts, PlaceIn, TakesLine, TakesText};
+ghost use Rattle.framing.specs.Clauses.{Keeps, is_line_feed, TakesLine, TakesText};
 
 use streams::{Advanced, Frame, Framed, LINE, TEXT};
-
-const LF: u8 = 10;
-
-// So many bytes of a line, whether its LF is among them, and the place after them.
-#[derive(Clone, Copy)]
-struct Taken {
-    line: usize,
-    whole: bool,
-    next: usize,
-}
 
 // The frame of a request of which nothing has come.
 pub fn opened() -> Frame
@@ -30,41 +20,34 @@ pub fn opened() -> Frame
     }
 }
 
-// The byte put at the place n, where there is one, and the next place.
-fn put(into: &mut [u8], n: usize, b: u8) -> usize
+// The bytes put after the first n of a list, as many as there is room for: how many it has then.
+fn keep(into: &mut [u8], n: usize, bytes: &[u8]) -> usize
     requires { n ≤ length into.old }
-    ensures { Puts into.old n b result into.new }
+    ensures { Keeps into.old n bytes.now result into.new }
 {
-    if n < into.len() {
-        into[n] = b;
-        return n + 1;
-    }
-    n
+    let count = bytes.len().min(into.len() - n);
+    let end = n + count;
+    into[n..end].copy_from_slice(&bytes[..count]);
+    end
 }
 
-// Takes bytes from the place `from` on up to the next LF: the line has n bytes already.
-fn take_line(n: usize, arrived: &[u8], from: usize, line: &mut [u8; LINE]) -> Taken
+// The place of the first LF.
+fn line_feed(bytes: &[u8]) -> Option<usize>
+    ensures { result ≡ position is_line_feed bytes.now }
+{
+    bytes.iter().position(|b| *b == b'\n')
+}
+
+// Takes bytes from the place `from` on up to the next LF: how many bytes the line has, n before, and the place after its LF, where this has
+// come.
+fn take_line(n: usize, arrived: &[u8], from: usize, line: &mut [u8; LINE]) -> (usize, Option<usize>)
     requires { (n ≤ 65537) × (from ≤ length arrived.now) }
     ensures { TakesLine n arrived.now from line.old result line.new }
 {
-    let mut n = n;
-    let mut at = from;
-    while at < arrived.len() {
-        let b = arrived[at];
-        n = put(line, n, b);
-        at += 1;
-        if b == LF {
-            return Taken {
-                line: n,
-                whole: true,
-                next: at,
-            };
-        }
-    }
-    Taken {
-        line: n,
-        whole: false,
-        next: at,
+    let rest = &arrived[from..];
+    match line_feed(rest) {
+        Some(i) => (keep(line, n, &rest[..i + 1]), Some(from + i + 1)),
+        None => (keep(line, n, rest), None),
     }
 }
 
@@ -80,22 +63,18 @@ fn take_text(
     requires { (Fits n m) × (from ≤ length arrived.now) }
     ensures { TakesText n m wanted arrived.now from payload.old result payload.new }
 {
-    let mut m = m;
-    let mut left = wanted;
-    let mut at = from;
-    while left > 0 {
-        if arrived.len() <= at {
-            return Framed::Part(Frame {
-                line: n,
-                payload: m,
-                wanted: left,
-            });
-        }
-        m = put(payload, m, arrived[at]);
-        at += 1;
-        left -= 1;
+    let rest = &arrived[from..];
+    let count = rest.len().min(wanted as usize);
+    let m = keep(payload, m, &rest[..count]);
+    let left = wanted - count as u64;
+    if left > 0 {
+        return Framed::Part(Frame {
+            line: n,
+            payload: m,
+            wanted: left,
+        });
     }
-    Framed::Whole(n, m, at)
+    Framed::Whole(n, m, from + count)
 }
 
 // How many bytes follow the line of n bytes.
@@ -104,16 +83,6 @@ fn text_length(line: &[u8], n: usize) -> u64
     ensures { result ≡ wants (take n line.now) }
 {
     request_lines::text_length(&line[..n])
-}
-
-// The place n of a list, or its end where it has fewer places.
-fn within(n: usize, list: &[u8]) -> usize
-    ensures { PlaceIn list.now n result }
-{
-    if n < list.len() {
-        return n;
-    }
-    list.len()
 }
 
 // Goes on with a request that has come in part, by the bytes that have arrived from the place `from` on. `line` and `payload` hold
@@ -127,22 +96,23 @@ pub fn advance(
 ) -> Framed
     ensures { Advances frame arrived.now from line.old payload.old result line.new payload.new }
 {
-    let n = within(frame.line, line);
-    let m = within(frame.payload, payload);
-    let start = within(from, arrived);
+    let n = frame.line.min(line.len());
+    let m = frame.payload.min(payload.len());
+    let start = from.min(arrived.len());
     if frame.wanted > 0 {
         return take_text(n, m, frame.wanted, arrived, start, payload);
     }
-    let taken = take_line(n, arrived, start, line);
-    if taken.whole {
-        let wanted = text_length(line, taken.line);
-        return take_text(taken.line, 0, wanted, arrived, taken.next, payload);
+    match take_line(n, arrived, start, line) {
+        (n, Some(next)) => {
+            let wanted = text_length(line, n);
+            take_text(n, 0, wanted, arrived, next, payload)
+        }
+        (n, None) => Framed::Part(Frame {
+            line: n,
+            payload: 0,
+            wanted: 0,
+        }),
     }
-    Framed::Part(Frame {
-        line: taken.line,
-        payload: 0,
-        wanted: 0,
-    })
 }
 
 // ---- For other software
@@ -152,31 +122,21 @@ pub fn advance(
 fn is_ready(frame: Frame, size: usize, from: usize) -> bool
     ensures { result ≡ ready frame size from }
 {
-    if frame.line > LINE {
-        return false;
-    }
-    if frame.payload > TEXT {
-        return false;
-    }
-    if frame.wanted > 0 {
-        return from <= size;
-    }
-    if frame.payload != 0 {
-        return false;
-    }
-    from <= size
+    frame.line <= LINE
+        && frame.payload <= TEXT
+        && (frame.wanted > 0 || frame.payload == 0)
+        && from <= size
 }
 
 fn refused() -> Advanced
     ensures { result ≡ refused_frame }
 {
-    let none = 0;
     Advanced {
         outcome: 2,
-        line: none,
-        payload: none,
+        line: 0,
+        payload: 0,
         wanted: 0,
-        next: none,
+        next: 0,
     }
 }
 
@@ -194,8 +154,7 @@ pub fn phayaklit_advance(
     if !is_ready(frame, size, from) {
         return refused();
     }
-    let r = advance(frame, arrived, from, line, payload);
-    match r {
+    match advance(frame, arrived, from, line, payload) {
         Framed::Whole(n, m, at) => Advanced {
             outcome: 1,
             line: n,

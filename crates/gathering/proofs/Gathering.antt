@@ -1,6 +1,6 @@
 -- A text put after others in a list. Assumes nothing.
-use Rattle.basis.proofs.Prelude.{◌≡◌, refl, sym, ◌+◌, ◌-◌, ◌<◌, ◌≤◌, ℕ, List, ◌++◌, append_assoc, append-nil, ◌⊎◌, ⊎_elim, leb, drop, drop_at, drop-drop, drop_of_length-le, length, length-append, length-drop, take, take_all, take-append-drop, take_at, take-length, length-take-le, arith, by_test, le-leb, leb-true, lt-leb}
-use borrow.Rule.Slice.PartMut.{mid_of, put_mid, Post-is, mid_len}
+use Rattle.basis.proofs.Prelude.{◌∙◌, ◌≡◌, refl, sym, ◌+◌, ◌-◌, ◌<◌, ◌≤◌, ℕ, List, ◌++◌, append_assoc, leb, drop, drop_at, drop-drop, drop_of_length-le, length, length-append, length-drop, take, take_all, take-append-drop, take_at, length-take-le, arith, by_test, le-leb, leb-true}
+use borrow.Rule.Slice.PartMut.{put_mid, Post-is}
 use Rattle.gathering.specs.Gathering.{Appends, Appended}
 
 module _ (list : List ℕ) (n : ℕ) (from : List ℕ) (at : ℕ) where
@@ -10,19 +10,13 @@ module _ (list : List ℕ) (n : ℕ) (from : List ℕ) (at : ℕ) where
       (λ e. rw e (record { place = omega arith; places = sym (take-append-drop n list) }))
       (λ e. rw e (record { place = refl; places = refl })))
 
-  -- where there is no room for it nothing is
-  pub left_appended : (length list < n) ⊎ (length list - n < length from - at) → Appended (drop at from) list n n list
-  left_appended h =
-      rw (lt-leb (n + length (drop at from)) (length list) (simp length-drop (⊎_elim (λ k. omega arith) (λ k. omega arith) h))) (record { place = refl; places = refl })
-
-  -- where there is, it is copied over as many places
-  pub copied : {src part : List ℕ} {end : ℕ} → at ≤ length from → n ≤ length list → length from - at ≤ length list - n
-      → end ≡ n + (length from - at) → src ≡ take (length from - at) (drop at from) → part ≡ src
-      → Appended (drop at from) list n end (put_mid n (end - n) list part)
-  copied {src} {part} {end} h k fits place same copy =
+  -- where there is room for it, it is copied over as many places
+  pub copied : {text part : List ℕ} → text ≡ take (length from - at) (drop at from) → at ≤ length from → n ≤ length list → length text ≤ length list - n
+      → part ≡ text → Appended (drop at from) list n (n + length text) (put_mid n (n + length text - n) list part)
+  copied {text} {part} src h k fits copy =
       let long = length-drop at from in
-      let whole : part ≡ drop at from = rw (copy, same) (take_all (length from - at) (drop at from) (omega arith)) in
-      rw (le-leb (n + length (drop at from)) (length list) (omega arith)) (record { place = omega arith; places = rw (whole, Post-is n end list (omega arith)) })
+      let whole : text ≡ drop at from = src ∙ take_all (length from - at) (drop at from) (omega arith) in
+      rw (← whole, le-leb (n + length text) (length list) (omega arith)) (record { place = refl; places = rw (copy, Post-is n (n + length text) list (omega arith)) })
 
 module _ {text list : List ℕ} {n r : ℕ} {list' : List ℕ} (h : n ≤ length list) (a : Appends text list n r list') where
   front : length (take n list ++ text) ≡ r

@@ -9,18 +9,13 @@ ghost use Rattle.gathering.specs.Gathering.{Appended};
 pub fn append(list: &mut [u8], n: usize, from: &[u8], at: usize) -> usize
     ensures { Appended (drop at from.now) list.old n result list.new }
 {
-    let size = from.len();
-    let room = list.len();
-    if size < at {
+    let Some(text) = from.get(at..) else {
+        return n;
+    };
+    if list.len() < n || list.len() - n < text.len() {
         return n;
     }
-    if room < n {
-        return n;
-    }
-    if room - n < size - at {
-        return n;
-    }
-    let end = n + (size - at);
-    list[n..end].copy_from_slice(&from[at..]);
+    let end = n + text.len();
+    list[n..end].copy_from_slice(text);
     end
 }

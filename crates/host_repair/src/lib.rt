@@ -3,12 +3,31 @@
 
 ghost use Rattle.repairing.specs.Answers.{Repairs};
 
-use repairing::Repaired;
+use repairing::HostRepaired;
 
 // A good register from a damaged text, into the first places of `text`, and two places of `remarks` for each dropped line.
 #[unsafe(no_mangle)]
-pub extern "C" fn phayaklit_repair(damaged: &[u8], text: &mut [u8], remarks: &mut [u32]) -> Repaired
+pub extern "C" fn phayaklit_repair(
+    damaged: &[u8],
+    text: &mut [u8],
+    remarks: &mut [u32],
+) -> HostRepaired
     ensures { Repairs damaged.now text.old remarks.old result text.new remarks.new }
 {
-    register_repair::repair(damaged, text, remarks)
+    match register_repair::repair(damaged, text, remarks) {
+        Ok(r) => HostRepaired {
+            refusal: 0,
+            line: 0,
+            length: r.length,
+            dropped: r.dropped,
+            displaced: r.displaced,
+        },
+        Err(refusal) => HostRepaired {
+            refusal: refusal.number(),
+            line: 0,
+            length: 0,
+            dropped: 0,
+            displaced: 0,
+        },
+    }
 }

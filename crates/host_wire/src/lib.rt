@@ -2,12 +2,14 @@
 // and whether it changed the state.
 #![tactic(auto)]
 
-ghost use Rattle.std.specs.Prelude.{◌≡◌, ◌≤◌, ◌<◌, length};
+ghost use Rattle.std.specs.Prelude.{◌≡◌, ℕ, ◌≤◌, ◌<◌, length};
+ghost use Rattle.std.specs.Int.{from_bool};
 ghost use Rattle.service.specs.Packed.{unpacked};
 ghost use Rattle.service.specs.Service.{blocks, Given, Valid};
 ghost use Rattle.conversations.specs.Answering.{asked_in};
 ghost use Rattle.sharing.specs.Words.{question_word, call_word, word_in, power_of, changed_at};
 ghost use Rattle.sharing.specs.Carrying.{held_at, Requested};
+ghost use Rattle.host_wire.specs.Powers.{number_of};
 ghost use Rattle.sharing.specs.Clauses.{wanted_word, EditTurn, EditsIn, Changing, RequestedOf};
 
 use conversations::{DAYS, Looked, ROOM, Wanted};
@@ -24,7 +26,7 @@ use telling::told;
 fn question_word(question: Question) -> u32
     ensures { result ≡ question_word question }
 {
-    32 + (decoding::question_number(question) as u32)
+    32 + u32::from(decoding::question_number(question))
 }
 
 fn call_word(call: Call) -> u32
@@ -62,36 +64,46 @@ fn wanted_word(wanted: Wanted) -> u32
     }
 }
 
-// What a word may do: 0 nothing to the state, 1 change it, 2 replace it.
-fn power_of(word: u32) -> u32
-    ensures { result ≡ power_of word }
+// What a word may do to the state: nothing, change it, or replace it.
+#[derive(Clone, Copy, Debug, PartialEq, Eq)]
+enum Power {
+    Reads,
+    Changes,
+    Replaces,
+}
+
+impl Power {
+    // Its number, as a host says what is allowed.
+    fn number(self) -> u32
+        ensures { result ≡ number_of self }
+    {
+        match self {
+            Power::Reads => 0,
+            Power::Changes => 1,
+            Power::Replaces => 2,
+        }
+    }
+}
+
+fn power_of(word: u32) -> Power
+    ensures { number_of result ≡ power_of word }
 {
-    if word == 2 {
-        return 2;
+    match word {
+        2 => Power::Replaces,
+        16..=31 => Power::Changes,
+        _ => Power::Reads,
     }
-    if word < 16 {
-        return 0;
-    }
-    if word < 32 {
-        return 1;
-    }
-    0
 }
 
 // Whether a request changed the state: a reading always, another whose word may do so where it is answered `ok`.
-fn changed_at(power: u32, out: &[u8], place: usize) -> u32
-    ensures { result ≡ changed_at power out.now place }
+fn changed_at(power: Power, out: &[u8], place: usize) -> bool
+    ensures { from_bool result ≡ changed_at (number_of power) out.now place }
 {
-    if power == 0 {
-        return 0;
+    match power {
+        Power::Reads => false,
+        Power::Changes => field_bytes::is_at(out, place, b'o'),
+        Power::Replaces => true,
     }
-    if power == 2 {
-        return 1;
-    }
-    if field_bytes::is_at(out, place, b'o') {
-        return 1;
-    }
-    0
 }
 
 // ---- What is wanted of the service
@@ -126,45 +138,40 @@ fn edit_turn(
     reply_calls::put_reply(out, call, outcome, &numbers[..room], &text[..room])
 }
 
-// What asks for an edit, by its word.
+// An edit with the room that it has, and what the host is told.
 fn edit(
     words: &mut [u16; SERVICE],
     room: usize,
     word: u32,
-    wanted: Wanted,
+    call: Call,
     numbers: &[u16; ROOM],
     text: &[u8; ROOM],
     out: &mut [u8; OUT],
 ) -> Carried
     requires valid { Valid (unpacked words.old) }
-    requires word_value { word ≡ wanted_word wanted }
-    requires le_word { (16 ≤ word) × (word < 20) }
-    ensures { EditsIn wanted words.old room numbers.now text.now out.old result words.new out.new }
+    requires word_value { word ≡ call_word call }
+    requires word_bound { word < 20 }
+    ensures { (k : ℕ) → EditsIn (Wanted.Call call k) words.old room numbers.now text.now out.old result words.new out.new }
 {
-    match wanted {
-        Wanted::Call(call, _) => {
-            let lent = buffer::least(room, ROOM);
-            let place = edit_turn(words, lent, call, numbers, text, out);
-            let changed = changed_at(1, out, place);
-            Carried {
-                word,
-                changed,
-                room: lent,
-                place,
-            }
-        }
-        Wanted::Read(_) => held_back(word, room),
+    let room = room.min(ROOM);
+    let place = edit_turn(words, room, call, numbers, text, out);
+    Carried {
+        word,
+        changed: u32::from(changed_at(Power::Changes, out, place)),
+        room,
+        place,
     }
 }
 
-// Anything else: the service's words are written where it was changed. It is called from two places, so that it is compiled as a function of its own:
-// with its frame, of several copies of the service, a request that wants none would take twice as long.
+// Anything else: the service's words are written where it was changed. It is a function of its own in the compiled program, too: with its frame, of
+// several copies of the service, a request that wants none would take twice as long.
+#[inline(never)]
 fn change(
     words: &mut [u16; SERVICE],
     index: &mut [u16; INDEX],
     room: usize,
     word: u32,
-    power: u32,
+    power: Power,
     wanted: Wanted,
     payload: &[u8],
     days: &[u16; DAYS],
@@ -173,31 +180,22 @@ fn change(
     out: &mut [u8; OUT],
 ) -> Carried
     requires given { Given (unpacked words.old) (blocks index.old) }
-    requires word_value { (word ≡ wanted_word wanted) × (power ≡ power_of word) }
+    requires word_value { (word ≡ wanted_word wanted) × (number_of power ≡ power_of word) }
     ensures { Changing (asked_in wanted days.now) words.old (blocks index.old) room payload.now numbers.old text.old out.old result words.new (blocks index.new) numbers.new text.new out.new }
 {
     let service = service::unpack(words);
     let r = wire::carry(
         service, index, room, wanted, payload, days, numbers, text, out,
     );
-    let place = r.place;
-    let changed = changed_at(power, out, place);
-    let room = r.room;
-    if changed == 0 {
-        return Carried {
-            word,
-            changed,
-            room,
-            place,
-        };
+    let changed = changed_at(power, out, r.place);
+    if changed {
+        service::pack(r.service, words);
     }
-    let after = r.service;
-    service::pack(after, words);
     Carried {
         word,
-        changed,
-        room,
-        place,
+        changed: u32::from(changed),
+        room: r.room,
+        place: r.place,
     }
 }
 
@@ -219,20 +217,15 @@ fn carry(
 {
     let word = wanted_word(wanted);
     let power = power_of(word);
-    if power > allowed {
+    if power.number() > allowed {
         return held_back(word, room);
     }
-    if word >= 16 {
-        if word < 20 {
-            return edit(words, room, word, wanted, numbers, text, out);
-        }
-        return change(
+    match wanted {
+        Wanted::Call(call, _) if word < 20 => edit(words, room, word, call, numbers, text, out),
+        _ => change(
             words, index, room, word, power, wanted, payload, days, numbers, text, out,
-        );
+        ),
     }
-    change(
-        words, index, room, word, power, wanted, payload, days, numbers, text, out,
-    )
 }
 
 // ---- A request
@@ -256,17 +249,13 @@ pub extern "C" fn phayaklit_request(
     requires { Given (unpacked words.old) (blocks index.old) }
     ensures { Requested words.old (blocks index.old) room allowed line.now payload.now days.old numbers.old text.old out.old result words.new (blocks index.new) days.new numbers.new text.new out.new }
 {
-    let looked = looking::look(index, room, line, days, numbers, text, out);
-    match looked {
-        Looked::Done(request, later, place) => {
-            let word = word_of(request);
-            Carried {
-                word,
-                changed: 0,
-                room: later,
-                place,
-            }
-        }
+    match looking::look(index, room, line, days, numbers, text, out) {
+        Looked::Done(request, room, place) => Carried {
+            word: word_of(request),
+            changed: 0,
+            room,
+            place,
+        },
         Looked::Wants(wanted) => carry(
             words, index, room, allowed, wanted, payload, days, numbers, text, out,
         ),

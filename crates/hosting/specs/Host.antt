@@ -3,10 +3,9 @@ use Rattle.std.specs.Prelude.{ℕ, ◌≡◌, List}
 use Rattle.spell.specs.declared.Spell.{Spell}
 use Rattle.packing.specs.Words.{urgency_of}
 use Rattle.service.specs.Packed.{packed, unpacked}
-use Rattle.service.specs.Service.{Valid}
+use Rattle.service.specs.Service.{Valid, Begun}
 use Rattle.outcomes.specs.declared.Outcome.{Outcome}
 use Rattle.service.specs.declared.Stepped.{Stepped}
-use Rattle.service.specs.declared.Started.{Started}
 use Rattle.hosting.specs.declared.Entry.{Entry}
 use Rattle.hosting.specs.declared.Reply.{Reply}
 use Rattle.hosting.specs.declared.Opened.{Opened}
@@ -36,5 +35,5 @@ abbrev pub stepped_of : List ℕ → Reply → Stepped
 stepped_of words r = record { service = unpacked words; outcome = outcome_of r }
 
 -- the same of a reading
-abbrev pub started_of : List ℕ → Opened → Started
+abbrev pub started_of : List ℕ → Opened → Begun
 started_of words r = record { service = unpacked words; refusal = r.refusal; line = r.line }

@@ -1,9 +1,7 @@
 -- What reading the input leaves. Assumes nothing.
-use Rattle.std.specs.Prelude.{ℕ, ◌≤◌}
-use Rattle.input.specs.declared.Input.{Input}
-use Rattle.input.specs.declared.Input.TheVariants.{Read, Failed}
+use Rattle.std.specs.Prelude.{ℕ, ◌≤◌, Result, Ok, Err}
 
 -- no more bytes were read than there is room for
-abbrev pub Within : ℕ → Input → Type 0
-Within room (Read n) = n ≤ room
-Within room (Failed error) = Unit {0}
+abbrev pub Within : {E : Type 0} → ℕ → Result ℕ E → Type 0
+Within room (Ok n) = n ≤ room
+Within room (Err error) = Unit {0}

@@ -7,47 +7,32 @@ ghost use Rattle.input.specs.Input.{Within};
 use std::io;
 use std::io::{ErrorKind, Read};
 
-// How many bytes were read, or why a read failed.
-#[derive(Clone, Copy)]
-pub enum Input {
-    Read(usize),
-    Failed(io::Error),
-}
-
-// Waits for input: how many bytes a read brings, none where the input has ended, or that it failed. A proved loop has to end, so its
-// turns are counted down, from a number that no wait uses up.
-pub fn await_some<R: Read>(from: &mut R, text: &mut [u8]) -> Input
+// Waits for input: how many bytes a read brings, none where the input has ended. A proved loop has to end, so its reads are counted, up to
+// a number that no wait comes to.
+pub fn await_some<R: Read>(from: &mut R, text: &mut [u8]) -> io::Result<usize>
     ensures { Within (length text.old) result }
 {
     let mut failed = io::Error::from(ErrorKind::WouldBlock);
-    let mut turns = u64::MAX;
-    while turns > 0 {
+    for _ in 0..u64::MAX {
         match from.read(text) {
-            Ok(n) => return Input::Read(n),
-            Err(error) => failed = error,
+            Err(error) if retry::again(&error) => failed = error,
+            got => return got,
         }
-        if !retry::again(&failed) {
-            return Input::Failed(failed);
-        }
-        turns -= 1;
     }
-    Input::Failed(failed)
+    Err(failed)
 }
 
-// Reads until the text is full or the input ends.
-pub fn fill<R: Read>(from: &mut R, text: &mut [u8]) -> Input
+// Reads until the text is full or the input ends: how many bytes.
+pub fn fill<R: Read>(from: &mut R, text: &mut [u8]) -> io::Result<usize>
     ensures { Within (length text.old) result }
 {
     let mut n = 0;
     while n < text.len() {
-        let got = await_some(from, &mut text[n..]);
-        let Input::Read(more) = got else {
-            return got;
-        };
+        let more = await_some(from, &mut text[n..])?;
         if more == 0 {
-            return Input::Read(n);
+            break;
         }
         n += more;
     }
-    Input::Read(n)
+    Ok(n)
 }

@@ -1,7 +1,8 @@
 -- The journal with one more entry, and without its newest. Assumes nothing.
-use Rattle.basis.proofs.Prelude.{◌∙◌, ◌≡◌, ap, refl, sym, ◌-◌, ◌<◌, ◌≤◌, suc, zero, ℕ, List, [], ◌∷◌, reverse, reverse-append, reverse-cons, reverse-reverse, drop, drop_of_length-le, length, length-reverse, length-set, length-take, set, take, drop-set-lt, take_all, take_at, take-suc, take-suc-set, arith}
+use Rattle.basis.proofs.Prelude.{◌∙◌, ◌≡◌, ap, refl, sym, ◌-◌, ◌<◌, ◌≤◌, suc, zero, ℕ, List, [], ◌++◌, ◌∷◌, reverse, reverse-append, reverse-cons, reverse-reverse, drop, drop_of_length-le, length, length-append, length-drop, length-reverse, length-set, length-take, set, take, drop-set-lt, take_all, take_at, take-suc, take-suc-set, arith}
 use Rattle.buffer.{specs.Buffer.over, proofs.Over.over_is}
-use Rattle.spell_places.proofs.Lists.{front, closed, front_length, closed_length}
+use Rattle.spell_places.proofs.Lists.{copied}
+use Rattle.std.specs.List.{copy_within}
 use Rattle.journal.specs.{declared.Undo.Undo, Journal.{blank_entry, newest_first, newest_of, noted, noting}}
 
 -- the journal b has the entries es in its first m places, and later places as j has them
@@ -16,11 +17,12 @@ module _ (j : List Undo) (d : ℕ) (e : Undo) (long : length j ≡ 64) where
       (drop-set-lt (suc d) j d e (omega arith))
 
   -- no room: the oldest goes
-  pub push_full : (a : List Undo) → 64 ≤ d → a ≡ closed 0 63 j → set a 63 e ≡ noting e d j
-  push_full a h shut =
+  pub push_full : (a : List Undo) → 64 ≤ d → a ≡ copy_within j 1 (length j) 0 → set a 63 e ≡ noting e d j
+  push_full a h down =
       let b = set a 63 e in
-      let kept : length a ≡ 64 = rw shut (closed_length 0 63 j (omega arith) (omega arith)) ∙ long in
-      let moved : take 63 a ≡ drop 1 j = rw shut (unfold closed front in (take_at (front 0 63 j) (drop 63 j) 63 (front_length 0 63 j (omega arith) (omega arith)) ∙ ap (drop 1) (take_all 64 j (omega arith)))) in
+      let is : a ≡ drop 1 j ++ drop 63 j = down ∙ rw (long, copied 1 64 0 j (omega arith), take_all 64 j (omega arith)) in
+      let kept : length a ≡ 64 = ap length is ∙ simp (length-append, length-drop) (omega arith) in
+      let moved : take 63 a ≡ drop 1 j = rw is (take_at (drop 1 j) (drop 63 j) 63 (omega (arith, length-drop 1 j))) in
       journal_is j b 64 (noted e (newest_first d j)) (omega (arith, length-set a 63 e))
       (rw (take-suc-set a 63 e (omega arith), reverse-append, moved, take_all d j (omega arith)) (ap (λ (r : List Undo). e ∷ r) (sym (drop_oldest j 63 long))))
       (drop_of_length-le b {i = 64} (omega (arith, length-set a 63 e)) ∙ sym (drop_of_length-le j {i = 64} (omega arith)))

@@ -2,12 +2,10 @@
 use Rattle.basis.proofs.Prelude.{◌∙◌, ◌≡◌, ap, refl, sym, ◌+◌, ◌<◌, ◌≤◌, suc, ℕ, List, Bool, cond, false, not, true, eqb, drop, get_or, length, length-drop, length-set, set, drop-drop, get_or-drop, add-zero, add-one, add-two, arith, le-leb, lt-leb, by_test}
 use mir.Val.{Val, bool_byte}
 use denote.Laws.{Is}
-use Rattle.packing.{specs.{Blocks.put, Words.{spell_words, spell_of}}, proofs.{Blocks.put_sets, Words.{spell_back, spell_held, spell_long}}}
+use Rattle.packing.{specs.{Blocks.put, Words.{spell_words, spell_of, spell_long}}, proofs.{Blocks.put_sets, Words.{spell_back, spell_held}}}
+pub use Rattle.journal.specs.Words.{entry_long}
 use Rattle.journal.specs.{declared.Undo.Undo, Journal.blank_entry, Words.{entry_words, entry_of}}
 use Rattle.journal.specs.contracts.Undo.{the_row as entry_row}
-
-pub entry_long : (e : Undo) → length (entry_words e) ≡ 9
-entry_long e = unfold entry_words in ap (λ (n : ℕ). suc (suc n)) (spell_long e.spell)
 
 pub entry_back : (e : Undo) → spell_of (spell_words e.spell) ≡ e.spell → entry_of (entry_words e) ≡ e
 entry_back e h = unfold entry_of entry_words in

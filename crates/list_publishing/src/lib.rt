@@ -2,11 +2,12 @@
 #![tactic(auto)]
 
 ghost use Rattle.std.specs.Prelude.{◌≡◌, []};
+ghost use Rattle.refusal.specs.Numbers.{number_in};
 ghost use Rattle.standing.specs.Standing.{Wf, list_of};
 ghost use Rattle.model.specs.Publishing.{published_of};
 ghost use Rattle.published_index.specs.Index.{index_of, rule_refusal, index_by};
 
-use refusal::{ACCEPTED, NO_SUCH_RULE};
+use refusal::Refusal;
 use stabbing::INDEX;
 use standing::Standing;
 
@@ -39,15 +40,15 @@ fn lay(standing: Standing, rule: u16, index: &mut [u16; INDEX])
 }
 
 // The index becomes that of the standing list with the rule's days, whatever it held before; where there is no such rule it stays as it
-// was. Returns the refusal's number, or 0. Check: 14.
-pub fn publish(standing: Standing, rule: u16, index: &mut [u16; INDEX]) -> u16
+// was. Refusal: 14.
+pub fn publish(standing: Standing, rule: u16, index: &mut [u16; INDEX]) -> Result<(), Refusal>
     requires { Wf standing }
-    ensures value { result ≡ rule_refusal rule }
+    ensures value { number_in result ≡ rule_refusal rule }
     ensures index_after { index.new ≡ index_by rule (list_of standing) index.old }
 {
     if !rules::is_rule(rule) {
-        return NO_SUCH_RULE;
+        return Err(Refusal::NoSuchRule);
     }
     lay(standing, rule, index);
-    ACCEPTED
+    Ok(())
 }

@@ -109,13 +109,5 @@ pub fn look(
     ensures { Looks (blocks index.now) room line.now days.old numbers.old text.now out.old result days.new numbers.new out.new }
 {
     let request = request_lines::parse(line, days);
-    look_at(
-        index,
-        buffer::least(room, ROOM),
-        request,
-        days,
-        numbers,
-        text,
-        out,
-    )
+    look_at(index, room.min(ROOM), request, days, numbers, text, out)
 }

@@ -7,12 +7,9 @@ use native.Mathlib.Nat.{div-one}
 use lib.{Count.{ones, count_trailing_zeros, count_leading_zeros, leading_top}, Pow.{shr-shr, shr_lt}}
 use Rattle.buffer.specs.Buffer.{over}
 use Rattle.calendar.{specs.Calendar.{is_day, days_ok}, proofs.Calendar.dated}
-use Rattle.masks.{specs.{declared.Ticks.TheVariants.{All, Off}, Masks.{is_set, ticks_from, ticks}, Answers.{Answer, Room}}, proofs.{Bits.{highest_set, none_from, Next, next}, Claims.as_many}}
+use Rattle.masks.{specs.{Masks.{is_set, ticks_from, ticks}, Answers.{All, Off, Answer, Room}}, proofs.{Bits.{highest_set, none_from, Next, next}, Claims.as_many}}
 
 -- ---- The ticked days
-pub zeros_above : (mask : ℕ) → (mask ≡ 0 → ⊥) → mask < 2 ^ 64 → count_leading_zeros 64 mask ≤ 63
-zeros_above mask some fits = omega (arith, (leading_top 64 mask (omega (arith, some)) fits).1)
-
 module _ (base mask : ℕ) where
   pub empty_on : mask ≡ 0 → true ≡ days_ok (ticks base mask)
   empty_on e = unfold days_ok in rw (none_from base mask 64 0 (div-one mask ∙ e))
@@ -68,6 +65,10 @@ module _ {base mask : ℕ} {held days : List ℕ} {left i n : ℕ} (t : Ticking 
   pub ends : left ≡ 0 → days ≡ over (ticks base mask) held
   ends e = sym (t.ahead ∙ rw (none_from base mask (64 - i) i (t.shifted ∙ e)) (take-append-drop n days))
 
+  -- nothing is left once every place is passed
+  pub ends_full : length days ≤ n → days ≡ over (ticks base mask) held
+  ends_full h = let z : i ≡ 64 = omega (arith, t) in ends (sym t.shifted ∙ rw z (div-eq_of_lt t.fits))
+
   module _ (some : left ≡ 0 → ⊥) where
     abbrev z : ℕ
     z = count_trailing_zeros 64 left
@@ -79,12 +80,12 @@ module _ {base mask : ℕ} {held days : List ℕ} {left i n : ℕ} (t : Ticking 
     seen : (is_day (base + (i + z)) ≡ true) × (days_ok (ticks_from base mask (suc (i + z)) (64 - i - suc z)) ≡ true)
     seen = unfold days_ok in both _ _ (rw step.is at t.on)
 
-    -- what a turn knows, which takes the ticked day z bits on: the bit, the place and the day
-    pub turn : (i + z < 64) × (n < 64) × (base + (i + z) ≤ 4000)
+    -- what a turn knows, which takes the ticked day z bits on: the bit and the day
+    pub turn : (i + z < 64) × (base + (i + z) ≤ 4000)
     turn = let day = dated (base + (i + z)) seen.0 in let bit = step.within in omega (arith, t)
 
-    pub goes_on : Ticking base mask held (set days n (base + (i + z))) (left / 2 ^ z / 2) (i + z + 1) (n + 1)
-    goes_on =
+    pub goes_on : n < length days → Ticking base mask held (set days n (base + (i + z))) (left / 2 ^ z / 2) (i + z + 1) (n + 1)
+    goes_on room =
         let known = turn in
         let up : suc (i + z) ≡ i + z + 1 = omega arith in
         let fewer : 64 - i - suc z ≡ 64 - (i + z + 1) = omega arith in

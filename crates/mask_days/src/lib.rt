@@ -1,13 +1,13 @@
 // The ticked days of a sheet, put into a list.
 #![tactic(auto)]
 
-ghost use Rattle.std.specs.Prelude.{◌≡◌};
+ghost use Rattle.std.specs.Prelude.{◌≡◌, IfErr};
 ghost use Rattle.buffer.specs.Buffer.{over};
 ghost use Rattle.calendar.specs.Calendar.{days_ok};
 ghost use Rattle.masks.specs.Masks.{ticks};
-ghost use Rattle.masks.specs.Answers.{Room, Answer};
+ghost use Rattle.masks.specs.Answers.{Room, Answer, ticks_in};
 
-use masks::Ticks;
+use refusal::Refusal;
 
 // Whether every ticked day is on the calendar, 1 to 4,000: the lowest and the highest are.
 fn on_calendar(base: u16, mask: u64) -> bool
@@ -16,10 +16,9 @@ fn on_calendar(base: u16, mask: u64) -> bool
     if mask == 0 {
         return true;
     }
-    if base as u32 + u64::trailing_zeros(mask) < 1 {
-        return false;
-    }
-    base as u32 + (63 - u64::leading_zeros(mask)) <= 4000
+    let lowest = u32::from(base) + mask.trailing_zeros();
+    let highest = u32::from(base) + (63 - mask.leading_zeros());
+    1 <= lowest && highest <= 4000
 }
 
 // Puts the ticked days, which are on the calendar, rising, into the first places of a list of 64. Later places keep what they hold.
@@ -28,26 +27,28 @@ fn put(base: u16, mask: u64, days: &mut [u16])
     ensures { days.new ≡ over (ticks base mask) days.old }
 {
     let mut left = mask;
-    let mut i: u32 = 0;
-    let mut n = 0;
-    while left != 0 {
-        let zeros = u64::trailing_zeros(left);
+    let mut i = 0;
+    for day in days.iter_mut() {
+        if left == 0 {
+            return;
+        }
+        let zeros = left.trailing_zeros();
         i += zeros;
-        days[n] = (base as u32 + i) as u16;
+        *day = (u32::from(base) + i) as u16;
         left = left >> zeros >> 1;
         i += 1;
-        n += 1;
     }
 }
 
 // The ticked days of a sheet, rising, in the first places of a list, and how many they are. Later places keep what they hold, and so
 // do all places where a ticked day is off the calendar.
-pub fn ticked(base: u16, mask: u64, days: &mut [u16; 64]) -> Ticks
-    ensures { Answer base mask result days.old days.new }
+pub fn ticked(base: u16, mask: u64, days: &mut [u16; 64]) -> Result<usize, Refusal>
+    ensures answer { Answer base mask (ticks_in result) days.old days.new }
+    ensures refusal { IfErr result (λ refusal. refusal ≡ Refusal.OffCalendar) }
 {
     if !on_calendar(base, mask) {
-        return Ticks::Off;
+        return Err(Refusal::OffCalendar);
     }
     put(base, mask, days);
-    Ticks::All(u64::count_ones(mask) as usize)
+    Ok(mask.count_ones() as usize)
 }

@@ -5,7 +5,7 @@ use native.Mathlib.Nat.{div-one}
 use lib.Count.{ones}
 use Rattle.buffer.specs.Buffer.{over}
 use Rattle.calendar.specs.Calendar.{days_ok}
-use Rattle.masks.specs.{declared.Ticks.{Ticks, TheVariants.{All, Off}}, Masks.{is_set, ticks_from, ticks}, Answers.{answered, Answer}}
+use Rattle.masks.specs.{Masks.{is_set, ticks_from, ticks}, Answers.{Ticks, All, Off, answered, Answer}}
 use Rattle.masks.proofs.Bits.{none_from, few_from, count_from, rises_from, bit_of, of_bit}
 
 module _ (base mask : ℕ) where

@@ -1,10 +1,19 @@
 -- What is said of a sheet's ticked days, and what the lent list then holds. Assumes nothing.
-use Rattle.std.specs.Prelude.{ℕ, true, cond, List, ◌≡◌, length}
+use Rattle.std.specs.Prelude.{ℕ, true, cond, List, ◌≡◌, length, Result, Ok, Err}
 use Rattle.buffer.specs.Buffer.{over}
 use Rattle.calendar.specs.Calendar.{days_ok}
-use Rattle.masks.specs.declared.Ticks.{Ticks}
-use Rattle.masks.specs.declared.Ticks.TheVariants.{All, Off}
+use Rattle.refusal.specs.declared.Refusal.{Refusal}
 use Rattle.masks.specs.Masks.{ticks}
+
+-- what is said of a sheet: how many days are ticked, or that a ticked day is off the calendar
+pub data Ticks : Type 0 where
+  All : ℕ → Ticks
+  Off : Ticks
+
+-- as a call returns it
+abbrev pub ticks_in : Result ℕ Refusal → Ticks
+ticks_in (Ok n) = All n
+ticks_in (Err refusal) = Off
 
 -- how many there are, where all are on the calendar
 abbrev pub answered : List ℕ → Ticks

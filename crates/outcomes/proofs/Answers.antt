@@ -1,7 +1,7 @@
 -- Every outcome with its lent lists is the account's answer. Assumes nothing.
 use Rattle.basis.proofs.Prelude.{◌≡◌, refl, ℕ, List, leb, eqb, length, by_test}
 use Rattle.refusal.specs.Table.{accepted}
-use Rattle.register.specs.{declared.Written.Written, Answers.Writes}
+use Rattle.register.specs.Answers.{Written, Writes}
 use Rattle.stabbing.specs.Answer as rows
 use Rattle.model.{specs.Effects.{State, Request, Answer, refused, gives, writes, settle}, proofs.Claims.ticking}
 use Rattle.outcomes.specs.{declared.Outcome.Outcome, Outcomes.{told_of, found_of, wrote_of, ticking_of, answer_of}}

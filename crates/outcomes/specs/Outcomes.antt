@@ -1,8 +1,8 @@
 -- What a call tells beside its lent lists: every outcome is one of these, and with the lists the account's answer. Assumes nothing.
 use Rattle.std.specs.Prelude.{ℕ, cond, List, eqb}
 use Rattle.refusal.specs.Table.{accepted}
-use Rattle.register.specs.declared.Written.{Written}
-use Rattle.stabbing.specs.declared.Listed.{Listed}
+use Rattle.register.specs.Answers.{Written}
+use Rattle.stabbing.specs.Answer.{Told}
 use Rattle.model.specs.declared.Call.{Call}
 use Rattle.model.specs.Model.{Request, Answer}
 use Rattle.outcomes.specs.declared.Outcome.{Outcome}
@@ -12,7 +12,7 @@ abbrev pub told_of : ℕ → Outcome
 told_of n = record { refusal = n; count = 0; comparisons = 0; length = 0; ticked = 0 }
 
 -- what a question found in the index
-abbrev pub found_of : Listed → Outcome
+abbrev pub found_of : Told → Outcome
 found_of l = record { refusal = l.refusal; count = l.count; comparisons = l.comparisons; length = 0; ticked = 0 }
 
 -- what was written of a text

@@ -25,10 +25,7 @@ pub fn say<E: Print>(to: &E, bytes: &[u8]) {
 fn words(text: &str) -> usize
     ensures { result ≤ length text.now }
 {
-    match text.rfind(NUMBER) {
-        Some(at) => at,
-        None => text.len(),
-    }
+    text.rfind(NUMBER).unwrap_or(text.len())
 }
 
 // Says what failed, as the caller names it, and why, in the system's words.
@@ -50,30 +47,36 @@ fn tell_stuck<E: Print>(to: &E, name: &[u8]) {
 
 // ---- What is written
 
-// Writes all bytes; false where that fails, which is told under `name`. A write that takes a part is followed by one of the rest. A
-// proved loop has to end, so its turns are counted down, from a number that no output uses up.
-pub fn write<P: Print, E: Print>(to: &P, bytes: &[u8], failures: &E, name: &[u8]) -> bool {
-    let mut done = 0;
-    let mut turns = u64::MAX;
-    while turns > 0 && done < bytes.len() {
-        match to.write_some(&bytes[done..]) {
-            Ok(0) => turns = 0,
-            Ok(more) => {
-                done += more;
-                turns -= 1;
-            }
+// A failure that was told on standard error.
+#[derive(Clone, Copy, Debug, PartialEq, Eq)]
+pub struct Told;
+
+// Writes all bytes, and tells under `name` where that fails. A write that takes a part is followed by one of the rest. A proved loop has to
+// end, so its writes are counted, up to a number that no output comes to.
+pub fn write<P: Print, E: Print>(
+    to: &P,
+    bytes: &[u8],
+    failures: &E,
+    name: &[u8],
+) -> Result<(), Told> {
+    let mut rest = bytes;
+    for _ in 0..u64::MAX {
+        if rest.is_empty() {
+            break;
+        }
+        match to.write_some(rest) {
+            Ok(0) => break,
+            Ok(n) => rest = &rest[n..],
+            Err(error) if retry::again(&error) => {}
             Err(error) => {
-                if !retry::again(&error) {
-                    tell(failures, name, &error);
-                    return false;
-                }
-                turns -= 1;
+                tell(failures, name, &error);
+                return Err(Told);
             }
         }
     }
-    if done < bytes.len() {
+    if !rest.is_empty() {
         tell_stuck(failures, name);
-        return false;
+        return Err(Told);
     }
-    true
+    Ok(())
 }

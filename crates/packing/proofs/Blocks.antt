@@ -1,6 +1,7 @@
 -- Values written one after the other, and read back: how a loop writes and reads them, and that reading gives back what was written. Assumes nothing.
-use Rattle.basis.proofs.Prelude.{◌∙◌, ◌≡◌, ap, refl, sym, ◌*◌, ◌+◌, ◌<◌, ◌≤◌, suc, zero, ℕ, List, [], ◌++◌, ◌∷◌, append_assoc, append-nil, drop, get_or, length, length-append, length-drop, set, take, drop-append-le, drop_at, drop-drop, length-sets, length-take-le, sets, sets-eq, take_all, take-suc, mul-le-mul_right, suc-mul, zero-mul, add-zero, zero-add, add-one, get_or_at, map, map-append, take-suc-set, ◌-◌, arith, le-leb, leb, leb-true, lt-leb, by_test}
-use native.Mathlib.Nat.{add_comm, suc-add}
+use Rattle.basis.proofs.Prelude.{◌∙◌, ◌≡◌, ap, refl, sym, ◌*◌, ◌+◌, ◌<◌, ◌≤◌, suc, zero, ℕ, List, [], ◌++◌, ◌∷◌, append_assoc, append-nil, drop, get_or, length, length-append, length-drop, set, take, drop-append-le, drop_at, drop-drop, length-sets, length-take-le, sets, sets-eq, take_all, take-suc, mul-le-mul_right, suc-mul, zero-mul, add-zero, zero-add, add-one, get_or_at, map, map-append, take-suc-set, ◌-◌, arith, le-leb, leb, leb-false, leb-true, min, drop_of_length-le, lt-leb, by_test}
+use native.Mathlib.Nat.{add_comm, min-eq_left, suc-add}
+use borrow.Rule.Slice.PartMut.{put_mid, Post-is}
 use Rattle.packing.proofs.Names.{Every, Put, PutAll, over, parts, put, written}
 
 -- ---- Words put into a list
@@ -21,10 +22,19 @@ put_length k new l =
 pub put_first : (new l : List ℕ) → length new ≤ length l → put 0 new l ≡ over new l
 put_first new l h = sym (put_sets 0 new l (omega arith)) ∙ sets-eq new l 0 (omega arith) ∙ rw zero-add
 
+-- a part of the list that they take the place of
+pub put_part : (k e : ℕ) (new l : List ℕ) → e ≡ k + length new → e ≤ length l → put_mid k (e - k) l new ≡ put k new l
+put_part k e new l is h = unfold put in rw (Post-is k e l (omega arith), is, ← append_assoc, le-leb (k + length new) (length l) (omega arith))
+
 -- stores behind others
 pub sets_append : (s new l : List ℕ) (k : ℕ) → sets l k (s ++ new) ≡ sets (sets l k s) (k + length s) new
 sets_append [] new l k = rw add-zero
 sets_append (x ∷ s) new l k = let at : k + suc (length s) ≡ suc k + length s = omega arith in rw at (sets_append s new (set l k x) (suc k))
+
+-- a place that is bounded by a number past the list's end
+pub drop_bounded : {A : Type 0} (l : List A) (n : ℕ) {m bound : ℕ} → length l ≤ bound → m ≡ min n bound → drop m l ≡ drop n l
+drop_bounded l n {m} {bound} h e = by_test (leb n bound) (λ t. rw (e, min-eq_left (leb-true n bound t)))
+    (λ t. let k : bound < n = omega (arith, leb-false n bound t) in rw (e, drop_of_length-le l {i = min n bound} (omega arith), drop_of_length-le l {i = n} (omega arith)))
 
 module _ {A : Type 0} where
   -- values that a function leaves as they are
@@ -64,15 +74,14 @@ module _ {A : Type 0} where
     put_nothing l = record { words = sym (put_first [] l (omega arith)); back = λ h. refl }
 
     -- a loop goes on by one: the words of the value i are put after those before it
-    pub put_more : (n : ℕ) (a : List A) {l c c' : List ℕ} (i : ℕ) {at : ℕ} (d : A) → length a ≡ n → n * k ≤ length l → i < n → at ≡ i * k
-        → PutAll f g (take i a) l c → Put f g (get_or a i d) at c c' → PutAll f g (take (i + 1) a) l c'
-    put_more n a {l} i {at} d all room h e so p =
-        let x = get_or a i d in
+    pub put_more : (n : ℕ) (a : List A) {l c c' : List ℕ} (i : ℕ) {at : ℕ} (x : A) → length a ≡ n → n * k ≤ length l → i < n → at ≡ i * k → x ≡ get_or a i x
+        → PutAll f g (take i a) l c → Put f g x at c c' → PutAll f g (take (i + 1) a) l c'
+    put_more n a {l} i {at} x all room h e is so p =
         let w = written f (take i a) in
         let first : 0 + length w ≡ at = omega (arith, rw (length-take-le i a (omega arith)) at (written_length (take i a))) in
         let here : at + length (f x) ≤ length l = omega (arith, long x, mul-le-mul_right k h) in
         let next : written f (take i a ++ (x ∷ [])) ≡ w ++ f x = written_append (take i a) (x ∷ []) ∙ (unfold written in rw append-nil) in
-        rw (add-one, take-suc a i d (omega arith)) (record {
+        rw (add-one, take-suc a i x (omega arith), ← is) (record {
           words = rw (p.words, so.words, next, ← put_sets 0 w l (omega arith), ← put_sets 0 (w ++ f x) l (omega (arith, length-append w (f x))))
               (rw (← put_sets at (f x) (sets l 0 w) (omega (arith, length-sets l 0 w)), sets_append w (f x) l 0, first));
           back = λ fits. map-append (λ y. g (f y)) (take i a) (x ∷ []) ∙ rw (so.back (omega arith), p.back);
@@ -103,10 +112,10 @@ module _ {A : Type 0} where
         rw (all, parts_part i (suc (n - suc i)) l) (get_or_at (parts k g i l) _ _ d i (parts_length i l))
 
     -- a loop goes on by one: the value i is read; and all are read
-    pub parts_more : (l : List ℕ) (a : List A) (i : ℕ) {n at : ℕ} {x : A} → length a ≡ n → i < n → take i a ≡ parts k g i l → at ≡ i * k → x ≡ g (drop at l)
+    pub parts_more : (l : List ℕ) (a : List A) (i : ℕ) {n : ℕ} {x : A} → length a ≡ n → i < n → take i a ≡ parts k g i l → x ≡ g (drop (i * k) l)
         → take (i + 1) (set a i x) ≡ parts k g (i + 1) l
     unfolding parts
-    parts_more l a i all h so e is = rw (parts_part i 1 l, ← so, is, e, add-one) (take-suc-set a i _ (omega arith))
+    parts_more l a i all h so is = rw (parts_part i 1 l, ← so, is, add-one) (take-suc-set a i _ (omega arith))
 
     pub parts_done : (l : List ℕ) (a : List A) (i : ℕ) {n : ℕ} → i ≤ n → n ≤ i → length a ≡ n → take i a ≡ parts k g i l → a ≡ parts k g n l
     parts_done l a i {n} low high all so = let is : i ≡ n = omega arith in sym (take_all i a (omega arith)) ∙ so ∙ rw is

@@ -1,6 +1,6 @@
 -- The names of other crates and of the definitions that the proofs use, passed on from one place. Assumes nothing.
 pub use Rattle.buffer.specs.Buffer.{over}
-pub use Rattle.packing.specs.{Blocks.{Put, PutAll}, Layout.spell_width, Words.{Narrow, high, joined, kind_of, low, value_of}}
+pub use Rattle.packing.specs.{Blocks.{Put, PutAll}, Layout.spell_width, Words.{Narrow, high, joined, kind_of, low, spell_long, value_of}}
 pub use Rattle.spell.specs.contracts.Spell.{the_row as spell-row}
 pub use Rattle.spell.specs.contracts.Urgency.{the_row as urgency-row}
 pub use Rattle.spell.{specs.{Blank.blank, declared.{Spell.Spell, Urgency.{Urgency, TheVariants.{Grade, Reading}}}}}

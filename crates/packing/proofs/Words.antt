@@ -1,10 +1,7 @@
 -- A spell's words read back as the spell. Assumes nothing.
 use Rattle.basis.proofs.Prelude.{◌≡◌, ap, refl, ◌+◌, ◌-◌, ◌<◌, ◌≤◌, ℕ, List, ◌++◌, drop, get_or, length, length-append, length-drop, List·getD-append, set, get_or-drop, add-zero, div-add-mod', add_five, add-four, add-one, add_six, add-three, add-two, arith, le-leb, lt-leb}
+pub use Rattle.packing.specs.Words.{spell_long}
 use Rattle.packing.proofs.{Blocks.put_sets, Names.{Grade, Is, Narrow, Put, Reading, Spell, Urgency, Val, binary32, blank, high, joined, kind_of, low, of_bits-to_bits, spell-row, spell_of, spell_width, spell_words, urgency-row, urgency_of, value_of}}
-
-pub spell_long : (s : Spell) → length (spell_words s) ≡ spell_width
-unfolding spell_words
-spell_long s = refl
 
 -- the words after a spell's own are not read
 pub spell_near : (x r : List ℕ) → spell_width ≤ length x → spell_of (x ++ r) ≡ spell_of x

@@ -1,5 +1,5 @@
 -- A spell in seven words, and the spell of any words. Assumes nothing.
-use Rattle.std.specs.Prelude.{ℕ, ◌+◌, ◌*◌, ◌/◌, ◌%◌, ◌≤◌, cond, List, [], ◌∷◌, T, leb, eqb, length, get_or}
+use Rattle.std.specs.Prelude.{ℕ, ◌+◌, ◌*◌, ◌/◌, ◌%◌, ◌≤◌, ◌≡◌, refl, cond, List, [], ◌∷◌, T, leb, eqb, length, get_or}
 use Rattle.std.specs.Float.{binary32}
 use Rattle.std.specs.Float.Ieee.{fits, to_bits, of_bits}
 use Rattle.spell.specs.declared.Urgency.{Urgency}
@@ -43,6 +43,10 @@ joined a b = b * 65536 + a
 unfoldable pub spell_words : Spell → List ℕ
 spell_words s =
     s.number ∷ s.candidate ∷ s.first ∷ s.last ∷ kind_of s.urgency ∷ low (value_of s.urgency) ∷ high (value_of s.urgency) ∷ []
+
+pub spell_long : (s : Spell) → length (spell_words s) ≡ spell_width
+unfolding spell_words
+spell_long s = refl
 
 -- the spell of the first seven words; one of zeros where there are fewer
 unfoldable pub spell_of : List ℕ → Spell

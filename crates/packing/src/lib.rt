@@ -2,10 +2,10 @@
 // high 16 bits of the urgency's value.
 #![tactic(auto)]
 
-ghost use Rattle.std.specs.Prelude.{◌≡◌, drop};
+ghost use Rattle.std.specs.Prelude.{◌≡◌, ℕ, List, length, drop};
 ghost use Rattle.packing.specs.Blocks.{parts, Put, PutAll};
 ghost use Rattle.packing.specs.Layout.{spell_width};
-ghost use Rattle.packing.specs.Words.{kind_of, value_of, urgency_of, low, high, joined, spell_words, spell_of};
+ghost use Rattle.packing.specs.Words.{kind_of, value_of, urgency_of, low, high, joined, spell_words, spell_of, spell_long};
 
 use spell::{Spell, Urgency};
 
@@ -48,7 +48,7 @@ fn value_of(u: Urgency) -> u32
     ensures { result ≡ value_of u }
 {
     match u {
-        Urgency::Grade(g) => g as u32,
+        Urgency::Grade(g) => u32::from(g),
         Urgency::Reading(x) => readings::bits_of(x),
     }
 }
@@ -57,16 +57,11 @@ fn value_of(u: Urgency) -> u32
 pub fn urgency_of(kind: u16, value: u32) -> Urgency
     ensures { result ≡ urgency_of kind value }
 {
-    if kind == 1 {
-        return Urgency::Reading(readings::reading_of(value));
+    match kind {
+        0 => Urgency::Grade(u16::try_from(value).unwrap_or(0)),
+        1 => Urgency::Reading(readings::reading_of(value)),
+        _ => Urgency::Grade(0),
     }
-    if kind != 0 {
-        return Urgency::Grade(0);
-    }
-    if value > 65535 {
-        return Urgency::Grade(0);
-    }
-    Urgency::Grade(value as u16)
 }
 
 fn low_of(value: u32) -> u16
@@ -84,82 +79,105 @@ fn high_of(value: u32) -> u16
 fn join(a: u16, b: u16) -> u32
     ensures { result ≡ joined a b }
 {
-    (b as u32) * 65536 + (a as u32)
+    u32::from(b) * 65536 + u32::from(a)
 }
 
-// ---- One spell
+// ---- Values in words
 
-// The words of s at the place `at`; where there is no room for them, nothing is written.
-pub fn put_spell(s: Spell, out: &mut [u16], at: usize)
-    ensures { Put spell_words spell_of s at out.old out.new }
+// A value in words of 16 bits, of which each value of the type takes the same number.
+pub trait Packed: Copy {
+    ghost WIDTH: { ℕ };
+
+    // Its words, and the value of any words.
+    ghost words_of: { Self → List ℕ };
+
+    ghost of_words: { List ℕ → Self };
+
+    const WIDTH: usize;
+
+    // Its words at the place `at`; where there is no room for them, nothing is written.
+    fn put(self, out: &mut [u16], at: usize)
+        ensures { Put words_of of_words self at out.old out.new };
+
+    // The value of the words at the place `at`.
+    fn at(words: &[u16], at: usize) -> Self
+        ensures { result ≡ of_words (drop at words.now) };
+
+    ghost long: { (x : Self) → length (words_of x) ≡ WIDTH };
+}
+
+// The words of all values in the first places; where there is no room for them, nothing is written.
+pub fn put_all<T: Packed>(values: &[T], out: &mut [u16])
+    ensures { PutAll T.words_of T.of_words values.now out.old out.new }
 {
-    if out.len() < SPELL {
+    let Some(n) = values.len().checked_mul(T::WIDTH) else {
+        return;
+    };
+    if out.len() < n {
         return;
     }
-    if out.len() - SPELL < at {
-        return;
-    }
-    let u = s.urgency;
-    let kind = kind_of(u);
-    let value = value_of(u);
-    let low = low_of(value);
-    let high = high_of(value);
-    out[at] = s.number;
-    out[at + 1] = s.candidate;
-    out[at + 2] = s.first;
-    out[at + 3] = s.last;
-    out[at + 4] = kind;
-    out[at + 5] = low;
-    out[at + 6] = high;
-}
-
-// The spell of the seven words at the place `at`; where there are not seven, one of zeros.
-pub fn spell_at(words: &[u16], at: usize) -> Spell
-    ensures { result ≡ spell_of (drop at words.now) }
-{
-    if words.len() < SPELL {
-        return spell_checks::blank();
-    }
-    if words.len() - SPELL < at {
-        return spell_checks::blank();
-    }
-    let value = join(words[at + 5], words[at + 6]);
-    let urgency = urgency_of(words[at + 4], value);
-    Spell {
-        number: words[at],
-        candidate: words[at + 1],
-        first: words[at + 2],
-        last: words[at + 3],
-        urgency,
+    for (i, x) in values.iter().enumerate() {
+        x.put(out, T::WIDTH * i);
     }
 }
 
-// ---- The array of spells
-
-// The words of all spells in the first places; where there is no room for them, nothing is written.
-pub fn put_spells(spells: [Spell; 1024], out: &mut [u16])
-    ensures { PutAll spell_words spell_of spells out.old out.new }
+// The values of the first words.
+pub fn all_at<T: Packed, const N: usize>(words: &[u16]) -> [T; N]
+    ensures { result ≡ parts T.WIDTH T.of_words N words.now }
 {
-    if out.len() < SPELLS {
-        return;
+    let mut values = [T::at(words, 0); N];
+    for (i, x) in values.iter_mut().enumerate() {
+        *x = T::at(words, T::WIDTH.saturating_mul(i));
     }
-    let mut i = 0;
-    while i < 1024 {
-        let x = spells[i];
-        put_spell(x, out, SPELL * i);
-        i += 1;
-    }
+    values
 }
+// ---- A spell in words
 
-// The spells of the first words.
-pub fn spells_at(words: &[u16]) -> [Spell; 1024]
-    ensures { result ≡ parts spell_width spell_of 1024 words.now }
-{
-    let mut spells = [spell_checks::blank(); 1024];
-    let mut i = 0;
-    while i < 1024 {
-        spells[i] = spell_at(words, SPELL * i);
-        i += 1;
+impl Packed for Spell {
+    ghost WIDTH = { spell_width };
+
+    ghost words_of = { spell_words };
+
+    ghost of_words = { spell_of };
+
+    const WIDTH: usize = SPELL;
+
+    fn put(self, out: &mut [u16], at: usize) {
+        let Some(last) = out.len().checked_sub(SPELL) else {
+            return;
+        };
+        if last < at {
+            return;
+        }
+        let value = value_of(self.urgency);
+        out[at..at + SPELL].copy_from_slice(&[
+            self.number,
+            self.candidate,
+            self.first,
+            self.last,
+            kind_of(self.urgency),
+            low_of(value),
+            high_of(value),
+        ]);
     }
-    spells
+
+    // Where there are not seven words, it is a spell of zeros.
+    fn at(words: &[u16], at: usize) -> Spell {
+        let Some(last) = words.len().checked_sub(SPELL) else {
+            return spell_checks::blank();
+        };
+        if last < at {
+            return spell_checks::blank();
+        }
+        let value = join(words[at + 5], words[at + 6]);
+        Spell {
+            number: words[at],
+            candidate: words[at + 1],
+            first: words[at + 2],
+            last: words[at + 3],
+            urgency: urgency_of(words[at + 4], value),
+        }
+    }
+
+    ghost long = { spell_long };
 }

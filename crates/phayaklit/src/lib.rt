@@ -14,36 +14,10 @@ ghost use Rattle.hosting.specs.Host.{version, Held, Laid, spell_in, outcome_of, 
 
 use hosting::{Entry, Opened, Reply};
 use model::{Call, Question};
-use outcomes::Outcome;
 use service::SERVICE;
 use spell::Spell;
 use stabbing::INDEX;
 use telling::told;
-
-fn spell_in(e: Entry) -> Spell
-    ensures { result ≡ spell_in e }
-{
-    let urgency = packing::urgency_of(e.kind, e.value);
-    Spell {
-        number: e.number,
-        candidate: e.candidate,
-        first: e.first,
-        last: e.last,
-        urgency,
-    }
-}
-
-fn answered(o: Outcome) -> Reply
-    ensures { outcome_of result ≡ o }
-{
-    Reply {
-        refusal: o.refusal,
-        count: o.count,
-        comparisons: o.comparisons,
-        length: o.length,
-        ticked: o.ticked,
-    }
-}
 
 // ---- The version
 
@@ -89,12 +63,12 @@ pub extern "C" fn phayaklit_read(
     ensures laid { Laid words.new }
 {
     let got = service::read(text, index);
-    let service = got.service;
-    service::pack(service, words);
-    Opened {
-        refusal: got.refusal,
-        line: got.line,
-    }
+    service::pack(got.service, words);
+    let (refusal, line) = match got.outcome {
+        Ok(()) => (0, 0),
+        Err(refused) => (refused.refusal.number(), refused.line),
+    };
+    Opened { refusal, line }
 }
 
 // ---- Edits: the index is not touched
@@ -105,7 +79,7 @@ fn edit(words: &mut [u16; SERVICE], call: Call) -> Reply
     ensures changes { Changes (unpacked words.old) call (stepped_of words.new result) }
     ensures laid { Laid words.old → Laid words.new }
 {
-    answered(told(standing_words::edit(words, call)))
+    Reply::from(told(standing_words::edit(words, call)))
 }
 
 // Put a spell in.
@@ -115,7 +89,7 @@ pub extern "C" fn phayaklit_enter(words: &mut [u16; SERVICE], entry: Entry) -> R
     ensures changed { Changed (unpacked words.old) (Call.Enter (spell_in entry)) (stepped_of words.new result) }
     ensures laid { Laid words.old → Laid words.new }
 {
-    edit(words, Call::Enter(spell_in(entry)))
+    edit(words, Call::Enter(Spell::from(entry)))
 }
 
 // Replace the spell of that number by the given one.
@@ -125,7 +99,7 @@ pub extern "C" fn phayaklit_amend(words: &mut [u16; SERVICE], entry: Entry) -> R
     ensures changed { Changed (unpacked words.old) (Call.Amend (spell_in entry)) (stepped_of words.new result) }
     ensures laid { Laid words.old → Laid words.new }
 {
-    edit(words, Call::Amend(spell_in(entry)))
+    edit(words, Call::Amend(Spell::from(entry)))
 }
 
 // Remove the spell of that number.
@@ -162,7 +136,7 @@ pub extern "C" fn phayaklit_publish(
 {
     let service = service::unpack(words);
     let r = service::publish(service, rule, index);
-    answered(r.outcome)
+    Reply::from(r.outcome)
 }
 
 // The text of the standing list, into the first places of the lent list.
@@ -172,7 +146,7 @@ pub extern "C" fn phayaklit_write(words: &[u16; SERVICE], text: &mut [u8]) -> Re
     ensures { Wrote (unpacked words.now) text.old (outcome_of result) text.new }
 {
     let service = service::unpack(words);
-    answered(service::write(service, text))
+    Reply::from(service::write(service, text))
 }
 
 // ---- Questions: the published index is read where it lies
@@ -183,7 +157,7 @@ pub extern "C" fn phayaklit_day(index: &[u16; INDEX], d: u16, numbers: &mut [u16
     requires { Published index.now }
     ensures { (days : List ℕ) → Asked index.now (Question.Day d) days numbers.old (outcome_of result) numbers.new }
 {
-    answered(questions::day(index, d, numbers))
+    Reply::from(questions::day(index, d, numbers))
 }
 
 // The span from a to b: the spells with first ≤ b and last ≥ a.
@@ -192,7 +166,7 @@ pub extern "C" fn phayaklit_span(index: &[u16; INDEX], a: u16, b: u16, numbers: 
     requires { Published index.now }
     ensures { (days : List ℕ) → Asked index.now (Question.Span a b) days numbers.old (outcome_of result) numbers.new }
 {
-    answered(questions::span(index, a, b, numbers))
+    Reply::from(questions::span(index, a, b, numbers))
 }
 
 // The cover of a published spell: the spells with first ≤ its first and last ≥ its last.
@@ -201,7 +175,7 @@ pub extern "C" fn phayaklit_cover(index: &[u16; INDEX], number: u16, numbers: &m
     requires { Published index.now }
     ensures { (days : List ℕ) → Asked index.now (Question.Cover number) days numbers.old (outcome_of result) numbers.new }
 {
-    answered(questions::cover(index, number, numbers))
+    Reply::from(questions::cover(index, number, numbers))
 }
 
 // Several days: the spells that contain at least one of them.
@@ -210,7 +184,7 @@ pub extern "C" fn phayaklit_days(index: &[u16; INDEX], days: &[u16], numbers: &m
     requires { Published index.now }
     ensures { Asked index.now Question.Days days.now numbers.old (outcome_of result) numbers.new }
 {
-    answered(questions::days(index, days, numbers))
+    Reply::from(questions::days(index, days, numbers))
 }
 
 // The ticked days of a base day and a mask, whose bit i is the base day + i: the spells that contain at least one of them, and how many
@@ -225,5 +199,5 @@ pub extern "C" fn phayaklit_mask(
     requires { Published index.now }
     ensures { (days : List ℕ) → Asked index.now (Question.Mask base mask) days numbers.old (outcome_of result) numbers.new }
 {
-    answered(questions::mask(index, base, mask, numbers))
+    Reply::from(questions::mask(index, base, mask, numbers))
 }

@@ -6,7 +6,7 @@ use Rattle.spell.specs.{declared.Spell.Spell, Blank.blank, Listing.stands, Same.
 use Rattle.model.{specs.Edits.{insert, remove, replace, idle, enter_refusal, amend_refusal}, proofs.Checks.{enters, amends}}
 use Rattle.spell_places.{specs.{Search.stands_at, List.{putting, without}}, proofs.{Found.{idle_index, stands_index}, Changing.{put_in, removed_is, without_none}}}
 use Rattle.journal.specs.{declared.Undo.Undo, Journal.noted, Past.{undo, entering, replacing}}
-use Rattle.plans.specs.{declared.Plan.Plan, Plans.{no_plan, enter_check, plan_enter, amend_check, plan_amend, plan_strike, plan_back, deeper_by}}
+use Rattle.plans.specs.{Plans.{Decision, no_plan, enter_check, plan_enter, amend_check, plan_amend, plan_strike, plan_back, deeper_by}}
 
 -- ---- A number is looked for in the list l of n spells: p is where it stands, or n
 
@@ -31,7 +31,7 @@ module _ (l : List Spell) (s : Spell) {n p : ℕ} (long : length l ≡ n) (at-in
 -- ---- Plans
 
 -- a plan by which no check refuses, the list l becomes l', and the entry e is noted in a journal of the depth d
-pub record Makes (x : Plan) (l l' : List Spell) (e : Undo) (d : ℕ) : Type 0 where
+pub record Makes (x : Decision) (l l' : List Spell) (e : Undo) (d : ℕ) : Type 0 where
   pub done : x.refusal ≡ accepted
   pub list : putting x.puts x.spell (without x.out l) ≡ l'
   pub notes : x.notes ≡ true
@@ -39,7 +39,7 @@ pub record Makes (x : Plan) (l l' : List Spell) (e : Undo) (d : ℕ) : Type 0 wh
   pub depth : x.depth ≡ d
 
 -- a plan by which the newest of d entries goes, and the list l becomes l'
-pub record Undoes (x : Plan) (l l' : List Spell) (d : ℕ) : Type 0 where
+pub record Undoes (x : Decision) (l l' : List Spell) (d : ℕ) : Type 0 where
   pub done : x.refusal ≡ accepted
   pub list : putting x.puts x.spell (without x.out l) ≡ l'
   pub notes : x.notes ≡ false

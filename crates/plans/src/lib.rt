@@ -4,15 +4,12 @@
 use journal::Undo;
 use spell::Spell;
 
-// The refusal's number, or 0; the place of the spell that goes, where one stands there; whether a spell is put in, and which; whether an entry
-// is noted, and which, in a journal of that depth.
+// What an edit that no check refuses changes: the spell at `out` goes, where one stands there; a spell is put in, and an entry is noted in a
+// journal of that depth, where there is one.
 #[derive(Clone, Copy)]
 pub struct Plan {
-    pub refusal: u16,
     pub out: usize,
-    pub puts: bool,
-    pub spell: Spell,
-    pub notes: bool,
-    pub entry: Undo,
+    pub put: Option<Spell>,
+    pub note: Option<Undo>,
     pub depth: usize,
 }

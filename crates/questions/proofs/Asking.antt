@@ -1,5 +1,5 @@
 -- From what the rows tell to the account's answer and a question's postcondition. Assumes nothing.
-use Rattle.questions.proofs.Names.{◌∙◌, ◌≡◌, ℕ, List, map, Bool, true, get_or, length, length-map, Spell, distinct, Listed, keep, numbers, firsts, lasts, Gave, give, question, Ask, Question, reaches, listed, firsts_of, lasts_of, comparisons_of, State, Request, gives, settle, reaching, ask, effect_of, Agree, rows_kept, fits_agree, Outcome, found_of, asking, told, give_told, numbers_of, shows_rows, Asked}
+use Rattle.questions.proofs.Names.{◌∙◌, ◌≡◌, ℕ, List, map, Bool, true, get_or, length, length-map, Spell, distinct, Told, keep, numbers, firsts, lasts, Gave, give, question, Ask, Question, reaches, listed, firsts_of, lasts_of, comparisons_of, State, Request, gives, settle, reaching, ask, effect_of, Agree, rows_kept, fits_agree, Outcome, found_of, asking, told, give_told, numbers_of, shows_rows, Asked}
 use Rattle.stabbing.specs.Answer as rows
 
 -- a question that is known to be another is answered as that one, whatever days stand beside it where that one reads none
@@ -29,7 +29,7 @@ module _ (m : State) (q : Request) where
 -- ---- What a question over the rows of an index gave is the question's answer
 
 -- of f, by the days of a days question, the columns of numbers, first days and last days, and the lent list
-pub rows_asked : {ix days ns ns' : List ℕ} {l : Listed} {o : Outcome} {w : Question} (f : List ℕ → List ℕ → List ℕ → List ℕ → List ℕ → rows.Reported)
+pub rows_asked : {ix days ns ns' : List ℕ} {l : Told} {o : Outcome} {w : Question} (f : List ℕ → List ℕ → List ℕ → List ℕ → List ℕ → rows.Reported)
     → ((m : State) (q : Request) → distinct m.published ≡ true
     → told (f q.days (numbers_of m.published) (firsts_of m.published) (lasts_of m.published) q.numbers) q.text ≡ (settle (ask w q.days m.published) m q).answer)
     → o ≡ found_of l → Gave l ns' (f days (numbers ix) (firsts ix) (lasts ix) ns) → Asked ix w days ns o ns'

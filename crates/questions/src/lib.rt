@@ -5,10 +5,8 @@ ghost use Rattle.std.specs.Prelude.{ℕ, List};
 ghost use Rattle.published_index.specs.Index.{Published};
 ghost use Rattle.questions.specs.Asked.{Asked};
 
-use masks::Ticks;
 use model::Question;
 use outcomes::Outcome;
-use refusal::OFF_CALENDAR;
 use stabbing::INDEX;
 use telling::{found, ticking, told};
 
@@ -51,10 +49,10 @@ pub fn mask(index: &[u16; INDEX], base: u16, mask: u64, numbers: &mut [u16]) -> 
     ensures { (days : List ℕ) → Asked index.now (Question.Mask base mask) days numbers.old result numbers.new }
 {
     let mut ticked = [0u16; 64];
-    let Ticks::All(n) = mask_days::ticked(base, mask, &mut ticked) else {
-        return told(OFF_CALENDAR);
-    };
-    ticking(days(index, &ticked[..n], numbers), n)
+    match mask_days::ticked(base, mask, &mut ticked) {
+        Ok(n) => ticking(days(index, &ticked[..n], numbers), n),
+        Err(refusal) => told(Err(refusal)),
+    }
 }
 
 // Any of the questions; the days are those of a days question.

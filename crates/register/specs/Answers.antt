@@ -1,34 +1,43 @@
 -- What the answers of the program say, and what writing leaves in the list that it is lent. Assumes nothing.
-use Rattle.std.specs.Prelude.{◌≡◌, cond, leb, ℕ, ◌-◌, List, ◌++◌, drop, length, replicate}
+use Rattle.std.specs.Prelude.{◌≡◌, cond, leb, ℕ, ◌-◌, List, ◌++◌, length, replicate, Result, Ok, Err}
 use Rattle.buffer.specs.Buffer.{over}
 use Rattle.refusal.specs.Table.{accepted, short_buffer}
+use Rattle.refusal.specs.Numbers.{number_of}
+use Rattle.refusal.specs.declared.Refusal.{Refusal}
 use Rattle.spell.specs.declared.Spell.{Spell}
 use Rattle.spell.specs.Blank.{blank}
-use Rattle.fields.specs.Fields.{Found, found, unreadable}
-use Rattle.fields.specs.Answers.{place_of}
-use Rattle.register.specs.declared.Line.{Line}
-use Rattle.register.specs.declared.Line.TheVariants.{Value as LineValue, Malformed as LineMalformed}
 use Rattle.register.specs.declared.Reading.{Reading}
-use Rattle.register.specs.declared.Written.{Written}
+use Rattle.register.specs.declared.Refused.{Refused}
 use Rattle.register.specs.Text.{Register, good, bad}
 
 -- ---- Reading
 
--- an answer, and what it says: the value with the text from the next place on, or that a field can't be read
-abbrev pub line_at : List ℕ → Found Spell → Line
-line_at text (found s rest) = LineValue s (place_of text rest)
-line_at text unreadable = LineMalformed
+-- what a reading tells: the spells in the first places and their count, or the refusal's number and line
+pub record Read : Type 0 where
+  pub spells : List Spell
+  pub count : ℕ
+  pub refusal : ℕ
+  pub line : ℕ
 
-abbrev pub line_of : List ℕ → Line → Found Spell
-line_of text (LineValue s next) = found s (drop next text)
-line_of text LineMalformed = unreadable
+abbrev pub reading_in : Result Reading Refused → Read
+reading_in (Ok got) = record { spells = got.spells; count = got.count; refusal = accepted; line = 0 }
+reading_in (Err met) = record { spells = replicate 1024 blank; count = 0; refusal = number_of met.refusal; line = met.line }
 
--- a reading's answer: the spells in the first places and their count, or the refusal's number and line
-unfoldable pub reading_of : Register → Reading
+-- what the reading of a text tells
+unfoldable pub reading_of : Register → Read
 reading_of (good l) = record { spells = l ++ replicate (1024 - length l) blank; count = length l; refusal = accepted; line = 0 }
 reading_of (bad k n) = record { spells = replicate 1024 blank; count = 0; refusal = k; line = n }
 
 -- ---- Writing
+
+-- what a writing tells: the text's length, or the refusal's number
+pub record Written : Type 0 where
+  pub refusal : ℕ
+  pub length : ℕ
+
+abbrev pub written_in : Result ℕ Refusal → Written
+written_in (Ok n) = record { refusal = accepted; length = n }
+written_in (Err refusal) = record { refusal = number_of refusal; length = 0 }
 
 -- a text's writing into a lent list of n places: its length, or "short list"
 abbrev pub written_of : List ℕ → ℕ → Written

@@ -29,20 +29,10 @@ fn next_number(rt: &HostRuntime, n: u64) {
 
 // Whether the list begins with the text and holds FILL in every place after it.
 fn begins(list: &[u8], text: &[u8]) -> bool {
-    let mut i = 0;
-    while i < list.len() {
-        if i < text.len() {
-            if list[i] != text[i] {
-                return false;
-            }
-        } else {
-            if list[i] != FILL {
-                return false;
-            }
-        }
-        i += 1;
+    match list.strip_prefix(text) {
+        Some(rest) => rest.iter().all(|b| *b == FILL),
+        None => false,
     }
-    text.len() <= list.len()
 }
 
 // Writes the spells into the first `room` places of the list.
@@ -57,10 +47,13 @@ fn write_into(
     if list.len() < room {
         return;
     }
-    let w = register_write::write(spells, count, &mut list[0..room]);
+    let (refusal, length) = match register_write::write(spells, count, &mut list[0..room]) {
+        Ok(length) => (0, length),
+        Err(refusal) => (refusal.number(), 0),
+    };
     print(rt, b" |");
-    next_number(rt, w.refusal as u64);
-    next_number(rt, w.length as u64);
+    next_number(rt, u64::from(refusal));
+    next_number(rt, length as u64);
     if begins(list, text) {
         print(rt, b" same");
         return;
@@ -77,20 +70,25 @@ fn write(rt: &HostRuntime, spells: [Spell; 1024], count: usize, room: usize, tex
     write_into(rt, spells, count, &mut list, room, text);
 }
 
-fn show(rt: &HostRuntime, text: &[u8]) {
-    let r = register_read::read(text);
-    let count = r.count;
-    number(rt, r.refusal as u64);
-    next_number(rt, r.line as u64);
+// The refusal's number, its line and the count of spells.
+fn answer(rt: &HostRuntime, refusal: u16, line: u16, count: usize) {
+    number(rt, u64::from(refusal));
+    next_number(rt, u64::from(line));
     next_number(rt, count as u64);
-    if r.refusal == 0 {
-        let spells = r.spells;
-        let n = text.len();
-        write(rt, spells, count, n, text);
-        if 0 < n {
-            write(rt, spells, count, n - 1, text);
+}
+
+fn show(rt: &HostRuntime, text: &[u8]) {
+    match register_read::read(text) {
+        Ok(got) => {
+            answer(rt, 0, 0, got.count);
+            let n = text.len();
+            write(rt, got.spells, got.count, n, text);
+            if 0 < n {
+                write(rt, got.spells, got.count, n - 1, text);
+            }
+            write(rt, got.spells, got.count, 40000, text);
         }
-        write(rt, spells, count, 40000, text);
+        Err(met) => answer(rt, met.refusal.number(), met.line, 0),
     }
     print(rt, b"\n");
 }
@@ -105,12 +103,8 @@ fn many() -> [Spell; 1024] {
         urgency: Urgency::Grade(1),
     };
     let mut spells = [s; 1024];
-    let mut i: usize = 0;
-    while i < 1024 {
-        let mut t = s;
+    for (i, t) in spells.iter_mut().enumerate() {
         t.number = (i + 1) as u16;
-        spells[i] = t;
-        i += 1;
     }
     spells
 }
@@ -118,8 +112,8 @@ fn many() -> [Spell; 1024] {
 // Shows a text of 1,024 lines with those bytes after it.
 fn after(rt: &HostRuntime, tail: &[u8]) {
     let mut text = [0u8; 40000];
-    let w = register_write::write(many(), 1024, &mut text);
-    let end = gathering::append(&mut text, w.length, tail, 0);
+    let length = register_write::write(many(), 1024, &mut text).unwrap_or(0);
+    let end = gathering::append(&mut text, length, tail, 0);
     if end <= 40000 {
         show(rt, &text[0..end]);
     }
@@ -139,9 +133,9 @@ fn lengths(rt: &HostRuntime) {
         rt,
         b"# the length of a text, checked before any line: digits alone, and after 1,024 lines\n",
     );
-    let mut text = [48u8; 65537];
+    let mut text = [b'0'; 65537];
     long(rt, &text);
-    register_write::write(many(), 1024, &mut text);
+    let _ = register_write::write(many(), 1024, &mut text);
     long(rt, &text);
 }
 
@@ -162,37 +156,12 @@ fn vector(rt: &HostRuntime, text: &[u8]) {
     show(rt, text);
 }
 
-// Whether a vector ends at `at`.
-fn ends(input: &[u8], at: usize) -> bool {
-    if input.len() < at {
-        return false;
-    }
-    if input.len() - at < 3 {
-        return false;
-    }
-    if input[at] != b'-' {
-        return false;
-    }
-    if input[at + 1] != b'-' {
-        return false;
-    }
-    input[at + 2] == b'\n'
-}
-
+// Each vector, up to its end.
 fn vectors(rt: &HostRuntime, input: &[u8]) {
-    let mut from: usize = 0;
-    let mut at: usize = 0;
-    while at < input.len() {
-        if input.len() - at < 3 {
-            return;
-        }
-        if ends(input, at) {
-            vector(rt, &input[from..at]);
-            at += 3;
-            from = at;
-        } else {
-            at += 1;
-        }
+    let mut rest = input;
+    while let Some(end) = rest.windows(3).position(|bytes| bytes.starts_with(b"--\n")) {
+        vector(rt, &rest[..end]);
+        rest = &rest[end + 3..];
     }
 }
 

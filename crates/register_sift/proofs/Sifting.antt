@@ -4,7 +4,9 @@ use Rattle.register_sift.proofs.Names.{Spell, read_line, lines_of, verdict, keep
 use Rattle.spell.{specs.Blank.blank, specs.Listing.stands, proofs.Listing.stands_more}
 use Rattle.register_read.proofs.Progress.{marked_more}
 use Rattle.repairing.proofs.Remarks.{verdicts_length}
-use Rattle.register_sift.specs.{declared.{Judged.Judged}, Sifting.{within_limit, Sifts}}
+use Rattle.register_sift.specs.Sifting.{within_limit, Sifts}
+use Rattle.std.specs.Prelude.{Result, Ok, Err}
+use Rattle.refusal.{specs.{declared.Refusal.Refusal, Numbers.{number_of, number_in}}, proofs.Numbers.refused}
 
 pub record State (text : List ℕ) (met₀ met : List ℕ) (spells : List Spell) (seen : List Bool) (count lines at : ℕ) : Type 0 where
   pub few : count ≤ 1024
@@ -34,40 +36,45 @@ module _ (text met₀ met : List ℕ) (spells : List Spell) (seen : List Bool) (
   so_many : length (take count spells) ≡ count
   so_many = length-take-le count spells (omega arith)
 
-  module _ (more : at < length text) (r : Judged) (judged : Judges text at seen count r) (next : ℕ) (past : Past text at next) where
-    is : r.number ≡ verdict (take count spells) (read_line (drop at text))
+  module _ (more : at < length text) (r : Result Spell Refusal) (judged : Judges text at seen count r) (next : ℕ) (past : Past text at next) where
+    is : number_in r ≡ verdict (take count spells) (read_line (drop at text))
     is = judged.met (take count spells) st.marks so_many
 
     -- whatever is kept after the line
     on : (spells' : List Spell) (seen' : List Bool) (count' : ℕ) → keeping (take count spells) (read_line (drop at text)) ≡ take count' spells' → count' ≤ 1024
         → length spells' ≡ 1024 → Marks seen' (take count' spells') → drop count' spells' ≡ drop count' (replicate 1024 blank)
-        → State text met₀ (set met lines r.number) spells' seen' count' (lines + 1) next
+        → State text met₀ (set met lines (number_in r)) spells' seen' count' (lines + 1) next
     on spells' seen' count' then few room marks free = unfold kept_after verdicts_after in
         let first = lines_first (drop at text) (omega (arith, length-drop at text)) in
-        let met-more : take (lines + 1) (set met lines r.number) ≡ take lines met ++ (r.number ∷ []) = rw add-one (take-suc-set met lines r.number (omega arith)) in
-        let long = length-set met lines r.number in
-        let later = past_it met met₀ lines r.number st.later in
+        let met-more : take (lines + 1) (set met lines (number_in r)) ≡ take lines met ++ (number_in r ∷ []) = rw add-one (take-suc-set met lines (number_in r) (omega arith)) in
+        let long = length-set met lines (number_in r) in
+        let later = past_it met met₀ lines (number_in r) st.later in
         let keeps : kept_of text ≡ kept_after (take count' spells') (lines_of (drop next text)) = cc in
-        let says : verdicts_after [] (lines_of text) ≡ take (lines + 1) (set met lines r.number) ++ verdicts_after (take count' spells') (lines_of (drop next text))
+        let says : verdicts_after [] (lines_of text) ≡ take (lines + 1) (set met lines (number_in r)) ++ verdicts_after (take count' spells') (lines_of (drop next text))
         = rw (met-more, append_snoc) (cc (is)) in
         search arith
 
-    pub drops : (r.number ≡ 0 → ⊥) → State text met₀ (set met lines r.number) spells seen count (lines + 1) next
-    drops z = on spells seen count (drops_it (take count spells) (read_line (drop at text)) (λ e. z (is ∙ e))) st.few st.room st.marks st.free
+  module _ (more : at < length text) (next : ℕ) (past : Past text at next) where
+    pub drops : (r : Refusal) → Judges text at seen count (Err r) → State text met₀ (set met lines (number_of r)) spells seen count (lines + 1) next
+    drops r judged =
+        let is = judged.met (take count spells) st.marks so_many in
+        on more (Err r) judged next past spells seen count (drops_it (take count spells) (read_line (drop at text)) (λ e. refused r (is ∙ e))) st.few st.room st.marks st.free
 
-    pub keeps_one : r.number ≡ 0 → r.spell.number < 65536
-        → State text met₀ (set met lines r.number) (set spells count r.spell) (set seen r.spell.number true) (count + 1) (lines + 1) next
-    keeps_one zero low =
+    pub keeps_one : (s : Spell) → Judges text at seen count (Ok s) → (n : ℕ) → n ≡ s.number → s.number < 65536
+        → State text met₀ (set met lines 0) (set spells count s) (set seen n true) (count + 1) (lines + 1) next
+    keeps_one s judged n named low =
         let kept = take count spells in
-        let read = judged.spell zero in
-        let listed : take (count + 1) (set spells count r.spell) ≡ kept ++ (r.spell ∷ []) = rw add-one (take-suc-set spells count r.spell (omega arith)) in
-        let passed = passes kept r.spell read.rest (cc (is)) in
-        let marks : Marks (set seen r.spell.number true) (take (count + 1) (set spells count r.spell)) = record {
-          wide = length-set seen r.spell.number true ∙ st.marks.wide;
-          marked = λ k l. rw (listed, stands_more kept r.spell k) (marked_more seen r.spell.number k (stands kept k) (omega arith) (st.marks.marked k l));
+        let read = judged.keeps.0 in
+        let room = judged.keeps.1 in
+        let is = judged.met kept st.marks so_many in
+        let listed : take (count + 1) (set spells count s) ≡ kept ++ (s ∷ []) = rw add-one (take-suc-set spells count s (omega arith)) in
+        let passed = passes kept s read.rest (cc (is)) in
+        let marks : Marks (set seen n true) (take (count + 1) (set spells count s)) = record {
+          wide = length-set seen n true ∙ st.marks.wide;
+          marked = λ k l. rw (listed, stands_more kept s k, ← named) (marked_more seen n k (stands kept k) (omega arith) (st.marks.marked k l));
         } in
-        on (set spells count r.spell) (set seen r.spell.number true) (count + 1) (cc (keeps_it kept r.spell read.rest passed))
-        (omega arith) (length-set spells count r.spell ∙ st.room) marks (past_it spells (replicate 1024 blank) count r.spell st.free)
+        on more (Ok s) judged next past (set spells count s) (set seen n true) (count + 1) (cc (keeps_it kept s read.rest passed))
+        (omega arith) (length-set spells count s ∙ st.room) marks (past_it spells (replicate 1024 blank) count s st.free)
 
   pub ends : length text ≤ at → Sifts text met₀ (record { spells = spells; count = count; lines = lines }) met
   ends h = unfold kept_after verdicts_after lines_of later_lines in

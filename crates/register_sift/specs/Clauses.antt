@@ -1,11 +1,12 @@
 -- What the parts of the sifting ask and give. Assumes nothing.
-use Rattle.std.specs.Prelude.{ℕ, ◌+◌, ◌<◌, ◌≤◌, ◌≡◌, Bool, false, List, length, get_or, drop}
+use Rattle.std.specs.Prelude.{ℕ, ◌<◌, ◌≤◌, ◌≡◌, Bool, false, List, length, get_or, drop, Result, Ok, Err}
 use Rattle.spell.specs.declared.Spell.{Spell}
 use Rattle.spell.specs.Listing.{stands}
 use Rattle.fields.specs.Fields.{found}
 use Rattle.register.specs.Text.{read_line}
 use Rattle.repairing.specs.Repair.{after_line, verdict}
-use Rattle.register_sift.specs.declared.Judged.{Judged}
+use Rattle.refusal.specs.Numbers.{number_in}
+use Rattle.refusal.specs.declared.Refusal.{Refusal}
 
 -- the line at `at` ends before the place r
 pub record Past (text : List ℕ) (at r : ℕ) : Type 0 where
@@ -23,9 +24,12 @@ pub record Reads (text : List ℕ) (at : ℕ) (s : Spell) : Type 0 where
   pub rest : List ℕ
   pub line : read_line (drop at text) ≡ found s rest
 
--- what the line at `at` meets, after whatever kept spells that are so many and marked so; where it meets nothing, which is 0, its spell, and that
--- there is room for it
-pub record Judges (text : List ℕ) (at : ℕ) (seen : List Bool) (count : ℕ) (r : Judged) : Type 0 where
-  pub met : (kept : List Spell) → Marks seen kept → length kept ≡ count → r.number ≡ verdict kept (read_line (drop at text))
-  pub spell : r.number ≡ 0 → Reads text at r.spell
-  pub room : count < 1024 + r.number
+-- a line that is kept: it is read as s, and there is room for s after so many; nothing is said of one that is dropped
+abbrev pub Keeps : List ℕ → ℕ → ℕ → Result Spell Refusal → Type 0
+Keeps text at count (Ok s) = Reads text at s × (count < 1024)
+Keeps text at count (Err refusal) = Unit {0}
+
+-- the answer r on the line at `at`: what it meets, after whatever kept spells that are so many and marked so, and its spell where it meets nothing
+pub record Judges (text : List ℕ) (at : ℕ) (seen : List Bool) (count : ℕ) (r : Result Spell Refusal) : Type 0 where
+  pub met : (kept : List Spell) → Marks seen kept → length kept ≡ count → number_in r ≡ verdict kept (read_line (drop at text))
+  pub keeps : Keeps text at count r

@@ -1,8 +1,9 @@
 -- Texts put into the scratch list from the end to the front, and the answer. Assumes nothing.
-use Rattle.basis.proofs.Prelude.{◌∙◌, ◌≡◌, ap, sym, ◌*◌, ◌+◌, ◌-◌, ◌<◌, ◌≤◌, min, suc, ℕ, List, [], ◌++◌, drop, drop_of_length-le, get_or, get_or-take, length, length-append, length-drop, length-take, min-le_left, min-le_right, take, drop-cons, drop-length, take_all, arith, le-leb, lt-leb}
+use Rattle.std.proofs.lemmas.List.{nil_from_length, take_min}
+use Rattle.basis.proofs.Prelude.{append-nil, append_assoc, ◌∷◌, ◌∙◌, ◌≡◌, ap, ◌+◌, ◌-◌, ◌<◌, ◌≤◌, min, ℕ, List, [], ◌++◌, drop, drop_of_length-le, length, length-append, length-drop, length-take, min-le_right, take, take_all, arith, le-leb, lt-leb}
 use lib.Ieee.{Float, binary32, to_bits}
 use Rattle.fields.{proofs.{Puts.field_put, Widths.{number_width, bits_width}}, specs.{Fields.{byte_text, number_text, bits_text}, Answers.Puts}}
-use Rattle.spell.specs.{declared.{Spell.Spell, Urgency.{Urgency, TheVariants.{Grade, Reading}}}, Blank.blank}
+use Rattle.spell.specs.{declared.{Spell.Spell, Urgency.{Urgency, TheVariants.{Grade, Reading}}}}
 use Rattle.register.{specs.{Text.{urgency_text, line_text, text_onto, write_all}, Answers.Writes}, proofs.Widths.{urgency_width, text_width}}
 use Rattle.register_write.specs.Clauses.{Room, Ends}
 
@@ -44,56 +45,58 @@ line_put s buf b0 b1 b2 b3 b4 at i j k m r room p p1 p2 p3 p4 = unfold line_text
     let q3 = one_more 6 (number_text s.candidate 9) (number_width s.candidate 9) q2.0 (omega (arith, q1.1, q2.1)) p3 in
     (one_more 6 (number_text s.number 9) (number_width s.number 9) q3.0 (omega (arith, q1.1, q2.1, q3.1)) p4).0
 
--- ---- the text of the spells from i on stands from the place `at` on
-pub record Back (l : List Spell) (buf : List ℕ) (at i : ℕ) : Type 0 where
+-- ---- the text of the last spells of a list, those after `rest`, stands from the place `at` on
+pub record Back (l rest : List Spell) (buf : List ℕ) (at : ℕ) : Type 0 where
+  pub done : List Spell
+  pub all : rest ++ done ≡ l
   pub few : length l ≤ 1024
-  pub upto : i ≤ length l
-  pub put : Ends buf at (text_onto (drop i l) [])
+  pub put : Ends buf at (text_onto done [])
 
 -- at first none, after the first `count` of 1,024 spells
-pub back_start : (spells : List Spell) (count i : ℕ) (buf : List ℕ) → length spells ≡ 1024 → i ≡ min count 1024 → length buf ≡ 35840 → Back (take count spells) buf 35840 i
-back_start spells count i buf w e h = unfold text_onto in
-    let long : i ≡ length (take count spells) = e ∙ sym (length-take count spells ∙ ap (min count) w) in
-    let most = min-le_right count 1024 in
-    search (arith, drop_of_length-le buf {i = 35840} (omega arith), long, drop-length)
+pub back_start : (spells rest : List Spell) (count : ℕ) (buf : List ℕ) → length spells ≡ 1024 → rest ≡ take (min count 1024) spells → length buf ≡ 35840
+    → Back (take count spells) rest buf 35840
+back_start spells rest count buf w e h = unfold text_onto in
+    let whole : take (min count 1024) spells ≡ take count spells = rw w at (take_min count spells) in
+    record {
+      done = [];
+      all = append-nil rest ∙ e ∙ whole;
+      few = omega (arith, length-take count spells, min-le_right count (length spells));
+      put = search (drop_of_length-le buf {i = 35840} (omega arith), arith);
+    }
 
-module _ (buf : List ℕ) (at i : ℕ) where
-  pub back_room : (l : List Spell) → Back l buf at i → 1 ≤ i → Room buf at 35
-  back_room l b h =
-      let wide : 35 * i ≤ at = omega (arith, ends_place b.put, text_width (drop i l), length-drop i l) in
+module _ (l rest : List Spell) (buf : List ℕ) (at : ℕ) (b : Back l rest buf at) where
+  pub back_room : (s : Spell) (left : List Spell) → rest ≡ left ++ (s ∷ []) → Room buf at 35
+  back_room s left e =
+      let long : length rest + length b.done ≡ length l = rw length-append at (ap length b.all) in
+      let one : length rest ≡ length left + 1 = ap length e ∙ length-append left (s ∷ []) in
+      let wide : 35 ≤ at = omega (arith, b.few, ends_place b.put, text_width b.done) in
       search arith
 
-  module _ (spells : List Spell) (count : ℕ) (b : Back (take count spells) buf at i) where
-    pub back_step : (exit : List ℕ) (r : ℕ) → 1 ≤ i → Ends exit r (line_text (get_or spells (i - 1) blank) (drop at buf)) → Back (take count spells) exit r (i - 1)
-    back_step exit r h p = unfold text_onto in
-        let up : suc (i - 1) ≡ i = omega arith in
-        let first = drop-cons (take count spells) (i - 1) blank (omega arith) in
-        let same = get_or-take count spells (i - 1) blank (omega (arith, length-take count spells, min-le_left count (length spells))) in
-        let after = b.put.written ∙ ap (λ (n : ℕ). text_onto (drop n (take count spells)) []) (sym up) in
-        let text : drop r exit ≡ text_onto (drop (i - 1) (take count spells)) [] = rw (first, same, ← after) p.written in
-        search arith
+  pub back_step : (exit : List ℕ) (r : ℕ) (s : Spell) (left : List Spell) → rest ≡ left ++ (s ∷ []) → Ends exit r (line_text s (drop at buf)) → Back l left exit r
+  back_step exit r s left e p = unfold text_onto in
+      record { done = s ∷ b.done; all = rw (e, append_assoc) at b.all; few = b.few; put = rw (← b.put.written) p }
 
-    -- the whole text stands there: it is too long, or copied
-    module _ (none : i ≤ 0) (out : List ℕ) where
-      all : Ends buf at (write_all (take count spells))
-      all = let done : i ≡ 0 = omega arith in rw done at b.put
+  -- the whole text stands there: it is too long, or copied
+  module _ (none : length rest ≡ 0) (out : List ℕ) where
+    whole : Ends buf at (write_all l)
+    whole = let same : b.done ≡ l = rw (nil_from_length rest none) at b.all in rw same at b.put
 
-      pub too_short : length out < 35840 - at → Writes (write_all (take count spells)) out (record { refusal = 11; length = 0 }) out
-      too_short h = search (lt-leb (length (write_all (take count spells))) (length out) (omega (arith, ends_place all)))
+    pub too_short : length out < 35840 - at → Writes (write_all l) out (record { refusal = 11; length = 0 }) out
+    too_short h = search (lt-leb (length (write_all l)) (length out) (omega (arith, ends_place whole)))
 
-      part : take (35840 - at) (drop at buf) ≡ write_all (take count spells)
-      part = take_all (35840 - at) (drop at buf) (omega (arith, length-drop at buf)) ∙ all.written
+    part : take (35840 - at) (drop at buf) ≡ write_all l
+    part = take_all (35840 - at) (drop at buf) (omega (arith, length-drop at buf)) ∙ whole.written
 
-      module _ (h : 35840 - at ≤ length out) where
-        pub copy_fits : length (take (35840 - at) (drop at buf)) ≤ length out
-        copy_fits = omega (arith, ap length part, ends_place all)
+    module _ (h : 35840 - at ≤ length out) where
+      pub copy_fits : length (take (35840 - at) (drop at buf)) ≤ length out
+      copy_fits = omega (arith, ap length part, ends_place whole)
 
-        module _ (exit : List ℕ) (e : exit ≡ (let part = take (35840 - at) (drop at buf) in take (length part) part ++ drop (length part) out)) where
-          pub copied : Writes (write_all (take count spells)) out (record { refusal = 0; length = 35840 - at }) exit
-          copied =
-              let same : 35840 - at ≡ length (write_all (take count spells)) = omega (arith, ends_place all) in
-              let fits = le-leb (length (write_all (take count spells))) (length out) (omega arith) in
-              record { answer = rw (fits, same); places = rw fits (e ∙ rw (part, take_all (length (write_all (take count spells))) (write_all (take count spells)) (omega arith))) }
+      module _ (exit : List ℕ) (e : exit ≡ (let part = take (35840 - at) (drop at buf) in take (length part) part ++ drop (length part) out)) where
+        pub copied : Writes (write_all l) out (record { refusal = 0; length = 35840 - at }) exit
+        copied =
+            let same : 35840 - at ≡ length (write_all l) = omega (arith, ends_place whole) in
+            let fits = le-leb (length (write_all l)) (length out) (omega arith) in
+            record { answer = rw (fits, same); places = rw fits (e ∙ rw (part, take_all (length (write_all l)) (write_all l) (omega arith))) }
 
-          pub copied_sized : length exit ≡ length out
-          copied_sized = ap length e ∙ simp (length-append, length-take, length-drop) (omega (arith, copy_fits))
+        pub copied_sized : length exit ≡ length out
+        copied_sized = ap length e ∙ simp (length-append, length-take, length-drop) (omega (arith, copy_fits))

@@ -5,8 +5,6 @@
 
 ghost use Rattle.std.specs.Prelude.{◌≤◌, ◌*◌, length};
 
-use input::Input;
-use refusal::ACCEPTED;
 use repair_lines::LINE;
 use repair_text::Said;
 
@@ -29,18 +27,17 @@ fn say(rt: &HostRuntime, said: Said) -> bool {
         &rt.stderr(),
         b"repair: standard error",
     )
+    .is_ok()
 }
 
 // The dropped lines, each with its number, as long as they can be said.
 fn say_dropped(rt: &HostRuntime, remarks: &[u32], dropped: usize) -> bool
     requires { 2 * dropped ≤ length remarks.now }
 {
-    let mut i = 0;
-    while i < dropped {
+    for i in 0..dropped {
         if !say(rt, Said::Dropped(remarks[2 * i], remarks[2 * i + 1])) {
             return false;
         }
-        i += 1;
     }
     true
 }
@@ -50,18 +47,22 @@ fn say_dropped(rt: &HostRuntime, remarks: &[u32], dropped: usize) -> bool
 fn repair(rt: &HostRuntime, text: &[u8]) {
     let mut out = [0u8; OUT];
     let mut remarks = [0u32; REMARKS];
-    let r = register_repair::repair(text, &mut out, &mut remarks);
-    if r.refusal != ACCEPTED {
-        say(rt, Said::Refused(r.refusal as u64, r.line as u64));
-        return;
-    }
+    let r = match register_repair::repair(text, &mut out, &mut remarks) {
+        Ok(r) => r,
+        Err(refusal) => {
+            say(rt, Said::Refused(u64::from(refusal.number()), 0));
+            return;
+        }
+    };
     let n = r.length;
-    if !output::write(
+    if output::write(
         &rt.stdout(),
         &out[0..n],
         &rt.stderr(),
         b"repair: standard output",
-    ) {
+    )
+    .is_err()
+    {
         return;
     }
     if !say_dropped(rt, &remarks, r.dropped) {
@@ -81,7 +82,7 @@ fn main(rt: HostRuntime) {
         b"usage: repair < DAMAGED > REGISTER\nReads a damaged register on standard input and writes the good one that is made of it. On standard error it says the dropped\nlines, each with the number that it met, and last how long the text is, how many lines were dropped and how many were displaced.\n",
         b"repair: standard input",
     );
-    if let Input::Read(n) = got {
+    if let Ok(n) = got {
         repair(&rt, &text[0..n]);
     }
 }

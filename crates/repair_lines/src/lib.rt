@@ -6,9 +6,9 @@ ghost use Rattle.repair_text.specs.Lines.{repaired_line, word_and_two, said_line
 
 use repair_text::Said;
 
-const TAB: u8 = 9;
+const TAB: u8 = b'\t';
 
-const LF: u8 = 10;
+const LF: u8 = b'\n';
 
 // The places of a buffer: a word of at most nine bytes, then three numbers.
 pub const LINE: usize = 72;
@@ -45,7 +45,12 @@ pub fn put(out: &mut [u8; LINE], said: Said) -> usize
     ensures { Says (said_line said) out.old result out.new }
 {
     match said {
-        Said::Dropped(line, number) => put_two(out, b"dropped\t", line as u64, number as u64),
+        Said::Dropped(line, number) => put_two(
+            out,
+            b"dropped\t",
+            u64::from(line),
+            u64::from(number),
+        ),
         Said::Refused(number, line) => put_two(out, b"refused\t", number, line),
         Said::Repaired(length, dropped, displaced) => put_repaired(out, length, dropped, displaced),
     }

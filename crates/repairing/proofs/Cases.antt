@@ -1,6 +1,6 @@
 -- A damaged text, repaired by computation; the order of the last two checks. Assumes nothing.
 use Rattle.basis.proofs.Prelude.{◌≡◌, refl, ℕ, List, [], ◌∷◌, length, replicate}
-use Rattle.repairing.proofs.Names.{insert_by, sorted_by, Grade, Spell, earlier_of, stands, found, digits_of, decimal_of, passed, read_digits, read_decimal, line_text, text_onto, read_letter, read_value, read_urgency, read_line, Repaired, later_lines, lines_of, verdict, keeping, kept_after, verdicts_after, remarks_from, places_of, some_before, displaced_in, repaired_text, remarks_of, fitting, repair_refusal, repair_refused, repair_given, either}
+use Rattle.repairing.proofs.Names.{insert_by, sorted_by, Grade, Spell, earlier_of, stands, found, digits_of, decimal_of, passed, read_digits, read_decimal, line_text, text_onto, read_letter, read_value, read_urgency, read_line, HostRepaired, later_lines, lines_of, verdict, keeping, kept_after, verdicts_after, remarks_from, places_of, some_before, displaced_in, repaired_text, remarks_of, fitting, repair_refusal, repair_refused, repair_given, either}
 
 -- line 1 stands; line 2 is empty; line 3 is backwards, and its number is not taken; line 4 has that number, and belongs before line 1; the
 -- number of line 5 is taken; line 6 has no LF
@@ -21,7 +21,7 @@ repaired =
 abbrev remarks : List ℕ
 remarks = 2 ∷ 12 ∷ 3 ∷ 4 ∷ 5 ∷ 6 ∷ 6 ∷ 12 ∷ []
 
-abbrev given : Repaired
+abbrev given : HostRepaired
 given = record { refusal = 0; line = 0; length = 24; dropped = 4; displaced = 1 }
 
 -- with room, and where the text's list or that of the remarks is short by a place

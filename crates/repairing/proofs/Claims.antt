@@ -1,6 +1,6 @@
 -- What repairing a register is for. Assumes nothing.
 use Rattle.basis.proofs.Prelude.{◌∙◌, ◌≡◌, ap, refl, sym, ◌+◌, ◌*◌, ◌≤◌, ℕ, List, List-as-Memᴰ, [], ◌∷◌, map, false, true, ◌↔◌, eqb, eqb-true, leb, length, arith, le-leb, leb-true, both, by_test}
-use Rattle.repairing.proofs.{Names.{is_in_order_by, Spell, earlier_of, ordered, ordered_by, Good, Sound, text_order, asym, read_text, good, rising, over, Repaired, lines_of, verdicts_after, kept_of, put_of, repaired_text, remarks_of, places_of, displaced_in, fitting, repair_refusal, repair_refused, repair_given, Repairs}, Keeping.{kept_good, whole}, Remarks.{displaced_none, rise, all_lines, places_length, put_sized}}
+use Rattle.repairing.proofs.{Names.{is_in_order_by, Spell, earlier_of, ordered, ordered_by, Good, Sound, text_order, asym, read_text, good, rising, over, HostRepaired, lines_of, verdicts_after, kept_of, put_of, repaired_text, remarks_of, places_of, displaced_in, fitting, repair_refusal, repair_refused, repair_given, Repairs}, Keeping.{kept_good, whole}, Remarks.{displaced_none, rise, all_lines, places_length, put_sized}}
 use Rattle.orders.{proofs.Sorting.in_order_sorted, proofs.Members.sorted_has}
 use Rattle.spell.proofs.{Entered.needed, Sorted.sorted_orderly}
 use Rattle.register.proofs.Claims.{list_again, text_again, fits}
@@ -62,13 +62,13 @@ text_fits t = fits (put_of t) (put_good t)
 -- ---- The lent lists
 
 -- what is given lies inside the lists, which are as long as before
-pub record Inside (out remarks : List ℕ) (r : Repaired) (out' remarks' : List ℕ) : Type 0 where
+pub record Inside (out remarks : List ℕ) (r : HostRepaired) (out' remarks' : List ℕ) : Type 0 where
   pub text : r.length ≤ length out
   pub said : 2 * r.dropped ≤ length remarks
   pub text_sized : length out' ≡ length out
   pub said_sized : length remarks' ≡ length remarks
 
-module _ {t out remarks out' remarks' : List ℕ} {r : Repaired} (a : Repairs t out remarks r out' remarks') where
+module _ {t out remarks out' remarks' : List ℕ} {r : HostRepaired} (a : Repairs t out remarks r out' remarks') where
   -- the number that it meets
   abbrev met : ℕ
   met = repair_refusal t (length out) (length remarks)
@@ -79,7 +79,7 @@ module _ {t out remarks out' remarks' : List ℕ} {r : Repaired} (a : Repairs t 
   -- A REFUSAL leaves both lists as they were, and gives 0 for line, length and counts
   pub refused_keeps : (r.refusal ≡ 0 → ⊥) → (out' ≡ out) × (remarks' ≡ remarks) × (r ≡ repair_refused r.refusal)
   refused_keeps z = by_test (eqb met 0)
-      (λ e. absurd (z (ap (λ (r : Repaired). r.refusal) a.answer ∙ rw e)))
+      (λ e. absurd (z (ap (λ (r : HostRepaired). r.refusal) a.answer ∙ rw e)))
       (λ e. let k = refused e in (cc, cc, cc))
 
   -- what is given lies inside

@@ -2,11 +2,19 @@
 // in proofs/Claims.antt; register_repair has the function.
 #![tactic(auto)]
 
-// What repairing gives: the refusal's number and its line, which is 0, or the length of the repaired text, how many lines were dropped, and
-// how many kept lines now stand after a line that followed them.
+// What repairing gives: the length of the repaired text, how many lines were dropped, and how many kept lines now stand after a line that
+// followed them.
+#[derive(Clone, Copy, Debug, PartialEq, Eq)]
+pub struct Repaired {
+    pub length: usize,
+    pub dropped: usize,
+    pub displaced: usize,
+}
+
+// The same as a host is told it: the refusal's number, 0 for none, and its line, which is 0, before what is given, of which a refusal has none.
 #[repr(C)]
 #[derive(Clone, Copy)]
-pub struct Repaired {
+pub struct HostRepaired {
     pub refusal: u16,
     pub line: u16,
     pub length: usize,

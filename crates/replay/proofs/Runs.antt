@@ -1,5 +1,5 @@
 -- The loop of `calls`: what is done, and what is still to come. Assumes nothing.
-use Rattle.replay.proofs.Names.{Answer, Answered, Begins, Blocks, Bool, Call, Code, Given, Go, Holds, List, Made, Makes, Next, Replayed, Represents, Request, Service, State, Stop, [], ◌*◌, ◌++◌, ◌+◌, ◌-◌, ◌/◌, ◌<◌, ◌∙◌, ◌∷◌, ◌≡◌, ◌≤◌, add-one, answer_of, append_assoc, append-nil, append_snoc, arith, asking, code_at, code_width, decode_go, decode_stop, decode_from, drop, drop_at, drop-drop, false, fresh, length, length-append, length-drop, length-take, min, next_room, next_of, numbers_of, over, put_back, read_text, refl, result_width, results_of, run, step, suc, sym, take, take_at, texts_of, told, true, written, ℕ}
+use Rattle.replay.proofs.Names.{Answer, Answered, Blocks, Call, Code, Given, Holds, List, Made, Makes, None, Option, Represents, Request, Service, State, Some, [], ◌*◌, ◌++◌, ◌+◌, ◌-◌, ◌/◌, ◌<◌, ◌∙◌, ◌∷◌, ◌≡◌, ◌≤◌, add-one, answer_of, append_assoc, append-nil, append_snoc, arith, asking, code_at, code_width, decode_go, decode_stop, decode_from, drop, drop_at, drop-drop, length, length-append, length-drop, length-take, min, next_room, next_of, numbers_of, over, put_back, refl, result_width, results_of, run, step, suc, sym, take, take_at, texts_of, told, written, ℕ}
 
 -- ---- A list that is filled from the front, part after part
 
@@ -76,22 +76,23 @@ module _ (sv₀ : Service) (bs₀ : Blocks) (codes days results₀ numbers₀ te
         → Holds (run m₀ (decode_from codes whole 0 days numbers₀ text₀)) results₀ numbers₀ text₀ made results numbers text
     ended e m₀ r = unfold run in let f = g.so_far m₀ r in rw (f.answers, e, append-nil) (search)
 
-    pub ended_all : whole ≤ made → Answered sv₀ bs₀ codes days results₀ numbers₀ text₀ made results numbers text
-    ended_all h = unfold decode_from in let z : whole - made ≡ 0 = omega arith in rw (← g.all) (ended (rw z))
+    pub ended_all : whole ≤ made → Answered sv₀ bs₀ codes days results₀ numbers₀ text₀ whole results numbers text
+    ended_all h m₀ r = unfold decode_from in let z : whole - made ≡ 0 = omega arith in let e : made ≡ whole = omega (arith, g) in
+        rw (← g.all) (rw e at (ended (rw z) m₀ r))
 
     -- the code that comes next, with the lists as long as they were
-    next_is : (c : Code) {x y : Next} → x ≡ next_of c (length days - d) (length numbers - n) (length text - t) → x ≡ y
+    next_is : (c : Code) {x y : Option Call} → x ≡ next_of c (length days - d) (length numbers - n) (length text - t) → x ≡ y
         → next_of c (length (drop d days)) (length (drop n numbers₀)) (length (drop t text₀)) ≡ y
     next_is c e is = simp length-drop (rw (g.long.1, g.long.2) at (sym e ∙ is))
 
-    pub ended_stop : {c : Code} {x : Next} → c ≡ code_at codes made → x ≡ next_of c (length days - d) (length numbers - n) (length text - t) → x ≡ Stop
+    pub ended_stop : {c : Code} {x : Option Call} → c ≡ code_at codes made → x ≡ next_of c (length days - d) (length numbers - n) (length text - t) → x ≡ None
         → Answered sv₀ bs₀ codes days results₀ numbers₀ text₀ made results numbers text
     ended_stop ec e stop = rw (← g.all) (ended (decode_stop codes (drop d days) (drop n numbers₀) (drop t text₀) made (whole - made) (rw ec at (next_is _ e stop))))
 
     -- A turn: the call q of the code c is made
-    module _ {c : Code} {x : Next} {q : Call} {r : Made} {bs' : Blocks} {results' numbers' text' : List ℕ} (h : made < whole) (ec : c ≡ code_at codes made)
-        (is : x ≡ next_of c (length days - d) (length numbers - n) (length text - t)) (go : x ≡ Go q)
-        (p : Makes sv bs q c made d n t days results numbers text r bs' results' numbers' text') where
+    module _ {c : Code} {x : Option Call} {q : Call} {r : Made} {bs' : Blocks} {results' numbers' text' : List ℕ} (h : made < whole) (ec : c ≡ code_at codes made)
+        (is : x ≡ next_of c (length days - d) (length numbers - n) (length text - t)) (go : x ≡ Some q)
+        (p : Makes sv bs q c made (record { days = d; numbers = n; text = t }) days results numbers text r bs' results' numbers' text') where
       turn_reached : (m₀ : State) → Represents sv₀ bs₀ m₀
           → Reached m₀ p.stepped.service bs' results' numbers' text' (made + 1) (d + c.days) (n + c.numbers) (t + c.text)
       turn_reached m₀ rp = unfold run in let f = g.so_far m₀ rp in
@@ -112,16 +113,5 @@ module _ (sv₀ : Service) (bs₀ : Blocks) (codes days results₀ numbers₀ te
           }
 
       pub turned : length results' ≡ length results → length numbers' ≡ length numbers → length text' ≡ length text
-          → Going r.service bs' results' numbers' text' r.made r.days r.numbers r.text
-      turned kr kn kt = let fit = next_room is go in rw (p.service, p.next.0, p.next.1, p.next.2, p.next.3) (record { given = p.met.given; all = g.all; within = omega (arith, fit, g); long = omega (arith, g); so_far = turn_reached })
-
--- ---- The beginning
-
-module _ {new : Bool} {register codes days results numbers text : List ℕ} {made : ℕ} {results' numbers' text' : List ℕ} {sv : Service} {bs : Blocks}
-    (calls : Answered sv bs codes days results numbers text made results' numbers' text') where
-  pub replayed_fresh : new ≡ true → Represents sv bs fresh → Replayed new register codes days results numbers text (record { refusal = 0; line = 0; made = made }) results' numbers' text'
-  replayed_fresh e h = record { refusal = rw e; line = rw e; calls = rw e (calls fresh h) }
-
-  pub replayed_read : {refusal line : ℕ} → new ≡ false → Begins (read_text register) (record { service = sv; refusal = refusal; line = line }) bs
-      → Replayed new register codes days results numbers text (record { refusal = refusal; line = line; made = made }) results' numbers' text'
-  replayed_read e b = record { refusal = rw e b.refusal; line = rw e b.line; calls = rw e (calls _ b.represents) }
+          → Going r.service bs' results' numbers' text' (made + 1) r.next.days r.next.numbers r.next.text
+      turned kr kn kt = let fit = next_room is go in rw (p.service, p.next) (record { given = p.met.given; all = g.all; within = omega (arith, fit, g); long = omega (arith, g); so_far = turn_reached })

@@ -9,6 +9,7 @@ use Rattle.service.specs.Service.{Blocks, Met}
 use Rattle.coding.specs.declared.Code.{Code}
 use Rattle.coding.specs.Coded.{result_width, told}
 use Rattle.replay.specs.declared.Made.{Made}
+use Rattle.replay.specs.declared.Places.{Places}
 
 -- a list with the results of the call k in their places
 abbrev pub tell_at : ℕ → Outcome → List ℕ → List ℕ
@@ -21,13 +22,13 @@ part n k l = take (n + k - n) (drop n l)
 abbrev pub put_back : ℕ → ℕ → List ℕ → List ℕ → List ℕ
 put_back n k u l = take n l ++ (u ++ drop (n + k - n) (drop n l))
 
--- the call q of the code c is made as the k-th, lent the lists' parts from the places d, n and t on: its results stand in their places
-pub record Makes (sv : Service) (bs : Blocks) (q : Call) (c : Code) (k d n t : ℕ) (days results numbers text : List ℕ) (r : Made) (bs' : Blocks) (results' numbers' text' : List ℕ) : Type 0 where
+-- the call q of the code c is made as the k-th, lent the lists' parts from the places `at` on: its results stand in their places
+pub record Makes (sv : Service) (bs : Blocks) (q : Call) (c : Code) (k : ℕ) (at : Places) (days results numbers text : List ℕ) (r : Made) (bs' : Blocks) (results' numbers' text' : List ℕ) : Type 0 where
   pub stepped : Stepped
   pub ns : List ℕ
   pub ts : List ℕ
-  pub met : Met sv bs (asking q (part d c.days days) (part n c.numbers numbers) (part t c.text text)) stepped bs' ns ts
-  pub long : (length ns ≡ length (part n c.numbers numbers)) × (length ts ≡ length (part t c.text text))
-  pub lists : (results' ≡ tell_at k stepped.outcome results) × (numbers' ≡ put_back n c.numbers ns numbers) × (text' ≡ put_back t c.text ts text)
+  pub met : Met sv bs (asking q (part at.days c.days days) (part at.numbers c.numbers numbers) (part at.text c.text text)) stepped bs' ns ts
+  pub long : (length ns ≡ length (part at.numbers c.numbers numbers)) × (length ts ≡ length (part at.text c.text text))
+  pub lists : (results' ≡ tell_at k stepped.outcome results) × (numbers' ≡ put_back at.numbers c.numbers ns numbers) × (text' ≡ put_back at.text c.text ts text)
   pub service : r.service ≡ stepped.service
-  pub next : (r.made ≡ k + 1) × (r.days ≡ d + c.days) × (r.numbers ≡ n + c.numbers) × (r.text ≡ t + c.text)
+  pub next : r.next ≡ record { days = at.days + c.days; numbers = at.numbers + c.numbers; text = at.text + c.text }

@@ -5,7 +5,7 @@ use Rattle.register.specs.Text.{read_text}
 use Rattle.buffer.specs.Buffer.{over}
 use Rattle.model.specs.Model.{State, fresh, begun, refusal_in, line_in, Answer, run}
 use Rattle.service.specs.declared.Service.{Service}
-use Rattle.service.specs.Service.{Blocks, Represents}
+use Rattle.service.specs.Service.{Blocks, Represents, number_at, line_at}
 use Rattle.coding.specs.Coded.{decode, results_of, numbers_of, texts_of}
 use Rattle.replay.specs.declared.Ran.{Ran}
 
@@ -26,9 +26,20 @@ Answered sv bs codes days results numbers text made results' numbers' text' =
 abbrev pub beginning : Bool → List ℕ → State
 beginning new register = cond new fresh (begun (read_text register))
 
+-- what a replayed list gives beside its lists, by its numbers: the refusal's and the line of the reading that it began with, or 0 and 0, and
+-- how many calls were made
+pub record Played : Type 0 where
+  pub refusal : ℕ
+  pub line : ℕ
+  pub made : ℕ
+
+-- as a call returns it
+abbrev pub played_in : Ran → Played
+played_in r = record { refusal = number_at r.outcome; line = line_at r.outcome; made = r.made }
+
 -- THE CLAIM about a whole list of calls: begun fresh or on the register's bytes, the answers of the calls that the words code
 -- are those of the account's own run of them
-pub record Replayed (new : Bool) (register codes days results numbers text : List ℕ) (r : Ran) (results' numbers' text' : List ℕ) : Type 0 where
+pub record Replayed (new : Bool) (register codes days results numbers text : List ℕ) (r : Played) (results' numbers' text' : List ℕ) : Type 0 where
   pub refusal : r.refusal ≡ cond new accepted (refusal_in (read_text register))
   pub line : r.line ≡ cond new 0 (line_in (read_text register))
   pub calls : Holds (run (beginning new register) (decode codes days results numbers text)) results numbers text r.made results' numbers' text'

@@ -1,16 +1,17 @@
 // A whole coded list of calls, run through the public functions of `service` alone: its claim follows from their contracts.
 #![tactic(auto)]
 
-ghost use Rattle.std.specs.Prelude.{◌≡◌, ◌+◌, ◌-◌, ◌*◌, ◌≤◌, ◌<◌, ◌/◌, min, length};
+ghost use Rattle.std.specs.Prelude.{◌≡◌, ◌+◌, ◌-◌, ◌*◌, ◌≤◌, length};
 ghost use Rattle.service.specs.Service.{blocks, Given};
-ghost use Rattle.coding.specs.Coded.{code_width, result_width, word, code_at};
+ghost use Rattle.coding.specs.Coded.{code_width, result_width, code_at};
 ghost use Rattle.coding.specs.Clauses.{Room};
-ghost use Rattle.replay.specs.Replayed.{Answered, Replayed};
+ghost use Rattle.replay.specs.Replayed.{Answered, Replayed, played_in};
 ghost use Rattle.replay.specs.Clauses.{tell_at, Makes};
 
-use coding::{Code, Next};
+use coding::Code;
 use model::Call;
 use outcomes::Outcome;
+use register::Refused;
 use service::Service;
 use stabbing::INDEX;
 
@@ -19,52 +20,35 @@ const CODE: usize = 10;
 
 const RESULT: usize = 5;
 
-// What a replayed list gives beside its lists: the refusal and line of the reading that it began with, and how many calls
-// were made.
-#[derive(Clone, Copy)]
+// What a replayed list gives beside its lists: whether the reading that it began with was refused, why and at which line, and how many
+// calls were made.
+#[derive(Clone, Copy, Debug, PartialEq, Eq)]
 pub struct Ran {
-    pub refusal: u16,
-    pub line: u16,
+    pub outcome: Result<(), Refused>,
     pub made: usize,
 }
 
-fn word_at(codes: &[u64], k: usize, j: usize) -> u64
-    requires { code_width * k + j < length codes.now }
-    ensures { result ≡ word codes.now k j }
-{
-    codes[CODE * k + j]
-}
-
+#[tactic(auto, unfolding(coding::specs::Coded::code_at))]
 fn code_at(codes: &[u64], k: usize) -> Code
     requires { code_width * k + code_width ≤ length codes.now }
     ensures { result ≡ code_at codes.now k }
 {
+    let at = CODE * k;
     Code {
-        op: word_at(codes, k, 0),
-        number: decoding::low(word_at(codes, k, 1)),
-        candidate: decoding::low(word_at(codes, k, 2)),
-        first: decoding::low(word_at(codes, k, 3)),
-        last: decoding::low(word_at(codes, k, 4)),
-        kind: word_at(codes, k, 5),
-        value: word_at(codes, k, 6),
-        days: word_at(codes, k, 7) as usize,
-        numbers: word_at(codes, k, 8) as usize,
-        text: word_at(codes, k, 9) as usize,
+        op: codes[at],
+        number: decoding::low(codes[at + 1]),
+        candidate: decoding::low(codes[at + 2]),
+        first: decoding::low(codes[at + 3]),
+        last: decoding::low(codes[at + 4]),
+        kind: codes[at + 5],
+        value: codes[at + 6],
+        days: codes[at + 7] as usize,
+        numbers: codes[at + 8] as usize,
+        text: codes[at + 9] as usize,
     }
 }
 
 // ---- The list of calls
-
-fn whole_of(codes: usize, results: usize) -> usize
-    ensures { result ≡ min (codes / code_width) (results / result_width) }
-{
-    let a = codes / CODE;
-    let b = results / RESULT;
-    if a < b {
-        return a;
-    }
-    b
-}
 
 // A call's results in their places.
 fn tell(results: &mut [u64], k: usize, o: Outcome)
@@ -72,70 +56,72 @@ fn tell(results: &mut [u64], k: usize, o: Outcome)
     ensures { results.new ≡ tell_at k o results.old }
 {
     let at = RESULT * k;
-    results[at] = o.refusal as u64;
-    results[at + 1] = o.count as u64;
-    results[at + 2] = o.comparisons as u64;
-    results[at + 3] = o.length as u64;
-    results[at + 4] = o.ticked as u64;
+    results[at..at + RESULT].copy_from_slice(&[
+        u64::from(o.refusal),
+        o.count as u64,
+        o.comparisons as u64,
+        o.length as u64,
+        o.ticked as u64,
+    ]);
 }
 
-// The service after a call, how many calls are made, and the places of the lists after those that it was lent.
-#[derive(Clone, Copy)]
-struct Made {
-    service: Service,
-    made: usize,
+// The places of the lists of days, numbers and text from which on no call was lent any.
+#[derive(Clone, Copy, Debug, PartialEq, Eq)]
+struct Places {
     days: usize,
     numbers: usize,
     text: usize,
 }
 
-// The call of a code, made as the k-th: it is lent the lists' places from `d`, `n` and `t` on, as many as its code says.
+// The service after a call, and the places after those that it was lent.
+#[derive(Clone, Copy)]
+struct Made {
+    service: Service,
+    next: Places,
+}
+
+// The call of a code, made as the k-th: it is lent the lists' places from `at` on, as many as its code says.
 fn make(
     service: Service,
     index: &mut [u16; INDEX],
     call: Call,
     c: Code,
     k: usize,
-    d: usize,
-    n: usize,
-    t: usize,
+    at: Places,
     days: &[u16],
     results: &mut [u64],
     numbers: &mut [u16],
     text: &mut [u8],
 ) -> Made
     requires given { Given service (blocks index.old) }
-    requires d_in_bounds { (d ≤ length days.now) × (n ≤ length numbers.old) × (t ≤ length text.old) }
-    requires room { Room c (length days.now - d) (length numbers.old - n) (length text.old - t) }
+    requires at_in_bounds { (at.days ≤ length days.now) × (at.numbers ≤ length numbers.old) × (at.text ≤ length text.old) }
+    requires room { Room c (length days.now - at.days) (length numbers.old - at.numbers) (length text.old - at.text) }
     requires result_width_in_bounds { result_width * k + result_width ≤ length results.old }
-    ensures { Makes service (blocks index.old) call c k d n t days.now results.old numbers.old text.old result (blocks index.new) results.new numbers.new text.new }
+    ensures { Makes service (blocks index.old) call c k at days.now results.old numbers.old text.old result (blocks index.new) results.new numbers.new text.new }
 {
-    let made = k + 1;
-    let to_days = d + c.days;
-    let to_numbers = n + c.numbers;
-    let to_text = t + c.text;
+    let next = Places {
+        days: at.days + c.days,
+        numbers: at.numbers + c.numbers,
+        text: at.text + c.text,
+    };
     let r = service::step(
         service,
         index,
         call,
-        &days[d..to_days],
-        &mut numbers[n..to_numbers],
-        &mut text[t..to_text],
+        &days[at.days..next.days],
+        &mut numbers[at.numbers..next.numbers],
+        &mut text[at.text..next.text],
     );
     tell(results, k, r.outcome);
-    let next = r.service;
     Made {
-        service: next,
-        made,
-        days: to_days,
-        numbers: to_numbers,
-        text: to_text,
+        service: r.service,
+        next,
     }
 }
 
 // The calls made on a service, and how many.
 fn calls(
-    service: Service,
+    mut service: Service,
     index: &mut [u16; INDEX],
     codes: &[u64],
     days: &[u16],
@@ -146,28 +132,27 @@ fn calls(
     requires { Given service (blocks index.old) }
     ensures { Answered service (blocks index.old) codes.now days.now results.old numbers.old text.old result results.new numbers.new text.new }
 {
-    let whole = whole_of(codes.len(), results.len());
-    let mut s = service;
-    let mut made = 0;
-    let mut d = 0;
-    let mut n = 0;
-    let mut t = 0;
-    while made < whole {
-        let c = code_at(codes, made);
-        let Next::Go(call) = decoding::next_of(c, days.len() - d, numbers.len() - n, text.len() - t)
-        else {
-            return made;
+    let whole = (codes.len() / CODE).min(results.len() / RESULT);
+    let mut at = Places {
+        days: 0,
+        numbers: 0,
+        text: 0,
+    };
+    for k in 0..whole {
+        let c = code_at(codes, k);
+        let Some(call) = decoding::next_of(
+            c,
+            days.len() - at.days,
+            numbers.len() - at.numbers,
+            text.len() - at.text,
+        ) else {
+            return k;
         };
-        let r = make(
-            s, index, call, c, made, d, n, t, days, results, numbers, text,
-        );
-        s = r.service;
-        made = r.made;
-        d = r.days;
-        n = r.numbers;
-        t = r.text;
+        let r = make(service, index, call, c, k, at, days, results, numbers, text);
+        service = r.service;
+        at = r.next;
     }
-    made
+    whole
 }
 
 // A whole list of calls, begun on a fresh service or on a register's bytes, a refused reading included.
@@ -180,24 +165,19 @@ pub fn run(
     numbers: &mut [u16],
     text: &mut [u8],
 ) -> Ran
-    ensures { Replayed fresh register.now codes.now days.now results.old numbers.old text.old result results.new numbers.new text.new }
+    ensures { Replayed fresh register.now codes.now days.now results.old numbers.old text.old (played_in result) results.new numbers.new text.new }
 {
     let mut index = [0u16; INDEX];
     if fresh {
-        let s = service::fresh(&mut index);
-        let made = calls(s, &mut index, codes, days, results, numbers, text);
+        let service = service::fresh(&mut index);
         return Ran {
-            refusal: 0,
-            line: 0,
-            made,
+            outcome: Ok(()),
+            made: calls(service, &mut index, codes, days, results, numbers, text),
         };
     }
     let r = service::read(register, &mut index);
-    let s = r.service;
-    let made = calls(s, &mut index, codes, days, results, numbers, text);
     Ran {
-        refusal: r.refusal,
-        line: r.line,
-        made,
+        outcome: r.outcome,
+        made: calls(r.service, &mut index, codes, days, results, numbers, text),
     }
 }

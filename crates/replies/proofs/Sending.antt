@@ -3,7 +3,7 @@ use Rattle.basis.proofs.Prelude.{◌∙◌, ◌≡◌, ap, refl, sym, ◌*◌, �
 use lib.Dec.{lit≤}
 use borrow.Rule.Slice.PartMut.{put_mid, mid_of, mid_len, Post-is}
 use Rattle.fields.{specs.{Fields.{byte_text, end_before, number_text, numbers_text}, Answers.Puts}, proofs.{Puts.{Put, put_on, put_place, room_puts}, Widths.{decimal_wide, decimal_width, numbers_width, numbers_wide}}}
-use Rattle.replies.specs.{Replies.{bytes_text, dashed_text}, Sending.Sends}
+use Rattle.replies.specs.{Replies.bytes_text, Sending.Sends}
 
 -- what is put to the end is sent
 pub put_sends : {entry exit : List ℕ} {r : ℕ} {t : List ℕ} → Put entry exit r t → Sends t entry r exit
@@ -44,7 +44,7 @@ pub placed_sends : {a b : List ℕ} {i : ℕ} {t : List ℕ} → Placed a b i t 
 placed_sends p = put_sends p.put
 
 -- one field more before what is put: a text f, which takes so much room or less
-on : {a b c : List ℕ} {i j : ℕ} {t : List ℕ} {k : ℕ} (room : ℕ) (f : List ℕ → List ℕ) → ((s : List ℕ) → (length s ≤ length (f s)) × (length (f s) ≤ room + length s))
+pub on : {a b c : List ℕ} {i j : ℕ} {t : List ℕ} {k : ℕ} (room : ℕ) (f : List ℕ → List ℕ) → ((s : List ℕ) → (length s ≤ length (f s)) × (length (f s) ≤ room + length s))
     → Placed a b i t (k + room) → Puts room f b i j c → Placed a c j (f t) k
 on {b = b} {i = i} {t = t} room f width p q =
     let u = rw p.put.written at (room_puts room f (omega arith) (omega arith) (width (drop i b)).1 q) in
@@ -63,13 +63,6 @@ module _ (out : List ℕ) (n : ℕ) (long : length out ≡ n) (k : ℕ) where
     pub placed_text : (t : List ℕ) → length t ≤ 65536 → k + 65536 ≤ n → Puts (length t) (bytes_text t) out n i b → Placed out b i t k
     placed_text t few h q = rw append-nil at (on {k = k} (length t) (bytes_text t) (λ s. omega (arith, length-append t s)) (record { put = (placed_none (omega arith)).put; room = omega arith }) q)
 
-pub placed_dashed : {out b : List ℕ} {i : ℕ} (n : ℕ) (ns : List ℕ) (k : ℕ) → Sends (dashed_text n ns) out i b → length b ≡ 131072 → length ns ≤ 1024 → k ≤ 100000
-    → Placed out b i (dashed_text n ns) k
-unfolding dashed_text
-placed_dashed n ns k q long few h =
-    let p = sends_put q in
-    record { put = p; room = omega (arith, decimal_width n (9 ∷ 45 ∷ end_before (length ns) ∷ numbers_text ns []), numbers_width ns []) }
-
 -- one part before others
 module _ (a b c : List ℕ) (i j : ℕ) (t : List ℕ) (k : ℕ) where
   pub placed_number : (n e e' : ℕ) → Placed a b i t (k + 6) → Puts 6 (number_text n e) b i j c → e ≡ e' → Placed a c j (number_text n e' t) k
@@ -86,4 +79,4 @@ pub placed_more : (a b : List ℕ) (i n : ℕ) (ns t : List ℕ) (k : ℕ) → P
 unfolding numbers_text
 placed_more a b i n ns t k p = p
 
-pub ruleset placing = (placed_sends, placed_none, placed_numbers, placed_text, placed_dashed, placed_number, placed_more, placed_byte, placed_bytes, lit≤)
+pub ruleset placing = (placed_sends, placed_none, placed_numbers, placed_text, placed_number, placed_more, placed_byte, placed_bytes, lit≤)

@@ -5,7 +5,7 @@
 pub const OUT: usize = 131072;
 
 // The shape of an accepted call's answer.
-#[derive(Clone, Copy)]
+#[derive(Clone, Copy, Debug, PartialEq, Eq)]
 pub enum Shape {
     // done, and no more
     Ok,

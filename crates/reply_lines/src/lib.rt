@@ -8,10 +8,6 @@ ghost use Rattle.replies.specs.Sending.{Sends};
 
 use replies::OUT;
 
-const TAB: u8 = 9;
-
-const LF: u8 = 10;
-
 // An answer is put into the end of a list from its last byte to its first: each writer puts its bytes before the
 // place `at` and returns the place where they begin.
 
@@ -19,14 +15,10 @@ const LF: u8 = 10;
 pub fn put_bytes(out: &mut [u8], at: usize, text: &[u8]) -> usize
     ensures { Puts (length text.now) (bytes_text text.now) out.old at result out.new }
 {
-    let n = text.len();
-    if at < n {
+    if at < text.len() || out.len() < at {
         return at;
     }
-    if out.len() < at {
-        return at;
-    }
-    let start = at - n;
+    let start = at - text.len();
     out[start..at].copy_from_slice(text);
     start
 }
@@ -55,7 +47,7 @@ pub fn put_malformed(out: &mut [u8; OUT]) -> usize
 pub fn put_refused(out: &mut [u8; OUT], number: u16) -> usize
     ensures { Sends (refused_text number) out.old result out.new }
 {
-    let at = decimals::put_number(out, OUT, number, LF);
+    let at = decimals::put_number(out, OUT, number, b'\n');
     put_bytes(out, at, b"refused\t")
 }
 
@@ -63,7 +55,7 @@ pub fn put_refused(out: &mut [u8; OUT], number: u16) -> usize
 pub fn put_refused_line(out: &mut [u8; OUT], number: u16, line: u16) -> usize
     ensures { Sends (refused_line number line) out.old result out.new }
 {
-    let i = decimals::put_number(out, OUT, line, LF);
-    let j = decimals::put_number(out, i, number, TAB);
+    let i = decimals::put_number(out, OUT, line, b'\n');
+    let j = decimals::put_number(out, i, number, b'\t');
     put_bytes(out, j, b"refused\t")
 }

@@ -1,7 +1,7 @@
 -- What fields ask, as the program finds it: field by field, and where the line ends after the last or does not. Assumes nothing.
 use Rattle.basis.proofs.Prelude.{◌∙◌, ◌≡◌, ◌<◌, ◌≤◌, ℕ, List, [], ◌∷◌, drop, length}
-use Rattle.fields.specs.declared.{Field.{Field, TheVariants.Value}, Length.Length}
-use Rattle.requests.{proofs.Names.{Found, field_of, length_of, read_length, here, past_end, limit_of, Demand, asking, ended, request_of, if_ended}, specs.declared.{LengthWord.LengthWord, Request.{TheVariants.Malformed, Request}}}
+use Rattle.std.specs.Prelude.{Option, Some, None}
+use Rattle.requests.{proofs.Names.{Found, answer_in, here, past_end, Demand, asking, ended, request_of, if_ended}, specs.declared.Request.{TheVariants.Malformed, Request}}
 
 -- ---- what comes after the place i
 module _ (q : Request) (s : List ℕ) (i : ℕ) where
@@ -16,17 +16,10 @@ pub last : {q r : Request} (a : Demand) (rest : List ℕ) → r ≡ if_ended q r
 last a [] k e = k ∙ e
 last a (b ∷ rest) k e = k
 
--- ---- a field f, of which an answer r says what x says: what is asked by f is asked by that
-pub onto : {R A : Type 0} (Of : List ℕ → R → Found A) (line : List ℕ) (r x : R) (f : Found A) (k : A → List ℕ → Demand) (q : Request) → Of line r ≡ f → r ≡ x
-    → q ≡ request_of (asking (Of line x) k) → q ≡ request_of (asking f k)
-onto Of line r x f k q says is asked = rw (← says, is) asked
+-- ---- a field f, as r answers it: one that can't be read asks nothing that has a form, and after a value what is asked by that is asked
+module _ {A : Type 0} (line : List ℕ) {r : Option (A × ℕ)} {f : Found A} (k : A → List ℕ → Demand) (says : answer_in line r ≡ f) where
+  pub unread : r ≡ None → Malformed ≡ request_of (asking f k)
+  unread none = rw (← says, none)
 
--- the first of two fields
-pub after : (line : List ℕ) (r : Field) (n i : ℕ) (f : Found ℕ) (k : ℕ → List ℕ → Demand) (q : Request) → field_of line r ≡ f → r ≡ Value n i
-    → q ≡ request_of (k n (drop i line)) → q ≡ request_of (asking f k)
-after line r n i f k q says is asked = rw (← says, is) asked
-
--- a decimal up to the limit of its word
-pub limited : (line s : List ℕ) (r x : Length) (limit : ℕ) (w : LengthWord) (k : ℕ → List ℕ → Demand) (q : Request) → limit ≡ limit_of w → length_of line r ≡ read_length limit 10 s
-    → r ≡ x → q ≡ request_of (asking (length_of line x) k) → q ≡ request_of (asking (read_length (limit_of w) 10 s) k)
-limited line s r x limit w k q most says is asked = rw (← most, ← says, is) asked
+  pub onto : {a : A} {i : ℕ} (q : Request) → r ≡ Some (a, i) → q ≡ request_of (k a (drop i line)) → q ≡ request_of (asking f k)
+  onto q is asked = rw (← says, is) asked

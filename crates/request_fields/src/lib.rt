@@ -5,15 +5,9 @@ ghost use Rattle.std.specs.Prelude.{◌≡◌, drop};
 ghost use Rattle.requests.specs.Words.{spell_call, asked_with, number_call, limit_of};
 ghost use Rattle.requests.specs.Parsing.{Asks, if_ended, length_request};
 
-use fields::{Field, Length};
 use model::{Call, Question};
-use register::Line;
 use requests::{Layout, LengthWord, NumberWord, Request, SpellWord};
 use spell::Spell;
-
-const TAB: u8 = 9;
-
-const LF: u8 = 10;
 
 // The largest room, and the largest length of a text that is announced: ten digits.
 const LARGEST_ROOM: u64 = 65536;
@@ -25,9 +19,10 @@ pub fn if_ended(line: &[u8], end: usize, request: Request) -> Request
     ensures { result ≡ if_ended request (drop end line.now) }
 {
     if end < line.len() {
-        return Request::Malformed;
+        Request::Malformed
+    } else {
+        request
     }
-    request
 }
 
 // The call of a word with a spell's fields.
@@ -43,7 +38,7 @@ fn spell_call(w: SpellWord, s: Spell) -> Call
 pub fn spell_asked(line: &[u8], at: usize, w: SpellWord) -> Request
     ensures { Asks (Layout.Spell w) (drop at line.now) result }
 {
-    let Line::Value(s, next) = register_line::read_line(line, at) else {
+    let Some((s, next)) = register_line::read_line(line, at) else {
         return Request::Malformed;
     };
     if_ended(line, next, Request::Call(spell_call(w, s), 0))
@@ -55,10 +50,8 @@ fn asked_with(question: Question, n: u16) -> Question
 {
     match question {
         Question::Day(_) => Question::Day(n),
-        Question::Span(a, b) => Question::Span(a, b),
         Question::Cover(_) => Question::Cover(n),
-        Question::Days => Question::Days,
-        Question::Mask(base, mask) => Question::Mask(base, mask),
+        other => other,
     }
 }
 
@@ -76,7 +69,7 @@ fn number_call(w: NumberWord, n: u16) -> Call
 pub fn number_asked(line: &[u8], at: usize, w: NumberWord) -> Request
     ensures { Asks (Layout.Number w) (drop at line.now) result }
 {
-    let Field::Value(n, next) = decimals::read_number(line, at, LF) else {
+    let Some((n, next)) = decimals::read_number(line, at, b'\n') else {
         return Request::Malformed;
     };
     if_ended(line, next, Request::Call(number_call(w, n), 0))
@@ -85,10 +78,10 @@ pub fn number_asked(line: &[u8], at: usize, w: NumberWord) -> Request
 pub fn pair_asked(line: &[u8], at: usize) -> Request
     ensures { Asks Layout.Pair (drop at line.now) result }
 {
-    let Field::Value(a, i) = decimals::read_number(line, at, TAB) else {
+    let Some((a, i)) = decimals::read_number(line, at, b'\t') else {
         return Request::Malformed;
     };
-    let Field::Value(b, next) = decimals::read_number(line, i, LF) else {
+    let Some((b, next)) = decimals::read_number(line, i, b'\n') else {
         return Request::Malformed;
     };
     if_ended(
@@ -101,10 +94,10 @@ pub fn pair_asked(line: &[u8], at: usize) -> Request
 pub fn mask_asked(line: &[u8], at: usize) -> Request
     ensures { Asks Layout.Mask (drop at line.now) result }
 {
-    let Field::Value(base, i) = decimals::read_number(line, at, TAB) else {
+    let Some((base, i)) = decimals::read_number(line, at, b'\t') else {
         return Request::Malformed;
     };
-    let Length::Value(mask, next) = hexadecimals::read_mask(line, i, LF) else {
+    let Some((mask, next)) = hexadecimals::read_mask(line, i, b'\n') else {
         return Request::Malformed;
     };
     if_ended(
@@ -137,7 +130,7 @@ fn length_request(w: LengthWord, n: u64) -> Request
 pub fn length_asked(line: &[u8], at: usize, w: LengthWord) -> Request
     ensures { Asks (Layout.Length w) (drop at line.now) result }
 {
-    let Length::Value(n, next) = decimals::read_length(line, at, LF, limit_of(w)) else {
+    let Some((n, next)) = decimals::read_length(line, at, b'\n', limit_of(w)) else {
         return Request::Malformed;
     };
     if_ended(line, next, length_request(w, n))

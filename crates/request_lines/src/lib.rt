@@ -8,13 +8,8 @@ ghost use Rattle.requests.specs.Requests.{last_day, read_days};
 ghost use Rattle.requests.specs.Parsing.{Parses, Announces, following_in};
 ghost use Rattle.request_lines.specs.Clauses.{after, ReadsDays};
 
-use fields::Field;
 use model::{Call, Question};
-use requests::{AloneWord, Layout, LengthWord, Request};
-
-const TAB: u8 = 9;
-
-const LF: u8 = 10;
+use requests::{AloneWord, Head, Layout, LengthWord, Request};
 
 // The most bytes of a request's line, its LF among them.
 const LONGEST_LINE: usize = 65536;
@@ -24,7 +19,7 @@ fn last_day(line: &[u8], at: usize, days: &mut [u16], k: usize) -> Request
     requires { k < length days.old }
     ensures { ReadsDays (after (take k days.old) (last_day (read_number 10 (drop at line.now)))) days.old result days.new }
 {
-    let Field::Value(d, next) = decimals::read_number(line, at, LF) else {
+    let Some((d, next)) = decimals::read_number(line, at, b'\n') else {
         return Request::Malformed;
     };
     if next < line.len() {
@@ -39,13 +34,11 @@ fn read_days(line: &[u8], start: usize, days: &mut [u16]) -> Request
     ensures { ReadsDays (read_days (length days.old) (drop start line.now)) days.old result days.new }
 {
     let mut at = start;
-    let mut k = 0;
-    while k < days.len() {
-        let Field::Value(d, next) = decimals::read_number(line, at, TAB) else {
+    for k in 0..days.len() {
+        let Some((d, next)) = decimals::read_number(line, at, b'\t') else {
             return last_day(line, at, days, k);
         };
         days[k] = d;
-        k += 1;
         at = next;
     }
     Request::Malformed
@@ -69,9 +62,7 @@ pub fn parse(line: &[u8], days: &mut [u16]) -> Request
     if line.len() > LONGEST_LINE {
         return Request::Malformed;
     }
-    let head = request_words::head_of(line);
-    let at = head.at;
-    let layout = head.layout;
+    let Head { layout, at } = request_words::head_of(line);
     match layout {
         Layout::Alone(w) => { request_fields::if_ended(line, at, Request::Call(alone_call(w), 0)) }
         Layout::Spell(w) => request_fields::spell_asked(line, at, w),
@@ -92,9 +83,7 @@ fn following(request: Request) -> u64
 {
     match request {
         Request::Read(n) => n,
-        Request::Call(_, _) => 0,
-        Request::Room(_) => 0,
-        Request::Malformed => 0,
+        _ => 0,
     }
 }
 

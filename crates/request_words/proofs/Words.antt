@@ -1,19 +1,39 @@
--- The word that a line begins with, byte by byte. Assumes nothing.
-use Rattle.requests.proofs.Names.{is_at, here, past_end, begins}
-use Rattle.basis.proofs.Prelude.{◌≡◌, ◌&&◌, sym, ◌∙◌, Bool, not, not-true, not-false, ◌+◌, ◌<◌, ◌≤◌, ℕ, List, false, true, drop, get_or, length, ltb, ltb-true, ltb-false, by_test}
+-- The word that a line begins with, by the library's comparison of lists and row by row. Assumes nothing.
+use Prim.Native.String.{String}
+use Rattle.std.specs.Borrow.{Bor}
+use Rattle.std.specs.List.{starts_with}
+use Rattle.requests.proofs.Names.{begins, bytes_of, head_of}
+use Rattle.requests.specs.declared.{Head.Head, Layout.{Layout, TheVariants.Unknown}}
+use Rattle.request_words.specs.Clauses.{head_among, rows_of}
+use Rattle.basis.proofs.Prelude.{◌≡◌, ◌+◌, ◌<◌, ◌≤◌, ℕ, List, [], ◌∷◌, false, true, add-one, drop, drop-cons, drop_of_length-le, by_test, eq-eqb, eqb, eqb-false, eqb-true, get_or, length, map, ne_eqb, refl, sym}
 
-begins_at : (w s : List ℕ) (i : ℕ) → i < length w → begins (drop i w) (drop i s) ≡ is_at s i (get_or w i 0) && begins (drop (i + 1) w) (drop (i + 1) s)
+equal_back : (a b : ℕ) → eqb a b ≡ eqb b a
+equal_back a b = by_test (eqb b a) (λ t. rw (t, eq-eqb a b (sym (eqb-true b a t)))) (λ t. rw (t, ne_eqb a b (λ e. eqb-false b a t (sym e))))
+
+pub starts : (w s : List ℕ) → starts_with eqb s w ≡ begins w s
 unfolding begins
-begins_at w s i h = by_test (ltb i (length s)) (λ t. rw (here w i h, here s i (ltb-true i (length s) t), t)) (λ t. rw (here w i h, past_end s i (ltb-false i (length s) t), t))
+starts [] s = refl
+starts (a ∷ w) [] = refl
+starts (a ∷ w) (b ∷ s) = rw (equal_back a b, starts w s)
 
-module _ (w s : List ℕ) (i : ℕ) {found : Bool} (so_far : found ≡ begins (drop i w) (drop i s)) where
-  module _ (h : i < length w) {is : Bool} (e : is ≡ is_at s i (get_or w i 0)) where
-    pub begins_on : not is ≡ false → found ≡ begins (drop (i + 1) w) (drop (i + 1) s)
-    begins_on n = so_far ∙ begins_at w s i h ∙ rw (sym e ∙ not-false is n)
+-- ---- the rows from the place i on
+module _ (rows : List (Bor (List ℕ) × Layout)) (s : List ℕ) (i : ℕ) where
+  pub head_none : length rows ≤ i → ◌≡◌ {A = Head} (record { layout = Unknown; at = 0 }) (head_among (rows_of (drop i rows)) s)
+  unfolding head_among
+  head_none h = rw (drop_of_length-le rows h)
 
-    pub begins_not : not is ≡ true → false ≡ found
-    begins_not n = sym (so_far ∙ begins_at w s i h ∙ rw (sym e ∙ not-true is n))
+  module _ (d : Bor (List ℕ) × Layout) (h : i < length rows) where
+    pub head_here : begins (get_or rows i d).0.now s ≡ true
+        → ◌≡◌ {A = Head} (record { layout = (get_or rows i d).1; at = length (get_or rows i d).0.now }) (head_among (rows_of (drop i rows)) s)
+    unfolding head_among
+    head_here b = rw (drop-cons rows i d h, b)
 
-  pub begins_all : length w ≤ i → true ≡ found
-  unfolding begins
-  begins_all h = sym (so_far ∙ rw (past_end w i h))
+    pub head_later : begins (get_or rows i d).0.now s ≡ false → head_among (rows_of (drop i rows)) s ≡ head_among (rows_of (drop (i + 1) rows)) s
+    unfolding head_among
+    head_later b = rw (drop-cons rows i d h, b, add-one)
+
+-- by a table of words
+pub head_is : (rows : List (String × Layout)) (s : List ℕ) → head_among (map (λ row. (bytes_of row.0, row.1)) rows) s ≡ head_of rows s
+unfolding head_among head_of
+head_is [] s = refl
+head_is (row ∷ rows) s = rw (head_is rows s)

@@ -1,6 +1,6 @@
 -- What a line asks, as the program holds it: its days stand in the lent list, and its room is one that can be lent. Assumes nothing.
 use Rattle.basis.proofs.Prelude.{◌≡◌, ap, refl, ◌≤◌, suc, zero, ℕ, List, [], ◌++◌, ◌∷◌, by_cases, by_test, leb, drop, length, take_at, arith}
-use Rattle.requests.proofs.{Names.{by_found, Found, found, unreadable, read_number, Ask, Request, Layout, LengthWord, Room, Read, limit_of, table, head_of, Demand, asks_call, malformed, asks, length_asks, DayList, last_day, read_days, ask_days, asked_by, days_by, asked_of, days_of, request_of, asked_from, days_in, room_in, Parses}, Layouts.by_layout}
+use Rattle.requests.proofs.{Names.{by_found, Found, found, unreadable, read_number, Ask, Request, Layout, LengthWord, Room, Read, limit_of, table, head_of, Demand, asks_call, malformed, length_asks, DayList, last_day, read_days, ask_days, asked_by, days_by, asked_of, days_of, request_of, asked_from, days_in, room_in, Parses}, Layouts.by_layout}
 use Rattle.model.specs.declared.Question.TheVariants.{Days}
 
 -- a demand is what its request asks with a list that begins with xs; it has at most n days, and its room is at most 65,536

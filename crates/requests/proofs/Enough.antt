@@ -1,5 +1,5 @@
 -- A line of at most 65,536 bytes has fewer than 32,768 days: more room for them changes nothing. Assumes nothing.
-use Rattle.basis.proofs.Prelude.{◌≡◌, ap, refl, sym, ◌*◌, ◌+◌, ◌≤◌, suc, zero, ℕ, List, [], ◌∷◌, by_test, false, true, leb, drop, length, length-drop, arith, leb-true}
+use Rattle.basis.proofs.Prelude.{◌≡◌, ap, refl, sym, ◌*◌, ◌+◌, ◌≤◌, suc, zero, ℕ, List, [], ◌∷◌, by_test, false, leb, drop, length, length-drop, arith, leb-true}
 use Rattle.requests.proofs.{Names.{by_found, found, unreadable, read_number, decimal_wide, write_number, table, head_of, read_days, ask_days, asked_of}, Layouts.by_layout}
 
 -- a number and the byte that ends it take two bytes or more

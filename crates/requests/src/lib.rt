@@ -24,14 +24,14 @@ pub enum Layout {
     Unknown,
 }
 
-#[derive(Clone, Copy)]
+#[derive(Clone, Copy, Debug, PartialEq, Eq)]
 pub enum AloneWord {
     TakeBack,
     Write,
     Days,
 }
 
-#[derive(Clone, Copy)]
+#[derive(Clone, Copy, Debug, PartialEq, Eq)]
 pub enum SpellWord {
     Enter,
     Amend,
@@ -45,7 +45,7 @@ pub enum NumberWord {
     Ask(Question),
 }
 
-#[derive(Clone, Copy)]
+#[derive(Clone, Copy, Debug, PartialEq, Eq)]
 pub enum LengthWord {
     Room,
     Read,

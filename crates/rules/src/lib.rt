@@ -10,35 +10,22 @@ use spell::{Spell, Urgency};
 pub fn is_rule(rule: u16) -> bool
     ensures { result ≡ is_rule rule }
 {
-    if rule == 1 {
-        return true;
-    }
-    rule == 2
+    rule == 1 || rule == 2
 }
 
 // The earlier of the last day and the first day + 6.
 fn lapsed(first: u16, last: u16) -> u16
     ensures { result ≡ lapsed first last }
 {
-    if last <= first {
-        return last;
-    }
-    if last - first <= 6 {
-        return last;
-    }
-    first + 6
+    last.min(first.saturating_add(6))
 }
 
 // The last day of a spell that is published by a rule.
 pub fn last_day(s: Spell, rule: u16) -> u16
     ensures { result ≡ last_of rule s }
 {
-    if rule != 2 {
-        return s.last;
-    }
-    let urgency = s.urgency;
-    match urgency {
-        Urgency::Grade(_) => s.last,
-        Urgency::Reading(_) => lapsed(s.first, s.last),
+    match s.urgency {
+        Urgency::Reading(_) if rule == 2 => lapsed(s.first, s.last),
+        _ => s.last,
     }
 }

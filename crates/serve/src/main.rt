@@ -6,13 +6,11 @@ ghost use Rattle.std.specs.Prelude.{◌≤◌, length, take};
 ghost use Rattle.published_index.specs.Index.{Published};
 ghost use Rattle.service.specs.Service.{blocks, Given};
 ghost use Rattle.conversations.specs.Answering.{Looks};
-ghost use Rattle.serving.specs.Serving.{Sees, Finishes};
+ghost use Rattle.serving.specs.Serving.{sight_in, Sees, Finishes};
 ghost use Rattle.input.specs.Input.{Within};
 
 use conversations::{Answered, DAYS, Looked, ROOM, Wanted};
-use input::Input;
 use replies::OUT;
-use requests::Request;
 use service::Service;
 use serving::{ARRIVED, Seen};
 use stabbing::INDEX;
@@ -21,8 +19,6 @@ use std::fs::File;
 use std::io::{ErrorKind, Print};
 use std::{io, str};
 use streams::{LINE, TEXT};
-
-const DASH: u8 = 45;
 
 // One byte more than a register's text may have.
 const FILE: usize = 65537;
@@ -37,7 +33,7 @@ fn write_from<P: Print>(rt: &HostRuntime, to: &P, out: &[u8], at: usize, name: &
     if out.len() < at {
         return false;
     }
-    output::write(to, &out[at..], &rt.stderr(), name)
+    output::write(to, &out[at..], &rt.stderr(), name).is_ok()
 }
 
 // Sends the answer that ends the list.
@@ -62,7 +58,7 @@ fn look(
     looking::look(index, room, &line[..n], days, numbers, text, out)
 }
 
-// Takes the next request and looks at it: what wants no service is answered. One that the input's end cuts short is not looked at.
+// Takes the next request and looks at it: what wants no service is answered. One that the input's end cuts short is not taken.
 fn see(
     rt: &HostRuntime,
     index: &[u16; INDEX],
@@ -78,33 +74,13 @@ fn see(
     out: &mut [u8; OUT],
     gathered: &[u8; OUT],
     held: usize,
-) -> Seen
+) -> Option<Seen>
     requires { Published index.now }
-    ensures { Sees (blocks index.now) room arrived.old start end days.old numbers.old text.now out.old result arrived.new line.new payload.new days.new numbers.new out.new }
+    ensures { Sees (blocks index.now) room arrived.old start end days.old numbers.old text.now out.old (sight_in result) arrived.new line.new payload.new days.new numbers.new out.new }
 {
-    let q = incoming::next(rt, arrived, start, end, line, payload, gathered, held);
-    if !q.whole {
-        let looked = Looked::Done(Request::Malformed, room, OUT);
-        return Seen {
-            line: q.line,
-            payload: q.payload,
-            whole: q.whole,
-            start: q.start,
-            end: q.end,
-            held: q.held,
-            looked,
-        };
-    }
-    let looked = look(index, room, line, q.line, days, numbers, text, out);
-    Seen {
-        line: q.line,
-        payload: q.payload,
-        whole: q.whole,
-        start: q.start,
-        end: q.end,
-        held: q.held,
-        looked,
-    }
+    let request = incoming::next(rt, arrived, start, end, line, payload, gathered, held)?;
+    let looked = look(index, room, line, request.line, days, numbers, text, out);
+    Some(Seen { request, looked })
 }
 
 // Carries out what a request wants of the service, with the first m bytes of what follows its line.
@@ -138,8 +114,8 @@ fn carry(
     )
 }
 
-// Serves requests until the input ends or the output is closed. A proved loop has to end, so its turns are counted down, from a
-// number that no service uses up.
+// Serves requests until the input ends or the output is closed. A proved loop has to end, so its requests are counted, up to a
+// number that no service comes to.
 fn converse(
     rt: &HostRuntime,
     service: Service,
@@ -155,44 +131,48 @@ fn converse(
 )
     requires { Given service (blocks index.old) }
 {
-    let mut s = service;
+    let mut service = service;
     let mut room = ROOM;
     let mut start = 0;
     let mut end = 0;
     let mut held = 0;
-    let mut turns = u64::MAX;
-    while turns > 0 {
-        let q = see(
+    for _ in 0..u64::MAX {
+        let Some(seen) = see(
             rt, index, room, arrived, start, end, line, payload, days, numbers, text, out,
             gathered, held,
-        );
-        if !q.whole {
+        ) else {
             return;
-        }
-        let mut place = 0;
-        let looked = q.looked;
-        match looked {
+        };
+        let request = seen.request;
+        let place = match seen.looked {
             Looked::Done(_, later, at) => {
                 room = later;
-                place = at;
+                at
             }
             Looked::Wants(wanted) => {
-                let a = carry(
-                    s, index, room, wanted, payload, q.payload, days, numbers, text, out,
+                let answered = carry(
+                    service,
+                    index,
+                    room,
+                    wanted,
+                    payload,
+                    request.payload,
+                    days,
+                    numbers,
+                    text,
+                    out,
                 );
-                s = a.service;
-                room = a.room;
-                place = a.place;
+                service = answered.service;
+                room = answered.room;
+                answered.place
             }
-        }
-        let g = incoming::gather(rt, gathered, q.held, out, place);
-        if !g.open {
+        };
+        let Some(n) = incoming::gather(rt, gathered, request.held, out, place) else {
             return;
-        }
-        held = g.held;
-        start = q.start;
-        end = q.end;
-        turns -= 1;
+        };
+        held = n;
+        start = request.start;
+        end = request.end;
     }
 }
 
@@ -234,10 +214,7 @@ fn serve_fresh(rt: &HostRuntime) {
 // Whether the answer of a reading, from the place `at` on, refuses the text: it begins with the first letter of `refused`, and else with
 // that of `ok`.
 fn is_refused(out: &[u8; OUT], at: usize) -> bool {
-    if at < OUT {
-        return out[at] == b'r';
-    }
-    false
+    out.get(at) == Some(&b'r')
 }
 
 // Says that the file's register is refused, by the answer of its reading.
@@ -259,8 +236,7 @@ fn serve_text(rt: &HostRuntime, path: &[u8], text: &[u8]) {
         return;
     }
     if open {
-        let service = a.service;
-        serve(rt, service, &mut index);
+        serve(rt, a.service, &mut index);
     }
 }
 
@@ -272,27 +248,23 @@ fn report(rt: &HostRuntime, path: &[u8], error: &io::Error) {
 
 // Opens the file of that name, which the library takes as text alone.
 fn open(rt: &HostRuntime, path: &[u8]) -> io::Result<File> {
-    match str::from_utf8(path) {
-        Ok(name) => File::open(rt, name),
-        Err(_) => Err(io::Error::from(ErrorKind::InvalidFilename)),
-    }
+    let name = str::from_utf8(path).map_err(|_| io::Error::from(ErrorKind::InvalidFilename))?;
+    File::open(rt, name)
 }
 
 // Reads the file of that name until the text is full or the file ends, and closes it.
-fn read_file(rt: &HostRuntime, path: &[u8], text: &mut [u8]) -> Input
+fn read_file(rt: &HostRuntime, path: &[u8], text: &mut [u8]) -> io::Result<usize>
     ensures { Within (length text.old) result }
 {
-    match open(rt, path) {
-        Ok(mut file) => input::fill(&mut file, text),
-        Err(error) => Input::Failed(error),
-    }
+    let mut file = open(rt, path)?;
+    input::fill(&mut file, text)
 }
 
 fn serve_file(rt: &HostRuntime, path: &[u8]) {
     let mut text = [0u8; FILE];
     match read_file(rt, path, &mut text) {
-        Input::Read(n) => serve_text(rt, path, &text[0..n]),
-        Input::Failed(error) => report(rt, path, &error),
+        Ok(n) => serve_text(rt, path, &text[..n]),
+        Err(error) => report(rt, path, &error),
     }
 }
 
@@ -307,7 +279,7 @@ fn usage(rt: &HostRuntime) {
 fn serve_named(rt: &HostRuntime, path: &[u8; PATH], n: usize)
     requires { n ≤ 4096 }
 {
-    if !matches!(rt.arg(2, &mut []), Err(FillError::NotPresent)) || path[0] == DASH {
+    if !matches!(rt.arg(2, &mut []), Err(FillError::NotPresent)) || path[0] == b'-' {
         usage(rt);
         return;
     }

@@ -4,7 +4,7 @@ use Rattle.service.proofs.Asking.{reads_met}
 use Rattle.service.proofs.Names.{Register, good, bad, read_text, write_all, loaded_of, list_of, Fresh, Publish, Write, accepted, settle, fresh, begun, refusal_in, line_in, effect_of, Outcome, told_of, wrote_of, asking, index_of, Service, Stepped, service_of, Blocks, blocks, Valid, Represents, Given, keeping, Met, Publishes, Wrote, Begins}
 use Rattle.spell.{specs.Listing.Sound, proofs.Order.answer_order}
 use Rattle.model.{proofs.Edits.orderly_none, specs.Publishing.published_of, proofs.Publishing.published_orderly}
-use Rattle.register.{specs.declared.Written.Written, specs.declared.Reading.Reading, specs.Answers.{reading_of, Writes}}
+use Rattle.register.specs.Answers.{Read, reading_of, Written, Writes}
 use Rattle.standing.{specs.declared.Standing.Standing, proofs.Loading.{loads}}
 use Rattle.rules.{specs.Rules.is_rule, proofs.Rules.cut_sound}
 use Rattle.published_index.specs.Index.{rule_refusal, Shows}
@@ -21,7 +21,7 @@ unfolding reading_of begun
 read_in (good l) = (refl, refl, refl)
 read_in (bad n line) = (refl, refl, refl)
 
-pub begins_read : (text : List ℕ) {got : Reading} {st : Standing} {ix : List ℕ} → got ≡ reading_of (read_text text) → st ≡ loaded_of got → ix ≡ index_of []
+pub begins_read : (text : List ℕ) {got : Read} {st : Standing} {ix : List ℕ} → got ≡ reading_of (read_text text) → st ≡ loaded_of got → ix ≡ index_of []
     → Begins (read_text text) (record { service = service_of st; refusal = got.refusal; line = got.line }) (blocks ix)
 begins_read text {ix = ix} r l e =
     let d = loads text (read_text text) refl in

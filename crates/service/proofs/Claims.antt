@@ -1,6 +1,6 @@
 -- Demand 3 with no driver: whoever makes the calls, the answers are the account's. Assumes nothing.
 use Rattle.basis.proofs.Prelude.{◌≡◌, refl, ℕ, List, true}
-use Rattle.service.proofs.{Names.{Spell, read_text, Amend, idle, fresh, begun, Request, Answer, step, run, Service, Started, leaves_of, leaves, Blocks, Represents, Given, Begins, Made, none, then}, Represented.represented}
+use Rattle.service.proofs.{Names.{Spell, read_text, Amend, idle, fresh, begun, Request, Answer, step, run, Service, Begun, leaves_of, leaves, Blocks, Represents, Given, Begins, Made, none, then}, Represented.represented}
 use Rattle.model.specs.Model.{State}
 
 -- A WHOLE LIST OF CALLS on a service and blocks that stand for m has the answers of the account's own run from m
@@ -23,7 +23,7 @@ module _ {sv' : Service} {bs bs' : Blocks} {qs : List Request} {answers : List A
   made_fresh s = made_run fresh s
 
   -- BEGUN ON A REGISTER'S BYTES, a refused reading included: what `read` ensures is enough
-  pub made_read : (register : List ℕ) (r : Started) → Begins (read_text register) r bs → Made r.service bs qs answers sv' bs' → answers ≡ run (begun (read_text register)) qs
+  pub made_read : (register : List ℕ) (r : Begun) → Begins (read_text register) r bs → Made r.service bs qs answers sv' bs' → answers ≡ run (begun (read_text register)) qs
   made_read register r b = made_run (begun (read_text register)) b.represents
 
 -- AN IDLE AMEND leaves the whole service as it was

@@ -1,18 +1,18 @@
 -- From an edit of the standing list to the postcondition of the call. Assumes nothing.
 use Rattle.basis.proofs.Prelude.{◌≡◌, ap, refl, sym, ℕ, List, [], ◌∷◌, Bool, cond, false, false≢true, true, eqb, eqb-true, by_test}
 use Rattle.service.proofs.Names.{accepted, Spell, Wf, list_of, pasts, Edits, TakesBack, Does, Call, Enter, Amend, Strike, TakeBack, Publish, Write, Ask, take_back_refusal, front_or, rest_of, State, Request, Effect, settle, become, edit, take_back, effect_of, asking, with_standing, Outcome, told_of, answer_of, Service, Stepped, service_of, leaves_of, Blocks, Represents, Changed, Changes}
-use Rattle.standing.specs.declared.{Edited.Edited, Standing.Standing}
+use Rattle.standing.specs.{Standing.After, declared.Standing.Standing}
 use Rattle.journal.specs.declared.Undo.{Undo}
 
-abbrev stepped_of : Edited → Stepped
+abbrev stepped_of : After → Stepped
 stepped_of e = record { service = service_of e.standing; outcome = told_of e.refusal }
 
 -- the standing list and the past after an edit, with what is told of it, are those of an effect on the state m
-abbrev Follows : Edited → State → Effect → Request → Type 0
+abbrev Follows : After → State → Effect → Request → Type 0
 Follows e m f q = settle f m q ≡ record { state = with_standing (list_of e.standing) (pasts e.standing) m; answer = answer_of (told_of e.refusal) q.numbers q.text }
 
 -- a result that follows what the call does, whatever stands beside it
-changed : {sv : Service} {c : Call} {e : Edited} → Wf e.standing → e.standing ≡ leaves_of sv.standing c → (eqb e.refusal accepted ≡ false → e.standing ≡ sv.standing)
+changed : {sv : Service} {c : Call} {e : After} → Wf e.standing → e.standing ≡ leaves_of sv.standing c → (eqb e.refusal accepted ≡ false → e.standing ≡ sv.standing)
     → ((m : State) (bs : Blocks) (q : Request) → Represents sv bs m → Follows e m (effect_of c q.days m) q) → Changed sv c (stepped_of e)
 changed {c = c} w whole kept f = record {
   valid = record { standing = w };
@@ -26,7 +26,7 @@ changed {c = c} w whole kept f = record {
 }
 
 -- enter, amend, strike: idle by the test i, refused with the number n, and else the standing list becomes l
-module _ {sv : Service} {e : Edited} {l : List Spell} {u : Undo} where
+module _ {sv : Service} {e : After} {l : List Spell} {u : Undo} where
   edit_follows : (i : Bool) {n : ℕ} (m : State) (bs : Blocks) (q : Request) → Edits sv.standing e i n l u → Represents sv bs m
       → Follows e m (cond i (become n m.standing m.past m) (edit n l m)) q
   unfolding settle
@@ -38,7 +38,7 @@ module _ {sv : Service} {e : Edited} {l : List Spell} {u : Undo} where
   edit_kept i d t = d.kept (by_test i (λ e. rw e) (λ e. rw (e, ← d.refusal) t))
 
 -- take back, which is refused where there is no past
-back_follows : {sv : Service} {e : Edited} (m : State) (bs : Blocks) (q : Request) → TakesBack sv.standing e → Represents sv bs m → Follows e m (take_back m.past m) q
+back_follows : {sv : Service} {e : After} (m : State) (bs : Blocks) (q : Request) → TakesBack sv.standing e → Represents sv bs m → Follows e m (take_back m.past m) q
 unfolding take_back take_back_refusal front_or rest_of settle
 back_follows m bs q d h = rw (d.refusal, d.past, d.list, h.past, h.standing) (go m.past refl)
   where

@@ -6,7 +6,7 @@ pub use Rattle.published_index.specs.Index.{Published, index_of}
 pub use Rattle.refusal.specs.Table.{accepted}
 pub use Rattle.register.specs.Text.{Register, bad, good, write_all}
 unfoldable pub use Rattle.register.specs.Text.{read_text}
-pub use Rattle.service.specs.{History.{Made, Steps, none, then}, Places.{fresh_service, leaves, service_of}, Service.{Begins, Blocks, Changed, Changes, Given, Met, Publishes, Represents, Valid, Wrote, blocks, keeping}, declared.Service.Service, declared.Started.Started, declared.Stepped.Stepped}
+pub use Rattle.service.specs.{History.{Made, Steps, none, then}, Places.{fresh_service, leaves, service_of}, Service.{Begins, Begun, Blocks, Changed, Changes, Given, Met, Publishes, Represents, Valid, Wrote, begun_in, blocks, keeping}, declared.Service.Service, declared.Started.Started, declared.Stepped.Stepped}
 unfoldable pub use Rattle.service.specs.Places.{leaves_of}
 pub use Rattle.spell.specs.declared.Spell.{Spell}
 pub use Rattle.standing.specs.{Places.{entering, loaded_of, replacing}, Standing.{Edits, Fresh, TakesBack, Wf, after_edit, list_of, makes, pasts}}

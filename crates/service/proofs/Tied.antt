@@ -3,7 +3,7 @@ use Rattle.basis.proofs.Prelude.{◌≡◌, refl, ℕ, List}
 use contract.Lifetimes.{Lfts}
 use denote.MutBor.{MutBor}
 use denote.Ref.{Bor}
-use Rattle.service.proofs.{Names.{Spell, read_text, Call, Enter, Amend, Strike, TakeBack, Publish, Write, Ask, Question, fresh, Outcome, asking, Published, Service, Stepped, Started, fresh_service, Blocks, blocks, Valid, Represents, Given, keeping, Met, Changed, Changes, Begins, Steps}, Asking.asked_met, Beginning.publishes_met}
+use Rattle.service.proofs.{Names.{Spell, read_text, Call, Enter, Amend, Strike, TakeBack, Publish, Write, Ask, Question, fresh, Outcome, asking, Published, Service, Stepped, Started, fresh_service, Blocks, blocks, Valid, Represents, Given, keeping, Met, Changed, Changes, Begins, begun_in, Steps}, Asking.asked_met, Beginning.publishes_met}
 use Rattle.model.specs.declared.Question.TheVariants.{Day, Span, Cover, Days, Mask}
 use Rattle.service.specs.Packed.{unpacked, Packs}
 use Rattle.service.proofs as calls
@@ -24,7 +24,7 @@ pub fresh_is : (κs : Lfts 1) (sv : Service) (index index' : MutBor (List ℕ)) 
 fresh_is κs sv index index' = (refl, refl)
 
 pub read_is : (κs : Lfts 2) (r : Started) (text : Bor (List ℕ)) (index index' : MutBor (List ℕ)) → Is (calls.read.Reads.Pre κs) (calls.read.Reads.Post κs) (text, (index, tt)) r (text, (index', tt))
-    (Unit {0}) (Begins (read_text text.now) r (blocks index'.now))
+    (Unit {0}) (Begins (read_text text.now) (begun_in r) (blocks index'.now))
 read_is κs r text index index' = (refl, refl)
 
 -- ---- Edits: of an edit or a take back a step

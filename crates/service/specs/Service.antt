@@ -1,10 +1,12 @@
 -- How a service and its index stand for the account's state, and the one postcondition of a call. Assumes nothing.
-use Rattle.std.specs.Prelude.{ℕ, ◌≡◌, false, eqb, List}
+use Rattle.std.specs.Prelude.{ℕ, ◌≡◌, false, eqb, List, Result, Ok, Err}
 use Rattle.refusal.specs.Table.{accepted}
+use Rattle.refusal.specs.Numbers.{number_of}
 use Rattle.standing.specs.Standing.{Wf, list_of, pasts}
 use Rattle.model.specs.declared.Call.{Call}
 use Rattle.model.specs.declared.Call.TheVariants.{Enter, Amend, Strike, TakeBack, Publish, Write, Ask}
 use Rattle.register.specs.Text.{Register}
+use Rattle.register.specs.declared.Refused.{Refused}
 use Rattle.model.specs.Model.{State, begun, refusal_in, line_in, Request, step}
 use Rattle.outcomes.specs.declared.Outcome.{Outcome}
 use Rattle.outcomes.specs.Outcomes.{told_of, asking, answer_of}
@@ -83,8 +85,27 @@ pub record Publishes (sv : Service) (rule : ℕ) (bs : Blocks) (r : Stepped) (bs
 
 -- ---- The beginning
 
+-- what a reading gives, by its numbers: the service, and the refusal's number with its line, or 0 and 0
+pub record Begun : Type 0 where
+  pub service : Service
+  pub refusal : ℕ
+  pub line : ℕ
+
+-- the number of the refusal of what was read, and its line; 0 where it is accepted
+abbrev pub number_at : {A : Type 0} → Result A Refused → ℕ
+number_at (Ok a) = accepted
+number_at (Err met) = number_of met.refusal
+
+abbrev pub line_at : {A : Type 0} → Result A Refused → ℕ
+line_at (Ok a) = 0
+line_at (Err met) = met.line
+
+-- what a reading gives, as a call returns it
+abbrev pub begun_in : Started → Begun
+begun_in r = record { service = r.service; refusal = number_at r.outcome; line = line_at r.outcome }
+
 -- a reading: service and blocks stand for the state with which the account begins, and every place of the service is given
-pub record Begins (g : Register) (r : Started) (bs : Blocks) : Type 0 where
+pub record Begins (g : Register) (r : Begun) (bs : Blocks) : Type 0 where
   pub whole : r.service ≡ read_service g
   pub represents : Represents r.service bs (begun g)
   pub refusal : r.refusal ≡ refusal_in g

@@ -6,12 +6,13 @@ ghost use Rattle.register.specs.Text.{read_text};
 ghost use Rattle.model.specs.Model.{fresh};
 ghost use Rattle.outcomes.specs.Outcomes.{asking};
 ghost use Rattle.service.specs.Places.{fresh_service};
-ghost use Rattle.service.specs.Service.{blocks, Valid, Represents, Given, keeping, Met, Changes, Publishes, Wrote, Begins};
+ghost use Rattle.service.specs.Service.{blocks, Valid, Represents, Given, keeping, Met, Changes, Publishes, Wrote, Begins, begun_in};
 ghost use Rattle.service.specs.Packed.{unpacked, Packs};
 ghost use Rattle.service.specs.Clauses.{Beside};
 
 use model::Call;
 use outcomes::Outcome;
+use register::Refused;
 use stabbing::INDEX;
 use standing::Standing;
 use standing::words::STANDING;
@@ -29,12 +30,11 @@ pub struct Stepped {
     pub outcome: Outcome,
 }
 
-// What reading a register gives: the service, and the refusal's number with its line, or 0 and 0.
+// What reading a register gives: the service, and where the text is refused, why and at which line.
 #[derive(Clone, Copy)]
 pub struct Started {
     pub service: Service,
-    pub refusal: u16,
-    pub line: u16,
+    pub outcome: Result<(), Refused>,
 }
 
 // ---- The beginning
@@ -52,17 +52,22 @@ pub fn fresh(index: &mut [u16; INDEX]) -> Service
 
 // The service that a register text makes; a refused text makes a fresh one.
 pub fn read(text: &[u8], index: &mut [u16; INDEX]) -> Started
-    ensures { Begins (read_text text.now) result (blocks index.new) }
+    ensures { Begins (read_text text.now) (begun_in result) (blocks index.new) }
 {
     list_publishing::fresh(index);
-    let got = register_read::read(text);
-    let service = Service {
-        standing: standing::loaded(got),
-    };
-    Started {
-        service,
-        refusal: got.refusal,
-        line: got.line,
+    match register_read::read(text) {
+        Ok(got) => Started {
+            service: Service {
+                standing: standing::loaded(got),
+            },
+            outcome: Ok(()),
+        },
+        Err(refused) => Started {
+            service: Service {
+                standing: standing::fresh(),
+            },
+            outcome: Err(refused),
+        },
     }
 }
 
@@ -75,12 +80,11 @@ pub fn edit(service: Service, call: Call) -> Stepped
     ensures { Changes service call result }
 {
     let e = standing::edit(service.standing, call);
-    let standing = e.standing;
-    let after = Service { standing };
-    let outcome = told(e.refusal);
     Stepped {
-        service: after,
-        outcome,
+        service: Service {
+            standing: e.standing,
+        },
+        outcome: told(e.outcome),
     }
 }
 
@@ -127,10 +131,7 @@ fn beside(
     ensures { Beside service (blocks index.old) call o dates.now numbers.old text.old result (blocks index.new) numbers.new text.new }
 {
     match call {
-        Call::Enter(_) => o,
-        Call::Amend(_) => o,
-        Call::Strike(_) => o,
-        Call::TakeBack => o,
+        Call::Enter(_) | Call::Amend(_) | Call::Strike(_) | Call::TakeBack => o,
         Call::Publish(rule) => published(service, rule, index),
         Call::Write => write(service, text),
         Call::Ask(question) => questions::ask(index, question, dates, numbers),
@@ -150,11 +151,9 @@ pub fn step(
     ensures { Met service (blocks index.old) (asking call dates.now numbers.old text.old) result (blocks index.new) numbers.new text.new }
 {
     let e = edit(service, call);
-    let next = e.service;
-    let o = e.outcome;
-    let outcome = beside(service, index, call, o, dates, numbers, text);
+    let outcome = beside(service, index, call, e.outcome, dates, numbers, text);
     Stepped {
-        service: next,
+        service: e.service,
         outcome,
     }
 }

@@ -1,7 +1,7 @@
 -- A request that is coming in pieces: what has come of it is what the bytes read so far make; and an answer gathered, a request seen. Assumes nothing.
-use Rattle.basis.proofs.Prelude.{◌∙◌, ◌≡◌, ◌≤◌, ℕ, List, [], ◌++◌, append_assoc, append-nil, true, length, take, arith, ◌<◌, inl, inr, ltb, ltb-true}
+use Rattle.basis.proofs.Prelude.{◌∙◌, ◌≡◌, ◌≤◌, ℕ, List, [], ◌++◌, append_assoc, append-nil, true, length, take, arith, ◌<◌, inl, inr}
 use Rattle.streams.{specs.{declared.{Frame.Frame, Framed.{Framed, TheVariants.{Whole, Part}}}, Stream.begun, Advancing.{next, part_of, partial_of, Advances}, History.opened}, proofs.Claims.{go_on, next_append}}
-use Rattle.serving.specs.{Serving.{between, Takes, Gathers, Sees}, declared.Incoming.Incoming}
+use Rattle.serving.specs.Serving.{between, Taken, Takes, Gathers, Sees}
 use Rattle.gathering.{specs.Gathering.Appended, proofs.Gathering.grown}
 use Rattle.service.specs.Service.{Blocks}
 use Rattle.conversations.specs.{declared.Looked.Looked, Answering.Looks}
@@ -45,12 +45,12 @@ module _ (answer gathered : List ℕ) (held : ℕ) where
   gathers_after n gathered' a h = λ _. inl (grown answer gathered held n gathered' a h)
 
   -- after a write it stands alone
-  pub gathers_alone : (kept : List ℕ) (n : ℕ) (gathered' : List ℕ) → Appended answer kept 0 n gathered'
-      → Gathers answer gathered held (record { held = n; «open» = ltb 0 n }) gathered'
-  gathers_alone kept n gathered' a = λ e. inr (grown answer kept 0 n gathered' a (ltb-true 0 n e))
+  pub gathers_alone : (kept : List ℕ) (n : ℕ) (gathered' : List ℕ) → Appended answer kept 0 n gathered' → 0 < n
+      → Gathers answer gathered held (record { held = n; «open» = true }) gathered'
+  gathers_alone kept n gathered' a h = λ e. inr (grown answer kept 0 n gathered' a h)
 
 -- a request that is taken, with a look at its line
-pub sees : {arrived arrived' line' payload' : List ℕ} {start end : ℕ} {q : Incoming} {bs : Blocks} {room : ℕ}
+pub sees : {arrived arrived' line' payload' : List ℕ} {start end : ℕ} {q : Taken} {bs : Blocks} {room : ℕ}
     {days numbers text out days' numbers' out' : List ℕ} {l : Looked}
     → Takes arrived start end q arrived' line' payload'
     → (q.whole ≡ true → Looks bs room (take q.line line') days numbers text out l days' numbers' out')

@@ -1,6 +1,7 @@
 -- A request carried out on the service of a host's words is carried out on the words, and an edit made on the words is the request that asks for it.
 -- Assumes nothing.
-use Rattle.basis.proofs.Prelude.{◌∙◌, ◌≡◌, ap, refl, sym, ◌<◌, ◌≤◌, ℕ, ◌≢◌, List, leb, zero-le, le-leb, lt-leb, by_test, min, length, take, take-append-drop, length-take-le, arith}
+use Rattle.basis.proofs.Prelude.{◌∙◌, ◌≡◌, ap, refl, sym, ◌<◌, ◌≤◌, ℕ, List, Bool, false, true, leb, zero-le, le-leb, lt-leb, by_test, min, length, take, take-append-drop, length-take-le, arith}
+use Rattle.std.specs.Int.{from_bool}
 use Rattle.model.specs.{Model.State, Journal.journal, declared.Call.{Call, TheVariants.{Enter, Amend, Strike, TakeBack, Publish, Write, Ask}}}
 use Rattle.requests.specs.{declared.Request.Request, Requests.asked_of}
 use Rattle.service.{specs.{declared.{Service.Service, Stepped.Stepped}, Packed.{unpacked, Packs}, Service.{Blocks, Represents, Given, Changed, Changes}}, proofs.Editing.changes}
@@ -22,18 +23,18 @@ pub unpacked_given : (words : List ℕ) {sv : Service} {bs : Blocks} → sv ≡ 
 unpacked_given words e g = rw e g
 
 module _ (x : Wanted) (words : List ℕ) {bs bs' : Blocks} (room : ℕ) {word power changed : ℕ} {payload : List ℕ} (days : List ℕ) {numbers text out numbers' text' out' : List ℕ}
-    {sv : Service} {a : Answered} (asked : sv ≡ unpacked words) (answers : Answers sv bs (room_of room) (asked_in x days) payload numbers text out a bs' numbers' text' out')
-    (w : word ≡ wanted_word x) (is : power ≡ power_of word) (told : changed ≡ changed_at power out' a.place) where
+    {sv : Service} {a : Answered} (flag : Bool) (asked : sv ≡ unpacked words) (answers : Answers sv bs (room_of room) (asked_in x days) payload numbers text out a bs' numbers' text' out')
+    (w : word ≡ wanted_word x) (is : power ≡ power_of word) (bit : changed ≡ from_bool flag) (told : from_bool flag ≡ changed_at power out' a.place) where
   named : word ≡ word_of (asked_in x days)
   named = w ∙ wanted_word_lem x days
 
   changed_is : changed ≡ changed_at (power_of (word_of (asked_in x days))) out' a.place
-  changed_is = told ∙ rw (is, named)
+  changed_is = bit ∙ told ∙ rw (is, named)
 
   -- nothing was changed: the state is the one before, and the words stay
-  pub change_none : Given (unpacked words) bs → changed ≡ 0
+  pub change_none : Given (unpacked words) bs → flag ≡ false
       → Changing (asked_in x days) words bs room payload numbers text out (record { word = word; changed = changed; room = a.room; place = a.place }) words bs' numbers' text' out'
-  change_none g none = let b = rw asked at answers in let t = b.turned in let q = asked_in x days in
+  change_none g e = let none : changed ≡ 0 = bit ∙ rw e in let b = rw asked at answers in let t = b.turned in let q = asked_in x days in
       let taken : (m : State) → Represents (unpacked words) bs m → Taken (turn_of q payload (conv m (room_of room))) out (record { service = unpacked words; room = a.room; place = a.place }) bs' out' =
       λ m rep. let k = t.taken m rep in
       let same : (turn_of q payload (conv m (room_of room))).next.state ≡ m = unkept m payload (room_of room) q (sym (changed_journal m payload (room_of room) q k.sends) ∙ sym changed_is ∙ none) in
@@ -41,12 +42,12 @@ module _ (x : Wanted) (words : List ℕ) {bs bs' : Blocks} (room : ℕ) {word po
       search (named, changed_is, taken) depth 8
 
   -- else the words are those of the service after it
-  pub change_packed : (words' : List ℕ) → Packs a.service words' → changed ≢ 0
+  pub change_packed : (words' : List ℕ) → Packs a.service words' → flag ≡ true
       → Changing (asked_in x days) words bs room payload numbers text out (record { word = word; changed = changed; room = a.room; place = a.place }) words' bs' numbers' text' out'
-  change_packed words' p some = record {
+  change_packed words' p e = record {
     answers = rw p.back (rw asked at answers);
     laid = λ _. laid words' a.service p;
-    kept = λ none. absurd (some (changed_is ∙ (unfold changed_at in rw none)));
+    kept = λ none. let zero : changed ≡ 0 = changed_is ∙ (unfold changed_at in rw none) in let one : changed ≡ 1 = bit ∙ rw e in absurd (omega arith);
     word = named;
     changed = changed_is;
   }
@@ -62,9 +63,10 @@ module _ (x : Wanted) {word power : ℕ} {words : List ℕ} {bs : Blocks} {room 
       → RequestedOf (asked_in x days) words bs room allowed payload numbers text out r words' bs' numbers' text' out'
   changed_requested h c = record { done = rw (of_power x days w is, le-leb power allowed h) c }
 
-  pub edits_requested : {words' out' : List ℕ} → power ≤ allowed → Given (unpacked words) bs → EditsIn x words room numbers text out r words' out'
+  pub edits_requested : {words' out' : List ℕ} {c : Call} {k : ℕ} → x ≡ WantedCall c k → power ≤ allowed → Given (unpacked words) bs
+      → ((k : ℕ) → EditsIn (WantedCall c k) words room numbers text out r words' out')
       → RequestedOf (asked_in x days) words bs room allowed payload numbers text out r words' bs numbers text out'
-  edits_requested h g e = changed_requested h (e.edits bs payload days g)
+  edits_requested {k = k} e h g edited = changed_requested h ((rw (← e) at (edited k)).edits bs payload days g)
 
   pub held_requested : allowed < power → r ≡ held_at word room → RequestedOf (asked_in x days) words bs room allowed payload numbers text out r words bs numbers text out
   held_requested h told = record { done = rw (of_power x days w is, lt-leb power allowed h) (let named : r ≡ held_at (word_of (asked_in x days)) room = told ∙ rw (w, wanted_word_lem x days) in search) }
@@ -118,27 +120,29 @@ edit_turned {words} c room numbers text word e is top few short s = record {
   laid = e.laid;
 }
 
--- ---- What wants an edit, by its word
+-- ---- An edit that is wanted
 
-pub wanted_below : (c : Call) {k word : ℕ} {x : Wanted} → x ≡ WantedCall c k → word ≡ wanted_word x → word < 20 → call_word c < 20
-wanted_below c e w h = omega (arith, w ∙ ap wanted_word e)
+-- a call's word is none of a line's of no form, of a room's or a reading's
+call_word_ge : (c : Call) → 16 ≤ call_word c
+call_word_ge (Enter s) = omega arith
+call_word_ge (Amend s) = omega arith
+call_word_ge (Strike k) = omega arith
+call_word_ge TakeBack = omega arith
+call_word_ge (Publish rule) = omega arith
+call_word_ge Write = omega arith
+call_word_ge (Ask w) = omega arith
 
 -- it is carried out by its turn, with the room that it has
-pub edit_carried : {words words' numbers text out out' : List ℕ} {x : Wanted} {c : Call} {k word changed : ℕ} (room : ℕ) {least place : ℕ} → x ≡ WantedCall c k → word ≡ wanted_word x → 16 ≤ word
-    → word < 20 → least ≡ min room 65536 → changed ≡ changed_at 1 out' place → EditTurn c words least numbers text out place words' out'
-    → EditsIn x words room numbers text out (record { word = word; changed = changed; room = least; place = place }) words' out'
-edit_carried {c = c} {k} {word} room e w low high is told turn =
-    let named : word ≡ call_word c = w ∙ ap wanted_word e in let one : power_of (call_word c) ≡ 1 = rw (← named) (sym (power_mid word low (omega arith))) in rw e (record {
+pub edit_carried : {words words' numbers text out out' : List ℕ} (c : Call) {word changed : ℕ} (flag : Bool) (room : ℕ) {least place : ℕ} → word ≡ call_word c → word < 20
+    → least ≡ min room 65536 → changed ≡ from_bool flag → from_bool flag ≡ changed_at 1 out' place → EditTurn c words least numbers text out place words' out'
+    → (k : ℕ) → EditsIn (WantedCall c k) words room numbers text out (record { word = word; changed = changed; room = least; place = place }) words' out'
+edit_carried c {word} flag room w high is bit told turn k =
+    let low = call_word_ge c in let one : power_of (call_word c) ≡ 1 = rw (← w) (sym (power_mid word (omega arith) (omega arith))) in record {
       edits = λ bs payload days g. record {
         answers = rw (← is) (turn.answers bs (take k days) payload g);
         laid = turn.laid;
         kept = λ none. absurd (omega (arith, one));
-        word = named;
-        changed = rw one told;
+        word = w;
+        changed = rw one (bit ∙ told);
       };
-    })
-
--- a reading's word is 2
-pub no_edit : {words words' numbers text out out' : List ℕ} {x : Wanted} {n word room : ℕ} {r : Carried} → x ≡ WantedRead n → word ≡ wanted_word x → 16 ≤ word
-    → EditsIn x words room numbers text out r words' out'
-no_edit e w h = absurd (omega (arith, w ∙ ap wanted_word e))
+    }

@@ -1,3 +1,1 @@
-pub mod Names
-pub mod Merging
-pub mod Halving
+pub mod Permuted

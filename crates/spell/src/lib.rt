@@ -2,14 +2,14 @@
 #![tactic(auto)]
 
 // The urgency: a listed grade or a measured reading.
-#[derive(Clone, Copy)]
+#[derive(Clone, Copy, Debug)]
 pub enum Urgency {
     Grade(u16),
     Reading(f32),
 }
 
 // Both days are counted in.
-#[derive(Clone, Copy)]
+#[derive(Clone, Copy, Debug)]
 pub struct Spell {
     pub number: u16,
     pub candidate: u16,

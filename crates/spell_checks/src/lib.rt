@@ -2,6 +2,7 @@
 #![tactic(auto)]
 
 ghost use Rattle.std.specs.Prelude.{◌≡◌};
+ghost use Rattle.refusal.specs.Numbers.{number_in};
 ghost use Rattle.spell.specs.Blank.{blank};
 ghost use Rattle.spell.specs.Entry.{urgency_ok, refusal_of};
 ghost use Rattle.spell.specs.Order.{earlier_of};
@@ -9,7 +10,7 @@ ghost use Rattle.spell.specs.Same.{same_urgency, same_of};
 
 use calendar::is_day;
 use readings::bits_of;
-use refusal::{ACCEPTED, BAD_URGENCY, NO_CANDIDATE, NO_NUMBER, OFF_CALENDAR, REVERSED};
+use refusal::Refusal;
 use spell::{Spell, Urgency};
 
 // What stands in a place that holds no spell.
@@ -32,40 +33,31 @@ fn urgency_ok(u: Urgency) -> bool
     ensures { result ≡ urgency_ok u }
 {
     match u {
-        Urgency::Grade(g) => {
-            if g < 1 {
-                return false;
-            }
-            g <= 4
-        }
+        Urgency::Grade(g) => 1 <= g && g <= 4,
         Urgency::Reading(x) => bits_of(x) <= 0x447A_0000,
     }
 }
 
-// The first of the checks 1 to 5 that refuses s, or 0.
-pub fn refusal_of(s: Spell) -> u16
-    ensures { result ≡ refusal_of s }
+// The first of the checks 1 to 5 that refuses s.
+pub fn check(s: Spell) -> Result<(), Refusal>
+    ensures { number_in result ≡ refusal_of s }
 {
     if s.number == 0 {
-        return NO_NUMBER;
+        return Err(Refusal::NoNumber);
     }
     if s.candidate == 0 {
-        return NO_CANDIDATE;
+        return Err(Refusal::NoCandidate);
     }
-    if !is_day(s.first) {
-        return OFF_CALENDAR;
-    }
-    if !is_day(s.last) {
-        return OFF_CALENDAR;
+    if !is_day(s.first) || !is_day(s.last) {
+        return Err(Refusal::OffCalendar);
     }
     if s.last < s.first {
-        return REVERSED;
+        return Err(Refusal::Reversed);
     }
-    let u = s.urgency;
-    if !urgency_ok(u) {
-        return BAD_URGENCY;
+    if !urgency_ok(s.urgency) {
+        return Err(Refusal::BadUrgency);
     }
-    ACCEPTED
+    Ok(())
 }
 
 // ---- The order
@@ -74,13 +66,7 @@ pub fn refusal_of(s: Spell) -> u16
 pub fn earlier(a: Spell, b: Spell) -> bool
     ensures { result ≡ earlier_of a b }
 {
-    if a.first != b.first {
-        return a.first < b.first;
-    }
-    if a.last != b.last {
-        return a.last < b.last;
-    }
-    a.number < b.number
+    (a.first, a.last, a.number) < (b.first, b.last, b.number)
 }
 
 // ---- Equality in all fields
@@ -89,34 +75,19 @@ pub fn earlier(a: Spell, b: Spell) -> bool
 fn same_urgency(a: Urgency, b: Urgency) -> bool
     ensures { result ≡ same_urgency a b }
 {
-    match a {
-        Urgency::Grade(g) => match b {
-            Urgency::Grade(h) => g == h,
-            Urgency::Reading(_) => false,
-        },
-        Urgency::Reading(x) => match b {
-            Urgency::Grade(_) => false,
-            Urgency::Reading(y) => bits_of(x) == bits_of(y),
-        },
+    match (a, b) {
+        (Urgency::Grade(g), Urgency::Grade(h)) => g == h,
+        (Urgency::Reading(x), Urgency::Reading(y)) => bits_of(x) == bits_of(y),
+        _ => false,
     }
 }
 
 pub fn same(a: Spell, b: Spell) -> bool
     ensures { result ≡ same_of a b }
 {
-    if a.number != b.number {
-        return false;
-    }
-    if a.candidate != b.candidate {
-        return false;
-    }
-    if a.first != b.first {
-        return false;
-    }
-    if a.last != b.last {
-        return false;
-    }
-    let u = a.urgency;
-    let v = b.urgency;
-    same_urgency(u, v)
+    a.number == b.number
+        && a.candidate == b.candidate
+        && a.first == b.first
+        && a.last == b.last
+        && same_urgency(a.urgency, b.urgency)
 }

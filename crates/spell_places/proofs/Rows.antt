@@ -1,5 +1,5 @@
 -- The columns of a list of spells: how a loop lays one out. Assumes nothing.
-use Rattle.basis.proofs.Prelude.{◌∙◌, ◌≡◌, ap, refl, sym, ◌+◌, ◌<◌, ◌≤◌, suc, zero, ℕ, List, [], ◌++◌, ◌∷◌, map, drop, get_or, length, length-map, length-set, set, take, length-take-le, List·getD-map}
+use Rattle.basis.proofs.Prelude.{◌∙◌, ◌≡◌, ap, refl, sym, ◌+◌, ◌<◌, suc, zero, ℕ, List, [], ◌++◌, ◌∷◌, map, drop, get_or, length, length-map, length-set, set, take, take-length, List·getD-map}
 use Rattle.buffer.proofs.Overlaid as buffer
 use Rattle.orders.proofs.Each.{map-map}
 use Rattle.rules.specs.Rules.{cut, last_of}
@@ -26,14 +26,18 @@ module _ (f : Spell → ℕ) (a : List Spell) (before : List ℕ) where
   filled_more c i {v} is ha hb e = let so_far : set c i v ≡ map f (take (i + 1) a) ++ drop (i + 1) before = rw (e.so_far, map_take f i a, map_take f (i + 1) a)
       (buffer.filled before (map f a) i (f blank) v (is ∙ sym (List·getD-map f a i blank)) hb (rw length-map ha)) in search length-set
 
--- the column of the first n, in a field of the spells as a rule publishes them, is that of their list
-laid : (rule n : ℕ) (a : List Spell) (few : n ≤ length a) (f : Spell → ℕ) {before c : List ℕ} {i : ℕ} → i ≡ n
-    → Filled (λ s. f (cut rule s)) a before c i → c ≡ column_of f (map (cut rule) (take n a)) before
-laid rule n a few f done e = rw (map-map f (cut rule) (take n a), length-map, length-take-le n a few, ← done) e.so_far
+-- the column of a list, in a field of the spells as a rule publishes them
+laid : (rule : ℕ) (l : List Spell) (f : Spell → ℕ) {before c : List ℕ} → Filled (λ s. f (cut rule s)) l before c (length l) → c ≡ column_of f (map (cut rule) l) before
+laid rule l f e = rw (map-map f (cut rule) l, length-map) (rw take-length at e.so_far)
 
--- the columns of the first n spells, which are those that a count names, as a rule publishes them
-pub laid_out : (rule n count : ℕ) (a : List Spell) {i : ℕ} {numbers candidates firsts lasts numbers' candidates' firsts' lasts' : List ℕ} → n ≤ length a → take n a ≡ take count a → i ≡ n
-    → Filled (λ s. s.number) a numbers numbers' i → Filled (λ s. s.candidate) a candidates candidates' i → Filled (λ s. s.first) a firsts firsts' i → Filled (last_of rule) a lasts lasts' i
-    → LaidOut (map (cut rule) (take count a)) n numbers candidates firsts lasts numbers' candidates' firsts' lasts'
-laid_out rule n count a few named all number candidate first last =
-    let many = sym (length-map (take n a) (cut rule) ∙ length-take-le n a few) in rw (← named) (search laid)
+-- the columns of the list that a count names, as a rule publishes it
+pub laid_out : (rule : ℕ) (l l' : List Spell) {i n : ℕ} {numbers candidates firsts lasts numbers' candidates' firsts' lasts' : List ℕ} → l ≡ l' → i ≡ length l → n ≡ length l
+    → Filled (λ s. s.number) l numbers numbers' i → Filled (λ s. s.candidate) l candidates candidates' i → Filled (λ s. s.first) l firsts firsts' i → Filled (last_of rule) l lasts lasts' i
+    → LaidOut (map (cut rule) l') n numbers candidates firsts lasts numbers' candidates' firsts' lasts'
+laid_out rule l l' named done many number candidate first last = rw (← named) (record {
+  count = many ∙ sym (length-map l (cut rule));
+  number = laid rule l (λ s. s.number) (rw done at number);
+  candidate = laid rule l (λ s. s.candidate) (rw done at candidate);
+  first = laid rule l (λ s. s.first) (rw done at first);
+  last = laid rule l (λ s. s.last) (rw done at last);
+})

@@ -20,10 +20,6 @@ changing p puts s n a = over (putting puts s (without p (take n a))) a
 abbrev pub left_of : ℕ → ℕ → ℕ
 left_of n p = cond (ltb p n) (n - 1) n
 
--- the end of what an insertion among m spells moves
-abbrev pub end_of : ℕ → Bool → ℕ
-end_of m puts = cond (puts && ltb m 1024) (m + 1) 0
-
 -- one more than m, where one is put in and there is room
 abbrev pub plus_one : ℕ → Bool → ℕ
 plus_one m puts = cond (puts && ltb m 1024) (m + 1) m

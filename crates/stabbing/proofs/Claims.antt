@@ -1,6 +1,9 @@
 -- What the crate is for: the listing and the comparisons, shown once for any two days h and l, those of day, span and cover among them; and
 -- the links that publish stores. Assumes nothing.
-use Rattle.stabbing.proofs.{Listing.{Lists, lists}, Marks.keep_skip, Names.{Built, List, Sorted, [], ◌*◌, ◌<◌, ◌∙◌, ◌≡◌, ◌≤◌, ap, count, day_at, fits_at, formula, keep, latest, length, span_start, start, walk, zero-le, ℕ}, Starts.{cover_latest, start_span}, StoredLinks.{StoredLinks, stored_links}, Walk.{formula_le, right, start_is}}
+use Rattle.std.specs.Prelude.{Result, Ok, Err, IsOk}
+use Rattle.refusal.specs.{declared.Refusal.{Refusal, TheVariants.{NoNumber, NoCandidate, OffCalendar, Reversed, BadUrgency, DuplicateNumber, UnknownNumber, Full, NoHistory, UnsortedDays, ShortBuffer, Malformed, OutOfOrder, NoSuchRule}}, Table.accepted, Numbers.{number_of}}
+use Rattle.stabbing.specs.{declared.Listed.Listed, Answer.{told_in}}
+use Rattle.stabbing.proofs.{Listing.{Lists, lists}, Marks.keep_skip, Names.{arith, refl, refused, Built, List, Sorted, [], ◌*◌, ◌<◌, ◌∙◌, ◌≡◌, ◌≤◌, ap, count, day_at, fits_at, formula, keep, latest, length, span_start, start, walk, zero-le, ℕ}, Starts.{cover_latest, start_span}, StoredLinks.{StoredLinks, stored_links}, Walk.{formula_le, right, start_is}}
 
 module _ (fs ls : List ℕ) (sorted : Sorted fs ls) where
   -- what the walk from the start of "first ≤ h, last ≥ l" finds: h and l are d and d for DAY d, b and a for SPAN a to b, and the row's
@@ -37,3 +40,28 @@ module _ (fs ls : List ℕ) (sorted : Sorted fs ls) where
 -- THE LINKS as publish stores them: each the definition's mark, or 0 for none, in 8,192 bytes
 pub links_stored : (ix : List ℕ) → Built ix → StoredLinks ix
 links_stored ix b = stored_links ix b.block
+
+-- A REFUSAL is told by its number in the table; nothing is listed, and no comparison told
+pub refusal_told : (refusal : Refusal) (out : List ℕ) → told_in (Err refusal) ≡ (refused (number_of refusal) out).result
+refusal_told refusal out = refl
+
+-- and no refusal has the number of an accepted call
+some_number : (refusal : Refusal) → 0 < number_of refusal
+some_number NoNumber = omega arith
+some_number NoCandidate = omega arith
+some_number OffCalendar = omega arith
+some_number Reversed = omega arith
+some_number BadUrgency = omega arith
+some_number DuplicateNumber = omega arith
+some_number UnknownNumber = omega arith
+some_number Full = omega arith
+some_number NoHistory = omega arith
+some_number UnsortedDays = omega arith
+some_number ShortBuffer = omega arith
+some_number Malformed = omega arith
+some_number OutOfOrder = omega arith
+some_number NoSuchRule = omega arith
+
+pub told_ok : (r : Result Listed Refusal) → (told_in r).refusal ≡ accepted → IsOk r
+told_ok (Ok l) e = refl
+told_ok (Err refusal) e = absurd (omega (arith, some_number refusal, e))

@@ -14,6 +14,7 @@
 ghost use Rattle.std.specs.Prelude.{◌≡◌, true};
 ghost use Rattle.stabbing.specs.Index.{Block, Built};
 
+use refusal::Refusal;
 use stabbing::{INDEX, Listed, ROWS};
 use std::io::Read;
 
@@ -40,10 +41,10 @@ struct Line {
 
 // The number v with a digit more, or as it is where the byte is none.
 fn digit(v: u16, b: u8) -> u16 {
-    if b <= 32 {
+    if b <= b' ' {
         return v;
     }
-    ((v as u32 * 10 + b as u32 % 16) % 65536) as u16
+    v.wrapping_mul(10).wrapping_add(u16::from(b % 16))
 }
 
 // Reads the next six places, as far as there are so many.
@@ -53,10 +54,9 @@ fn read_places(rt: &HostRuntime, t: &mut [u8; 6]) {
 
 // The number in the next six places. Past the end they are spaces.
 fn read_number(rt: &HostRuntime) -> u16 {
-    let mut t = [32u8; 6];
+    let mut t = [b' '; 6];
     read_places(rt, &mut t);
-    let hundreds = digit(digit(digit(0, t[0]), t[1]), t[2]);
-    digit(digit(digit(hundreds, t[3]), t[4]), t[5])
+    t.iter().fold(0, |v, b| digit(v, *b))
 }
 
 fn read_line(rt: &HostRuntime) -> Line {
@@ -69,21 +69,18 @@ fn read_line(rt: &HostRuntime) -> Line {
 
 // Prints a byte of a name; a space is none.
 fn print_letter(rt: &HostRuntime, b: u8) {
-    if 32 < b {
+    if b' ' < b {
         print(rt, &[b]);
     }
 }
 
 // Prints what the next six places have of a name.
 fn print_letters(rt: &HostRuntime) {
-    let mut t = [32u8; 6];
+    let mut t = [b' '; 6];
     read_places(rt, &mut t);
-    print_letter(rt, t[0]);
-    print_letter(rt, t[1]);
-    print_letter(rt, t[2]);
-    print_letter(rt, t[3]);
-    print_letter(rt, t[4]);
-    print_letter(rt, t[5]);
+    for b in t {
+        print_letter(rt, b);
+    }
 }
 
 // Prints the name in the next line.
@@ -101,14 +98,11 @@ fn read_rows(
     c: &mut [u16; 1024],
     n: u16,
 ) {
-    let m = n as usize % 1025;
-    let mut p: usize = 0;
-    while p < m {
+    for p in 0..usize::from(n) % 1025 {
         let l = read_line(rt);
         a[p] = l.a;
         b[p] = l.b;
         c[p] = l.c;
-        p += 1;
     }
 }
 
@@ -119,27 +113,9 @@ fn mix(h: u64, x: u64) -> u64 {
     ((h % 1000003) * 31 + x % 1000003) % 1000003
 }
 
-fn to_u64(x: u16) -> u64 {
-    x as u64
-}
-
 // The checksum h with the first k places of the list taken in.
 fn mix_list(h: u64, list: &[u16], k: usize) -> u64 {
-    let mut s = h;
-    let mut i: usize = 0;
-    while i < list.len() {
-        if k <= i {
-            return s;
-        }
-        s = mix(s, to_u64(list[i]));
-        i += 1;
-    }
-    s
-}
-
-// The same of an array, whose length its type tells.
-fn mix_out(h: u64, out: &[u16; 1025], k: usize) -> u64 {
-    mix_list(h, out, k)
+    list.iter().take(k).fold(h, |s, x| mix(s, u64::from(*x)))
 }
 
 // ---- One question
@@ -153,24 +129,22 @@ struct Heard {
 }
 
 // The question of n days, from a on in equal steps, the second of which is b.
-fn several(index: &[u16; INDEX], a: u16, b: u16, n: u16, out: &mut [u16]) -> Listed
+fn several(index: &[u16; INDEX], a: u16, b: u16, n: u16, out: &mut [u16]) -> Result<Listed, Refusal>
     requires { Built index.now }
 {
     let mut days = [0u16; 4000];
     let step = b.wrapping_sub(a);
-    let m = n as usize % 4001;
+    let m = usize::from(n) % 4001;
     let mut d = a;
-    let mut i: usize = 0;
-    while i < m {
-        days[i] = d;
+    for day in days[..m].iter_mut() {
+        *day = d;
         d = d.wrapping_add(step);
-        i += 1;
     }
-    stabbing_days::days(index, &days[0..m], out)
+    stabbing_days::days(index, &days[..m], out)
 }
 
 // A question of a kind: a day, a span, a cover, or several days.
-fn put(index: &[u16; INDEX], kind: u16, q: Line, out: &mut [u16]) -> Listed
+fn put(index: &[u16; INDEX], kind: u16, q: Line, out: &mut [u16]) -> Result<Listed, Refusal>
     requires { Built index.now }
 {
     match kind {
@@ -187,17 +161,18 @@ fn hear(index: &[u16; INDEX], kind: u16, q: Line, room: usize, hash: u64) -> Hea
 {
     let mut out = [MARK; 1025];
     let m = room % 1026;
-    let r = put(index, kind, q, &mut out[0..m]);
-    let k = r.count;
-    let comparisons = r.comparisons as u64;
-    let a = mix(hash, to_u64(r.refusal));
+    let (refusal, k, comparisons) = match put(index, kind, q, &mut out[..m]) {
+        Ok(listed) => (0, listed.count, listed.comparisons as u64),
+        Err(refusal) => (refusal.number(), 0, 0),
+    };
+    let a = mix(hash, u64::from(refusal));
     let b = mix(a, k as u64);
     let c = mix(b, comparisons);
     let next = k.wrapping_add(1);
     Heard {
         listed: k,
-        comparisons: comparisons,
-        hash: mix_out(c, &out, next),
+        comparisons,
+        hash: mix_list(c, &out, next),
     }
 }
 
@@ -230,7 +205,7 @@ fn covered(number: &[u16; 1024], kind: u16, i: u16, other: u16) -> u16 {
     if i % 2 == 0 {
         return i / 2;
     }
-    number[i as usize / 2 % 1024]
+    number[usize::from(i) / 2 % 1024]
 }
 
 // The questions of one kind: the kind, where they begin in the columns of questions, and how many they are.
@@ -249,22 +224,20 @@ fn each(
         comparisons: 0,
         hash: 0,
     };
-    let mut i: u16 = 0;
-    while i < kind.c {
-        let p = (kind.b as usize + i as usize) % 1024;
+    for i in 0..kind.c {
+        let p = (usize::from(kind.b) + usize::from(i)) % 1024;
         let q = Line {
             a: covered(number, kind.a, i, a[p]),
             b: b[p],
             c: c[p],
         };
         t = ask(index, kind.a, q, t);
-        i += 1;
     }
     t
 }
 
 fn report(rt: &HostRuntime, asked: u16, t: Heard) {
-    next_number(rt, to_u64(asked));
+    next_number(rt, u64::from(asked));
     next_number(rt, t.listed as u64);
     next_number(rt, t.comparisons);
     next_number(rt, t.hash);
@@ -283,12 +256,10 @@ fn ask_all(
 )
     requires { Built index.now }
 {
-    let mut k: u16 = 0;
-    while k < n {
+    for _ in 0..n {
         print_name(rt);
         let kind = read_line(rt);
         report(rt, kind.c, each(index, number, a, b, c, kind));
-        k += 1;
     }
 }
 
@@ -299,13 +270,11 @@ fn own_numbers(index: &[u16; INDEX]) -> bool
     requires { Block index.now }
     ensures { result ≡ true → Built index.now }
 {
-    let n = stabbing_words::to_usize(index[ROWS]);
-    let mut p: usize = 0;
-    while p < n {
+    let n = usize::from(index[ROWS]);
+    for p in 0..n {
         if stabbing_lookup::find(index, index[p]) != p + 1 {
             return false;
         }
-        p += 1;
     }
     true
 }
@@ -352,8 +321,8 @@ fn family(
     let l = read_line(rt);
     read_rows(rt, &mut number, &mut first, &mut last, l.b);
     print(rt, b" rows");
-    next_number(rt, to_u64(l.c));
-    if built(rt, &number, &first, &last, l.c as usize, index) {
+    next_number(rt, u64::from(l.c));
+    if built(rt, &number, &first, &last, usize::from(l.c), index) {
         ask_all(rt, index, &number, a, b, c, l.a);
     }
 }
@@ -365,9 +334,7 @@ fn main(rt: HostRuntime) {
     let mut index = [0u16; INDEX];
     let l = read_line(&rt);
     read_rows(&rt, &mut a, &mut b, &mut c, l.a);
-    let mut i: u16 = 0;
-    while i < l.b {
+    for _ in 0..l.b {
         family(&rt, &a, &b, &c, &mut index);
-        i += 1;
     }
 }

@@ -1,37 +1,43 @@
 -- The steps of the days question, apart from the code. Assumes nothing.
-use Rattle.basis.proofs.Prelude.{◌∙◌, ◌≡◌, ap, sym, ◌*◌, ◌+◌, ◌-◌, ◌<◌, ◌≤◌, zero-le, ℕ, List, [], ◌++◌, ◌∷◌, append_assoc, append-nil, map, map-append, Bool, false, true, ltb, drop, drop_of_length-le, get_or, length, length-append, length-drop, length-map, take, take-append-drop, drop_at, drop-cons, length-take-le, take_all, take_at, add-one, arith, le-ltb, lt-ltb, ltb-true, both, not, not-false, not-true, length-take}
+use Rattle.basis.proofs.Prelude.{◌∙◌, ◌≡◌, ap, sym, ◌*◌, ◌+◌, ◌-◌, ◌<◌, ◌≤◌, zero-le, ℕ, List, [], ◌++◌, ◌∷◌, append_assoc, append-nil, map-append, Bool, false, true, ltb, drop, drop_of_length-le, get_or, length, length-append, length-drop, length-map, take, take-append-drop, drop_at, drop-cons, length-take-le, take_all, take_at, add-one, arith, le-ltb, lt-ltb, ltb-true, both, not, length-take}
+use Rattle.std.specs.Prelude.{Result, Ok, Err, IsOk, MatchBool, zero, suc, refl}
+use Rattle.std.specs.List.{AllWithin, HoldsAt}
+use mathlib.Core.Bool.{and-false}
 use borrow.Rule.Slice.PartMut.{put_mid, post_of}
-use Rattle.stabbing.{specs.{Tree.{keep, fits_at, start, formula}, Index.{latest_table, Built, numbers, firsts, lasts}, Answer.{Reported, Gave, give, question, rising_from, contains_any, day_in, days_of, days_in}, Clauses.from}, specs.Stored.latest, specs.declared.Listed.Listed, proofs.Starts.latest_is, proofs.Steps.keep_room, proofs.Block.built_holds, proofs.Listing.lists, proofs.Days.{added, added_room, added_none, added_all, latest_none}}
+use Rattle.refusal.specs.declared.Refusal.{Refusal, TheVariants.{ShortBuffer}}
+use Rattle.stabbing.{specs.declared.Listed.Listed, specs.Answer.told_in, proofs.Claims.told_ok}
+use Rattle.stabbing.{specs.{Tree.{keep, fits_at, start, formula}, Index.{latest_table, Built, numbers, firsts, lasts}, Answer.{Told, Reported, Gave, give, question, rising_from, contains_any, day_in, days_of, days_in}, Clauses.from}, specs.Stored.latest, proofs.Starts.latest_is, proofs.Steps.keep_room, proofs.Block.built_holds, proofs.Listing.lists, proofs.Days.{added, added_room, added_none, added_all, latest_none}}
 use Rattle.buffer.{specs.Buffer.overlaid, proofs.Overlaid.overlaid_all}
 use Rattle.calendar.{specs.Calendar.{is_day, days_ok}, proofs.Calendar.dated}
 use Rattle.stabbing_query.{specs.Clauses.numbered, proofs.Answering.{give_all, give_none, on, refusal, keep_map, day_in_lem}}
 use Rattle.stabbing_days.specs.Clauses.{Skips, Parted, day_from, days_from, asked, asked_all, AddAsks, GatherAsks, Added, Gathered}
 use Rattle.stabbing_days.proofs.Skipping.{drop_map, rest_from, closed}
 
--- ---- The checks, day by day: what is said of the days from the place i on is what is said of all
+-- ---- The checks
+
+-- a list is on the calendar as far as its days are, one by one
+pub days_checked : (ds : List ℕ) (r : Bool) → MatchBool r (AllWithin (λ d. is_day d ≡ true) ds 0 (length ds)) ((k : ℕ) × (k < length ds) × HoldsAt (λ d. is_day d ≡ false) ds k)
+    → r ≡ days_ok ds
+unfolding days_ok
+days_checked [] true m = refl
+days_checked [] false (k, h, off) = absurd (omega arith)
+days_checked (d ∷ ds) true m = rw (m 0 0 (omega arith) (omega arith), ← days_checked ds true (λ k x l h. m (suc k) x (omega arith) (omega arith)))
+days_checked (d ∷ ds) false (zero, h, off) = rw (off 0)
+days_checked (d ∷ ds) false (suc k, h, off) = rw (← days_checked ds false (k, omega arith, off)) (sym (and-false _))
+
+-- what is said of the days from the place i on is what is said of all
 split : (ds : List ℕ) (i : ℕ) → i < length ds → drop i ds ≡ get_or ds i 0 ∷ drop (i + 1) ds
 split ds i h = rw add-one (drop-cons ds i 0 h)
 
-module _ (ds : List ℕ) (i : ℕ) {says : Bool} where
-  module _ (b : ℕ) (e : rising_from b (drop i ds) ≡ says) where
-    pub rising_done : length ds ≤ i → true ≡ says
-    rising_done h = unfold rising_from in rw (drop_of_length-le ds {i = i} h) at e
+module _ (ds : List ℕ) (i : ℕ) {says : Bool} (b : ℕ) (e : rising_from b (drop i ds) ≡ says) where
+  pub rising_done : length ds ≤ i → true ≡ says
+  rising_done h = unfold rising_from in rw (drop_of_length-le ds {i = i} h) at e
 
-    pub rising_fails : i < length ds → get_or ds i 0 ≤ b → false ≡ says
-    rising_fails h k = unfold rising_from in rw (split ds i h, le-ltb b (get_or ds i 0) k) at e
+  pub rising_fails : i < length ds → get_or ds i 0 ≤ b → false ≡ says
+  rising_fails h k = unfold rising_from in rw (split ds i h, le-ltb b (get_or ds i 0) k) at e
 
-    pub rising_on : i < length ds → b < get_or ds i 0 → rising_from (get_or ds i 0) (drop (i + 1) ds) ≡ says
-    rising_on h k = unfold rising_from in rw (split ds i h, lt-ltb b (get_or ds i 0) k) at e
-
-  module _ (e : days_ok (drop i ds) ≡ says) where
-    pub days_done : length ds ≤ i → true ≡ says
-    days_done h = unfold days_ok in rw (drop_of_length-le ds {i = i} h) at e
-
-    pub day_fails : i < length ds → {t : Bool} → t ≡ is_day (get_or ds i 0) → not t ≡ true → false ≡ says
-    day_fails h {t} z k = unfold days_ok in rw (split ds i h, sym z ∙ not-true t k) at e
-
-    pub day_on : i < length ds → {t : Bool} → t ≡ is_day (get_or ds i 0) → not t ≡ false → days_ok (drop (i + 1) ds) ≡ says
-    day_on h {t} z k = unfold days_ok in rw (split ds i h, sym z ∙ not-false t k) at e
+  pub rising_on : i < length ds → b < get_or ds i 0 → rising_from (get_or ds i 0) (drop (i + 1) ds) ≡ says
+  rising_on h k = unfold rising_from in rw (split ds i h, lt-ltb b (get_or ds i 0) k) at e
 
 -- ---- What one day adds
 
@@ -57,9 +63,12 @@ module _ {ix : List ℕ} {d : ℕ} {part : List ℕ} (q : AddAsks ix d part) whe
   asked_length : length (asked ix d part) ≡ length part
   asked_length = rw (asked_is, length-append) (omega (arith, length-drop (length ns) part, room_for))
 
-  module _ {r : Listed} {xs : List ℕ} (g : Gave r xs (day_in ix d part)) where
+  pub not_refused : (r : Result Listed Refusal) {xs : List ℕ} → Gave (told_in r) xs (day_in ix d part) → IsOk r
+  not_refused r g = told_ok r (ap (λ (t : Told). t.refusal) (g.result ∙ ap (λ (o : Reported). o.result) given))
+
+  module _ {a : Result Listed Refusal} {r : Listed} {xs : List ℕ} (g : Gave (told_in a) xs (day_in ix d part)) (o : a ≡ Ok r) where
     count_is : r.count ≡ length ns
-    count_is = ap (λ (l : Listed). l.count) (g.result ∙ ap (λ (o : Reported). o.result) given)
+    count_is = ap (λ (l : Told). l.count) (ap told_in (sym o) ∙ g.result ∙ ap (λ (o : Reported). o.result) given)
 
     pub count_within : r.count ≤ length xs
     count_within = omega (arith, count_is, room_for, ap length g.out, asked_length)
@@ -216,8 +225,8 @@ module _ (ix ds : List ℕ) {t : Bool} (e : t ≡ days_ok ds) (f : not t ≡ fal
       (rw (added_all (firsts ix) (lasts ix) (built_holds ix b).sorted ds, keep_map (λ p. get_or ix p 0) (λ p. get_or (numbers ix) p 0) (contains_any (firsts ix) (lasts ix) ds) (length (firsts ix)) (built_holds ix b).numbers)))
 
   module _ {answer after : List ℕ} {k : ℕ} (a : Gathered ix ds answer after k) (out : List ℕ) where
-    pub too_many : {r : Listed} → length out < k → r ≡ record { refusal = 11; count = 0; comparisons = 0 } → Gave r out (days_in ix ds out)
-    too_many h = refusal (given_is out ∙ give_none (days_from ix 0 ds) 0 out (rw a.count at h))
+    pub too_many : length out < k → Gave (told_in (Err ShortBuffer)) out (days_in ix ds out)
+    too_many h = refusal ShortBuffer (given_is out ∙ give_none (days_from ix 0 ds) 0 out (rw a.count at h))
 
     pub all_written : k ≤ length out → {end : List ℕ} → end ≡ overlaid (take k after) out → Gave (record { refusal = 0; count = k; comparisons = 0 }) end (days_in ix ds out)
     all_written h z = rw (given_is out ∙ give_all (days_from ix 0 ds) 0 out (rw a.count at h)) (record {

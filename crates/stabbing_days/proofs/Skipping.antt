@@ -1,8 +1,10 @@
--- The rows of a list that lie past the first m, found by halving, and moved to the front: the steps of `skip` and of `close`, apart from the
--- code. Assumes nothing.
-use Rattle.basis.proofs.Prelude.{◌∙◌, ◌≡◌, ap, refl, sym, ◌+◌, ◌-◌, ◌<◌, ◌≤◌, suc, zero, zero-le, ℕ, List, [], ◌++◌, ◌∷◌, map, Bool, ◌&&◌, leb, ltb, List·getD-append, drop, get_or, length, length-append, length-map, drop_at, drop-cons, get_or-append-add, le_refl, add-zero, arith, le-ltb, leb-true, lt-ltb, ltb-true, both, by_eq, append_assoc, append-nil, length-drop, set, take, take-append-drop, drop-append-le, drop-length, get_or-drop, length-take-le, take-length}
-use Rattle.buffer.{specs.Buffer.overlaid, proofs.Overlaid.{overlaid_all, Putting, put_begins, put_on}}
-use Rattle.stabbing.{specs.Tree.keep, specs.Clauses.from, proofs.Days.keep_parts, proofs.Listing.lists, specs.Index.{Built, numbers, firsts, mark_in}, proofs.Block.{built_holds, leads_back}}
+-- The rows of a list that lie past the first m, found by halving, and moved to the front: the steps of `skip`, apart from the code. Assumes
+-- nothing.
+use Rattle.basis.proofs.Prelude.{◌∙◌, ◌≡◌, ap, refl, sym, ◌-◌, ◌<◌, ◌≤◌, suc, zero, zero-le, ℕ, List, [], ◌++◌, ◌∷◌, map, Bool, true, false, ◌&&◌, leb, ltb, List·getD-append, drop, get_or, length, length-append, length-map, drop_at, drop-cons, get_or-append-add, le_refl, add-zero, arith, le-ltb, leb-true, leb-false, get_or_at, lt-ltb, ltb-true, both, by_eq, append_assoc, length-drop, take, take-append-drop, drop-append-le, length-take-le}
+use Rattle.std.specs.List.{IsLastAndRest, Sorted.{IsPartitionedBy, IsPartitionPoint}}
+use Rattle.std.proofs.lemmas.List.Sorted.{IsNonDecreasingBy-from_default, IsPartitionedBy-leb}
+use Rattle.buffer.{specs.Buffer.overlaid, proofs.Overlaid.overlaid_all}
+use Rattle.stabbing.{specs.Tree.keep, specs.Clauses.from, proofs.Days.keep_parts, proofs.Listing.lists, specs.Index.{Built, firsts, mark_in}, proofs.Block.{built_holds, leads_back}}
 use Rattle.stabbing_query.specs.Clauses.{numbered}
 use Rattle.stabbing_days.specs.Clauses.{InRows, Parted, Skips}
 
@@ -45,51 +47,57 @@ rising r i (suc j) h g = by_eq i (suc j) h (λ z. rw z (le_refl _)) (λ lt. omeg
 pub all_new : (ix xs : List ℕ) {m : ℕ} → m ≡ 0 → Skips ix xs m 0
 all_new ix xs z = record { skips = λ ps r e. record { within = zero-le; low = λ k h. absurd (omega arith); high = λ k _ _. omega arith } }
 
--- the place sought is from lo to hi, whatever rows these are
-pub record Halving (ix xs : List ℕ) (m lo hi : ℕ) : Type 0 where
-  pub built : Built ix
-  pub within : (lo ≤ hi) × (hi ≤ length xs)
-  pub parts : (ps : List ℕ) → InRows ix ps → xs ≡ numbered ix ps → ((k : ℕ) → k < lo → get_or ps k 0 < m) × ((k : ℕ) → hi ≤ k → k < length ps → m ≤ get_or ps k 0)
+pub none_found : (ix xs : List ℕ) {m : ℕ} → length xs ≡ 0 → Skips ix xs m 0
+none_found ix xs z = record { skips = λ ps r e. record { within = zero-le; low = λ k h. absurd (omega arith); high = λ k _ h. absurd (omega (arith, long ix ps e)) } }
 
-pub begins : (ix xs : List ℕ) (m : ℕ) → Built ix → Halving ix xs m 0 (length xs)
-begins ix xs m b = record { built = b; within = omega arith; parts = λ ps r e. ((λ k h. absurd (omega arith)), λ k h g. absurd (omega (arith, long ix ps e))) }
+-- whether the row with that number is one of the first m
+abbrev pub early : List ℕ → ℕ → ℕ → Bool
+early ix m x = leb (mark_in ix x) m
 
-module _ {ix xs : List ℕ} {m lo hi : ℕ} (g : Halving ix xs m lo hi) where
-  pub ends : {n : ℕ} → n ≡ lo → hi ≤ lo → Skips ix xs m n
-  ends y h = rw y (record { skips = λ ps r e. record { within = omega (arith, long ix ps e); low = (g.parts ps r e).0; high = λ k y z. (g.parts ps r e).1 k (omega arith) z } })
+-- the last row found is x, and the others are ys
+module _ {ix : List ℕ} (b : Built ix) {xs : List ℕ} (ys : List ℕ) (x : ℕ) (s : IsLastAndRest xs x ys) where
+  module _ {ps : List ℕ} (r : InRows ix ps) (e : xs ≡ numbered ix ps) where
+    -- each row's mark, by its number
+    mark_at : (j : ℕ) → j < length ps → mark_in ix (get_or xs j 0) ≡ suc (get_or ps j 0)
+    mark_at j h = let p : get_or ps j 0 < length (firsts ix) = r.inside j h in
+        ap (mark_in ix) (rw e (get_d_map (λ (q : ℕ). get_or ix q 0) ps j h) ∙ (built_holds ix b).numbers (get_or ps j 0) p) ∙ leads_back ix b (get_or ps j 0) p
 
-  -- the row at a place j between, by the mark n of its number
-  module _ {j n : ℕ} (above : lo ≤ j) (under : j < hi) (en : n ≡ mark_in ix (get_or xs j 0)) where
-    module _ (ps : List ℕ) (r : InRows ix ps) (e : xs ≡ numbered ix ps) where
-      inside : j < length ps
-      inside = omega (arith, long ix ps e)
+    as_long : length ps ≡ suc (length ys)
+    as_long = omega (arith, long ix ps e, s.1)
 
-      mark_is : n ≡ suc (get_or ps j 0)
-      mark_is = let p : get_or ps j 0 < length (firsts ix) = r.inside j inside in
-          en ∙ ap (mark_in ix) (rw e (get_d_map (λ (q : ℕ). get_or ix q 0) ps j inside) ∙ (built_holds ix g.built).numbers (get_or ps j 0) p) ∙ leads_back ix g.built (get_or ps j 0) p
+    mark_last : mark_in ix x ≡ suc (get_or ps (length ys) 0)
+    mark_last = let z : get_or xs (length ys) 0 ≡ x = rw s.0 (get_or_at ys x [] 0 (length ys) refl) in
+        rw z at (mark_at (length ys) (omega (arith, as_long)))
 
-    pub old : n ≤ m → Halving ix xs m (j + 1) hi
-    old h = record { built = g.built; within = omega arith; parts = λ ps r e. ((λ k y. omega (arith, rising r k j (omega arith) (inside ps r e), mark_is ps r e)), (g.parts ps r e).1) }
+    mark_earlier : (j : ℕ) → j < length ys → mark_in ix (get_or ys j 0) ≡ suc (get_or ps j 0)
+    mark_earlier j h = let z : get_or xs j 0 ≡ get_or ys j 0 = rw s.0 (List·getD-append ys (x ∷ []) 0 j h) in
+        rw z at (mark_at j (omega (arith, as_long)))
 
-    pub new : m < n → Halving ix xs m lo j
-    new h = record { built = g.built; within = omega arith; parts = λ ps r e. ((g.parts ps r e).0, λ k y z. omega (arith, rising r j k y z, mark_is ps r e)) }
+    parts : (m : ℕ) → IsPartitionedBy (early ix m) ys
+    parts m = IsPartitionedBy-leb (mark_in ix) ys m (IsNonDecreasingBy-from_default (mark_in ix) ys 0
+        (λ i j h g. omega (arith, mark_earlier i (omega arith), mark_earlier j g, rising r i j h (omega (arith, as_long)))))
 
--- ---- The steps of `close`: the finds from the place f on are moved to the front, one after the other
+  module _ {m n : ℕ} (z : n ≡ mark_in ix x) where
+    pub all_old : n ≤ m → Skips ix xs m (length xs)
+    all_old h = record {
+      skips = λ ps r e. record {
+        within = omega (arith, long ix ps e);
+        low = λ k g. omega (arith, mark_last r e, as_long r e, rising r k (length ys) (omega (arith, s.1)) (omega (arith, as_long r e)));
+        high = λ k g l. absurd (omega (arith, long ix ps e));
+      };
+    }
 
-pub none : (l : List ℕ) (f : ℕ) → f ≡ 0 → l ≡ overlaid (drop f l) l
-none l f z = rw (z, take-length l, drop-length l) (sym (append-nil l))
-
--- of the finds l, i of those from f on stand in the first places, and the later places are as they were
-module _ (l : List ℕ) (f : ℕ) where
-  pub starts : f ≤ length l → Putting (drop f l) l (length l - f) l 0
-  starts h = put_begins (omega (arith, length-drop f l))
-
-  -- what is read was not written over
-  pub goes_on : {n i : ℕ} {xs : List ℕ} → Putting (drop f l) l n xs i → i < n → Putting (drop f l) l n (set xs i (get_or xs (i + f) 0)) (i + 1)
-  goes_on {i = i} {xs} q h = let n : length (take i (drop f l)) ≡ i = length-take-le i (drop f l) (omega arith) in
-      let z : f + i ≡ i + f = omega arith in
-      let e : get_or xs (i + f) 0 ≡ get_or (drop f l) i 0 =
-      rw (q.so_far, get_or-drop f l i 0, z) (rw (n, get_or-drop) at (get_or-append-add (take i (drop f l)) (drop i l) f 0)) in rw e (put_on q h)
+    -- the earlier rows part at the place i
+    pub parted_at : m < n → {i : ℕ} → i ≤ length ys → (IsPartitionedBy (early ix m) ys → IsPartitionPoint (λ y. early ix m y ≡ true) (λ y. early ix m y ≡ false) ys i) → Skips ix xs m i
+    parted_at h {i} w p = record {
+      skips = λ ps r e. let q = p (parts r e m) in record {
+        within = omega (arith, as_long r e);
+        low = λ k g. omega (arith, mark_earlier r e k (omega arith), leb-true (mark_in ix (get_or ys k 0)) m (q.0 k 0 zero-le g));
+        high = λ k g l. by_eq k (length ys) (omega (arith, as_long r e))
+            (λ o. rw o (omega (arith, mark_last r e)))
+            (λ lt. omega (arith, mark_earlier r e k lt, leb-false (mark_in ix (get_or ys k 0)) m (q.1 k 0 g lt)));
+      };
+    }
 
 -- where the first k of the numbers xs are the finds: with the gap closed, the finds from f on stand first, and the later places are as
 -- they were

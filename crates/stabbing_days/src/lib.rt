@@ -6,14 +6,13 @@ ghost use Rattle.std.specs.Prelude.{◌≡◌, ◌<◌, ◌≤◌, length, get_o
 ghost use Rattle.buffer.specs.Buffer.{overlaid};
 ghost use Rattle.stabbing.specs.Index.{Built};
 ghost use Rattle.calendar.specs.Calendar.{days_ok};
-ghost use Rattle.stabbing.specs.Answer.{Gave, days_in, rising_from};
+ghost use Rattle.stabbing.specs.Answer.{Gave, told_in, days_in, rising_from};
 ghost use Rattle.stabbing_days.specs.Clauses.{Skips, day_from, asked, AddAsks, GatherAsks, Added, Gathered};
 
 use calendar::is_day;
-use refusal::{OFF_CALENDAR, SHORT_BUFFER, UNSORTED_DAYS};
+use refusal::Refusal;
 use stabbing::{BEGUN, INDEX, Listed};
 use stabbing_lookup::find;
-use stabbing_words::{refuse, to_usize};
 
 // ---- The checks
 
@@ -21,14 +20,7 @@ use stabbing_words::{refuse, to_usize};
 fn on_calendar(days: &[u16]) -> bool
     ensures { result ≡ days_ok days.now }
 {
-    let mut i = 0;
-    while i < days.len() {
-        if !is_day(days[i]) {
-            return false;
-        }
-        i += 1;
-    }
-    true
+    days.iter().all(|d| is_day(*d))
 }
 
 // Whether every day is above the one before, the first above 0.
@@ -36,13 +28,11 @@ fn in_order(days: &[u16]) -> bool
     ensures { result ≡ rising_from 0 days.now }
 {
     let mut before = 0;
-    let mut i = 0;
-    while i < days.len() {
-        if days[i] <= before {
+    for day in days {
+        if *day <= before {
             return false;
         }
-        before = days[i];
-        i += 1;
+        before = *day;
     }
     true
 }
@@ -58,41 +48,21 @@ fn skip(index: &[u16; INDEX], found: &[u16], m: usize) -> usize
     if m == 0 {
         return 0;
     }
-    let n = found.len();
-    if n == 0 {
+    let Some((last, earlier)) = found.split_last() else {
         return 0;
+    };
+    if find(index, *last) <= m {
+        return found.len();
     }
-    let end = n - 1;
-    if find(index, found[end]) <= m {
-        return n;
-    }
-    let mut lo = 0;
-    let mut hi = end;
-    while lo < hi {
-        let j = lo + (hi - lo) / 2;
-        if find(index, found[j]) <= m {
-            lo = j + 1;
-        } else {
-            hi = j;
-        }
-    }
-    lo
+    earlier.partition_point(|number| find(index, *number) <= m)
 }
 
-// Moves the finds from the place `from` on to the front, over those before them. It reads ahead of where it writes.
+// Moves the finds from the place `from` on to the front, over those before them.
 fn close(finds: &mut [u16], from: usize)
     requires { from ≤ length finds.old }
     ensures { finds.new ≡ overlaid (drop from finds.old) finds.old }
 {
-    if from == 0 {
-        return;
-    }
-    let n = finds.len() - from;
-    let mut i = 0;
-    while i < n {
-        finds[i] = finds[i + from];
-        i += 1;
-    }
+    finds.copy_within(from.., 0);
 }
 
 // What the first of the days still to come adds to the days before it, by the last of which m rows begin: of these m, the ones that
@@ -104,8 +74,7 @@ fn add(index: &[u16; INDEX], days: &[u16], m: usize, part: &mut [u16]) -> usize
     requires add_asks { AddAsks index.now (get_or days.now 0 0) part.old }
     ensures { Added (day_from index.now m (get_or days.now 0 0)) (asked index.now (get_or days.now 0 0) part.old) part.new result }
 {
-    let listed = stabbing_query::day(index, days[0], part);
-    let k = listed.count;
+    let k = stabbing_query::day(index, days[0], part).unwrap().count;
     let from = skip(index, &part[..k], m);
     close(&mut part[..k], from);
     k - from
@@ -119,35 +88,32 @@ fn gather(index: &[u16; INDEX], days: &[u16], answer: &mut [u16]) -> usize
 {
     let mut begun = 0;
     let mut at = 0;
-    let mut i = 0;
-    while i < days.len() {
+    for i in 0..days.len() {
         at += add(index, &days[i..], begun, &mut answer[at..]);
-        begun = to_usize(index[to_usize(days[i]) + BEGUN]);
-        i += 1;
+        begun = usize::from(index[usize::from(days[i]) + BEGUN]);
     }
     at
 }
 
 // The days, strictly rising: the spells that contain at least one of them. No comparisons are reported.
-pub fn days(index: &[u16; INDEX], days: &[u16], out: &mut [u16]) -> Listed
+pub fn days(index: &[u16; INDEX], days: &[u16], out: &mut [u16]) -> Result<Listed, Refusal>
     requires { Built index.now }
-    ensures { Gave result out.new (days_in index.now days.now out.old) }
+    ensures { Gave (told_in result) out.new (days_in index.now days.now out.old) }
 {
     if !on_calendar(days) {
-        return refuse(OFF_CALENDAR);
+        return Err(Refusal::OffCalendar);
     }
     if !in_order(days) {
-        return refuse(UNSORTED_DAYS);
+        return Err(Refusal::UnsortedDays);
     }
     let mut answer = [0u16; 2048];
     let n = gather(index, days, &mut answer);
     if out.len() < n {
-        return refuse(SHORT_BUFFER);
+        return Err(Refusal::ShortBuffer);
     }
     buffer::put(&answer[..n], out);
-    Listed {
-        refusal: 0,
+    Ok(Listed {
         count: n,
         comparisons: 0,
-    }
+    })
 }

@@ -7,13 +7,6 @@ use Rattle.stabbing.proofs.Block.{rows_sorted}
 pub row_none : (xs : List ℕ) (n k : ℕ) → n ≤ k → 0 ≡ day_at (take n xs) k
 row_none xs n k h = sym (List·getD-eq-default (take n xs) 0 {n = k} (omega (arith, length-take n xs)))
 
--- the last day of the row with the mark m, by the column
-pub last_some : (ys : List ℕ) {m r : ℕ} → m ≢ 0 → r ≡ m → get_or ys (r - 1) 0 ≡ last_of ys m
-last_some ys {m} h e = by_mark m (λ z. absurd (h z)) (λ p z. let y : m - 1 ≡ p = omega arith in rw (e, y, z))
-
-pub last_none : (ys : List ℕ) {m r : ℕ} → m ≢ 0 → r ≡ m → length ys ≤ r - 1 → 0 ≡ last_of ys m
-last_none ys {r = r} h e g = sym (List·getD-eq-default ys 0 {n = r - 1} g) ∙ last_some ys h e
-
 same_last : {xs ys fs ls : List ℕ} {n : ℕ} (m : ℕ) → Columns xs ys fs ls n → m ≤ length fs → last_of ys m ≡ last_of ls m
 same_last zero q h = refl
 same_last (suc p) q h = q.lasts p (omega (arith, q.count))

@@ -34,10 +34,6 @@ module _ {e : List ℕ} {a n : ℕ} {f : ℕ → ℕ} where
     pub laying_all : n ≤ k → Extends e a (a + n) (column n f) x
     laying_all h = let z : k ≡ n = omega arith in rw z at i.so_far
 
--- a whole list
-pub laying_list : {e ws x : List ℕ} {a k : ℕ} → Laying e a (length ws) (λ p. get_or ws p 0) k x → length ws ≤ k → Extends e a (a + length ws) ws x
-laying_list {ws = ws} i h = rw (← column_only (length ws) (λ p. get_or ws p 0) ws refl (λ p g. refl)) at (laying_all i h)
-
 -- the same words: a list and the column that it is
 pub laid_column : {e x ws : List ℕ} {a : ℕ} (n : ℕ) (f : ℕ → ℕ) → length ws ≡ n → ((p : ℕ) → p < n → get_or ws p 0 ≡ f p) → Extends e a (a + length ws) ws x → Extends e a (a + n) (column n f) x
 laid_column {ws = ws} n f s w i = rw (s, column_only n f ws s w) at i
@@ -98,15 +94,12 @@ one_more numbers {bs} {ws} {k} {n} {x} i h few is = unfold in_bucket in let ns :
       lowers = grow_set i.lowers (omega arith) (i.buckets (x % 2039) (omega arith) ∙ rw (lt-ltb k n h, ← e));
     }
 
-pub all_named : {ns bs ws : List ℕ} {n k : ℕ} → Named ns bs ws n k → n ≤ k → Named ns bs ws n n
-all_named {n = n} {k} i h = let z : k ≡ n = omega arith in rw z at i
-
 -- all rows: the words from the buckets on
 pub names_laid : {ns bs ws e m x : List ℕ} {n : ℕ} → Named ns bs ws n n → Extends e bucket_table (bucket_table + length bs) bs m → Extends m lower_column (lower_column + length ws) ws x
     → Extends e bucket_table row_count (name_words ns n) x
 names_laid {ns} {n = n} q i j = laid_more (laid_column bucket_count (λ b. in_bucket ns b n) q.size q.buckets i)
     (laid_column capacity (lower_word ns n) q.lowers.size (λ p _. grown_all q.lowers (λ v l. rw (le-ltb v n l)) p) j)
 
-pub ruleset naming = (nobody, one_more, all_named, names_laid, rules)
+pub ruleset naming = (nobody, one_more, names_laid, rules)
 
-pub ruleset steps = (laying_next, laying_all, laying_list, marks_all, rules)
+pub ruleset steps = (laying_next, laying_all, marks_all, rules)

@@ -1,5 +1,5 @@
 pub mod Names
-pub mod Rows
+pub mod InOrder
 pub mod Laying
 pub mod Links
 pub mod DayTables

@@ -56,10 +56,10 @@ pub climb_at : {xs ys fs ls ps : List ℕ} {n m b : ℕ} → Columns xs ys fs ls
 climb_at q h g heads known = record { columns = q; within = h; at_head = heads; parents = λ v a. known v (omega arith) }
 
 module _ {xs ys fs ls : List ℕ} {n : ℕ} {ps : List ℕ} {m : ℕ} (q : ClimbAt xs ys fs ls n ps m) where
-  pub ends : {l k : ℕ} → m ≡ 0 → Climbed fs ls l m k (record { parent = 0; left = k })
-  ends z = unfold below in rw z (search arith)
+  pub ends : {l k : ℕ} → m ≤ 0 → Climbed fs ls l m k (record { parent = m; left = k })
+  ends h = unfold below in let z : m ≡ 0 = omega arith in rw z (search arith)
 
-  module _ (some : m ≢ 0) where
+  module _ (some : 0 < m) where
     abbrev v : ℕ
     v = m - 1
 
@@ -91,6 +91,27 @@ module _ {xs ys fs ls : List ℕ} {n : ℕ} {ps : List ℕ} {m : ℕ} (q : Climb
           let left : (a : ℕ) → Under fs ls m k a → w.left ≡ child fs ls w.parent a
           = λ a o. g.left a (rw (z, j_is) (under_up fs ls v a k (q.at_head v z) (rw z at o))) in
           let f = falls refl in search arith
+
+-- on the way up from the mark m, at the mark u with the head k passed last: where the way from there ends, the whole way does
+pub record Climbing (xs ys fs ls : List ℕ) (n : ℕ) (ps : List ℕ) (l m u k : ℕ) : Type 0 where
+  pub asks : ClimbAt xs ys fs ls n ps u
+  pub ends_as : {w : Way} → Climbed fs ls l u k w → Climbed fs ls l m 0 w
+
+pub climb_begins : {xs ys fs ls : List ℕ} {n : ℕ} {ps : List ℕ} {l m : ℕ} → ClimbAt xs ys fs ls n ps m → Climbing xs ys fs ls n ps l m m 0
+climb_begins q = record { asks = q; ends_as = λ g. g }
+
+module _ {xs ys fs ls : List ℕ} {n : ℕ} {ps : List ℕ} {l m u k : ℕ} (i : Climbing xs ys fs ls n ps l m u k) where
+  pub climb_on : (some : 0 < u) → get_or ys (u - 1) 0 < l → {j : ℕ} → j ≡ get_or ps (u - 1) 0 → Climbing xs ys fs ls n ps l m j u
+  climb_on some e y = record { asks = asks i.asks some y; ends_as = λ g. i.ends_as (goes_up i.asks some y e g) }
+
+  pub climb_falls : (some : 0 < u) → {j : ℕ} → j ≡ get_or ps (u - 1) 0 → j < u
+  climb_falls some y = falls i.asks some y refl
+
+  pub climb_ends : u ≤ 0 → Climbed fs ls l m 0 (record { parent = u; left = k })
+  climb_ends h = i.ends_as (ends i.asks h)
+
+  pub climb_stays : 0 < u → l ≤ get_or ys (u - 1) 0 → Climbed fs ls l m 0 (record { parent = u; left = k })
+  climb_stays some h = i.ends_as (stays i.asks some h)
 
 -- ---- columns of 0
 pub unlinked : {fs ls : List ℕ} (size : ℕ) → size ≡ 1024 → Linked fs ls (replicate size 0) (replicate size 0) (replicate size 0) 0
@@ -183,4 +204,4 @@ module _ {xs ys fs ls : List ℕ} {n k prev : ℕ} {ps qs cs ns : List ℕ} (i :
           let above : k + 1 ≡ row_link fs ls (next fs ls) (k + 1) = rw (add-one k) (sym (row_link_lem fs ls (next fs ls) (suc k) (head_false fs ls k in_rows np).0 ∙ next_some fs ls k in_rows np)) in
           let chains = grow_set i.chains goes_on above in search arith
 
-pub ruleset steps = (ends, stays, falls, asks, goes_up, asks_climb, linked_root, linked_child, starts, all_linked, all_chained, asks_head, turn_head, goes_on, turn_skip, rules)
+pub ruleset steps = (climb_begins, climb_on, climb_falls, climb_ends, climb_stays, asks_climb, linked_root, linked_child, starts, all_linked, all_chained, asks_head, turn_head, goes_on, turn_skip, rules)

@@ -6,7 +6,6 @@ ghost use Rattle.std.specs.Prelude.{◌≡◌, ◌≤◌};
 ghost use Rattle.stabbing.specs.Index.{Block, mark_in};
 
 use stabbing::{BUCKET, BUCKETS, INDEX, LOWER};
-use stabbing_words::to_usize;
 
 // The mark of the row with that number; 0 where none has it. Where two rows have it, as in no published list, the latest.
 pub fn find(index: &[u16; INDEX], number: u16) -> usize
@@ -14,13 +13,13 @@ pub fn find(index: &[u16; INDEX], number: u16) -> usize
     ensures value { result ≡ mark_in index.now number }
     ensures upper_bound { result ≤ 1024 }
 {
-    let mut m = to_usize(index[to_usize(number) % BUCKETS + BUCKET]);
+    let mut m = usize::from(index[usize::from(number) % BUCKETS + BUCKET]);
     while 0 < m {
         let p = m - 1;
         if index[p] == number {
             return m;
         }
-        m = to_usize(index[p + LOWER]);
+        m = usize::from(index[p + LOWER]);
     }
     m
 }

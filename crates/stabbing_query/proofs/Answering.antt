@@ -1,7 +1,9 @@
 -- From the walk to the answers of day, span and cover: what is written, the theorems on listing and comparisons, the starts. Assumes nothing.
 use Rattle.basis.proofs.Prelude.{◌∙◌, ◌≡◌, ap, refl, sym, ◌%◌, ◌+◌, ◌-◌, ◌/◌, ◌<◌, ◌≤◌, suc, zero, zero-le, ℕ, List, [], ◌++◌, ◌∷◌, map, map-append, Bool, false, not, true, ◌≢◌, drop, drop_of_length-le, get_or, length, length-map, take, take_all, le_refl, arith, le-leb, lt-leb, not-false, not-true, by_mark, by_test}
+use Rattle.std.specs.Prelude.{Err}
+use Rattle.refusal.specs.{declared.Refusal.{Refusal}, Numbers.{number_of}}
 use Rattle.buffer.{specs.Buffer.overlaid, proofs.Overlaid.overlaid_all}
-use Rattle.stabbing.{specs.declared.Listed.Listed, proofs.Block.built_holds, proofs.{Marks.{below_is, keep_hit, keep_miss}, Starts.{latest_is, start_span, cover_latest}}, specs.Answer.{Reported, refused, give, question, day_in, Gave, span_in, cover_in}}
+use Rattle.stabbing.{proofs.Block.built_holds, proofs.{Marks.{below_is, keep_hit, keep_miss}, Starts.{latest_is, start_span, cover_latest}}, specs.Answer.{Told, Reported, refused, told_in, give, question, day_in, Gave, span_in, cover_in}}
 use Rattle.stabbing_query.proofs.Names.{day_of, span_of, cover_of, covering, keep, day_at, fits_at, start, nothing, walk, latest, span_start, start_is, listing, comparisons_formula, first_column, last_column, start_table, latest_table, Built, named, numbers, firsts, lasts, mark_in, is_day, dated, Now, Does, ClimbAsks, WalkAsks, numbered, decoded, listed_of, climb_of, walk_of, start_of}
 
 -- ---- The walk's beginning and its end
@@ -64,7 +66,7 @@ module _ {ix : List ℕ} (b : Built ix) (h : ℕ) {l m : ℕ} (dates : 1 ≤ l) 
   asks_walk = let built = built_holds ix b in let i = start_is (firsts ix) (lasts ix) built.sorted h l in
       record { headed = λ v e. let p = i.hit v (sym z ∙ e) in search arith }
 
-  pub gives : (out : List ℕ) {after : List ℕ} {a r : Listed} {o : Reported} → o ≡ question (numbers ix) (firsts ix) (lasts ix) h l out → Gave a after (listed_of ix l m out) → r ≡ a → Gave r after o
+  pub gives : (out : List ℕ) {after : List ℕ} {a r : Told} {o : Reported} → o ≡ question (numbers ix) (firsts ix) (lasts ix) h l out → Gave a after (listed_of ix l m out) → r ≡ a → Gave r after o
   gives out e g t = unfold question in let s = (built_holds ix b).sorted in let y = keep_map (λ p. get_or ix p 0)
       (λ p. get_or (numbers ix) p 0) (fits_at (firsts ix) (lasts ix) h l) (length (firsts ix)) (built_holds ix b).numbers in
       rw (e, t) (rw (z, listing (firsts ix) (lasts ix) s h l, comparisons_formula (firsts ix) (lasts ix) s h l, y) at g)
@@ -76,8 +78,8 @@ off {t} e f = sym e ∙ not-true t f
 pub on : {t b : Bool} → t ≡ b → not t ≡ false → b ≡ true
 on {t} e f = sym e ∙ not-false t f
 
-pub refusal : {n : ℕ} {out : List ℕ} {o : Reported} → o ≡ refused n out → {r : Listed} → r ≡ record { refusal = n; count = 0; comparisons = 0 } → Gave r out o
-refusal e z = rw e (record { result = z; out = refl })
+pub refusal : (r : Refusal) {out : List ℕ} {o : Reported} → o ≡ refused (number_of r) out → Gave (told_in (Err r)) out o
+refusal r e = rw e (record { result = refl; out = refl })
 
 -- ---- day: a day on the calendar, and its start as it is stored
 pub day_in_lem : (ix : List ℕ) (d : ℕ) (out : List ℕ) → is_day d ≡ true → day_in ix d out ≡ question (numbers ix) (firsts ix) (lasts ix) d d out
@@ -98,7 +100,7 @@ module _ (d : ℕ) {t : Bool} (e : t ≡ is_day d) (f : not t ≡ false) where
       pub day_asks : WalkAsks ix d m
       day_asks = asks_walk b d on_it.0 stored
 
-      pub day_gives : (out : List ℕ) {after : List ℕ} {a r : Listed} → Gave a after (listed_of ix d m out) → r ≡ a → Gave r after (day_in ix d out)
+      pub day_gives : (out : List ℕ) {after : List ℕ} {a r : Told} → Gave a after (listed_of ix d m out) → r ≡ a → Gave r after (day_in ix d out)
       day_gives out = gives b d on_it.0 stored out (day_in_lem ix d out (on e f))
 
 -- ---- span: m is the latest by day b and r the start of day a, as they are stored
@@ -134,7 +136,7 @@ module _ (a b : ℕ) {t : Bool} (e : t ≡ is_day a) (f : not t ≡ false) where
   pub span_asks : {ix : List ℕ} → Built ix → {m : ℕ} → m ≡ start_of ix b a → WalkAsks ix a m
   span_asks built = asks_walk built b (dated a (on e f)).0
 
-  pub span_gives : {t' : Bool} → t' ≡ is_day b → not t' ≡ false → a ≤ b → {ix : List ℕ} → Built ix → {m : ℕ} → m ≡ start_of ix b a → (out : List ℕ) {after : List ℕ} {s r : Listed} → Gave s after (listed_of ix a m out) → r ≡ s → Gave r after (span_in ix a b out)
+  pub span_gives : {t' : Bool} → t' ≡ is_day b → not t' ≡ false → a ≤ b → {ix : List ℕ} → Built ix → {m : ℕ} → m ≡ start_of ix b a → (out : List ℕ) {after : List ℕ} {s r : Told} → Gave s after (listed_of ix a m out) → r ≡ s → Gave r after (span_in ix a b out)
   span_gives e' f' h built z out = unfold span_of in gives built b (dated a (on e f)).0 z out (rw (on e f, on e' f', span_of) (rw (le-leb a b h, span_of)))
 
 -- ---- cover: the mark n of the row with the number x
@@ -165,6 +167,6 @@ module _ (ix : List ℕ) (x : ℕ) {n : ℕ} (e : n ≡ mark_in ix x) (some : n 
       pub cover_asks : WalkAsks ix (get_or ix (n - 1 + last_column) 0) m
       cover_asks = asks_walk b f dates begun
 
-      pub cover_gives : (out : List ℕ) {after : List ℕ} {s r : Listed} → Gave s after (listed_of ix (get_or ix (n - 1 + last_column) 0) m out) → r ≡ s → Gave r after (cover_in ix x out)
+      pub cover_gives : (out : List ℕ) {after : List ℕ} {s r : Told} → Gave s after (listed_of ix (get_or ix (n - 1 + last_column) 0) m out) → r ≡ s → Gave r after (cover_in ix x out)
       cover_gives out = unfold cover_of covering in let i : mark_in ix x ≡ suc (n - 1) = sym e ∙ omega arith in
           gives b f dates begun out (ap (λ (u : ℕ). covering (numbers ix) (firsts ix) (lasts ix) u out) i ∙ rw (f_is, l_is))

@@ -1,11 +1,10 @@
 -- What the functions behind the questions keep, ask and give: records and short names that their contracts cite. Assumes nothing.
 use Rattle.std.specs.Prelude.{ℕ, suc, ◌+◌, ◌-◌, ◌*◌, ◌/◌, ◌%◌, ◌≤◌, ◌<◌, true, false, List, map, ◌≡◌, leb, length, get_or, drop}
 use Rattle.refusal.specs.Table.{short_buffer}
-use Rattle.stabbing.specs.declared.Listed.{Listed}
 use Rattle.stabbing.specs.Tree.{day_at, parent, child, left_sibling, last_child, start}
 use Rattle.stabbing.specs.Walk.{Progress, compare, chain, descend, climb, walk}
-use Rattle.stabbing.specs.Index.{capacity, Built, numbers, firsts, lasts}
-use Rattle.stabbing.specs.Answer.{Reported, give}
+use Rattle.stabbing.specs.Index.{capacity, numbers, firsts, lasts}
+use Rattle.stabbing.specs.Answer.{Told, Reported, give}
 use Rattle.stabbing.specs.Clauses.{Head, bottom, Stretch, over, Holds}
 
 -- the numbers of the rows at these positions, as a block has them
@@ -99,7 +98,7 @@ walk_of ix l m = walk (firsts ix) (lasts ix) l m
 
 -- an answer from the one number that hands it on: the state that the walk ends in, or a number whose place is past the end of the
 -- list of finds where the buffer is short
-unfoldable pub decoded : ℕ → Listed
+unfoldable pub decoded : ℕ → Told
 decoded s = elim (leb (s / 65536) capacity) [
   | true ↦ record { refusal = 0; count = capacity - s / 65536; comparisons = s % 65536 }
   | false ↦ record { refusal = short_buffer; count = 0; comparisons = 0 }

@@ -3,10 +3,9 @@
 // refusal too, is told on standard error.
 #![tactic(auto)]
 
-ghost use Rattle.stand_text.specs.Report.{PrintedOf};
+ghost use Rattle.stand_text.specs.Report.{next_in, whole_in, PrintedOf};
 
-use input::Input;
-use printing::Days;
+use register::Refused;
 use replies::OUT;
 use stabbing::INDEX;
 
@@ -18,8 +17,10 @@ fn tell_refusal(rt: &HostRuntime, number: u16, line: u16) {
     let _ = eprintln!(rt; "stand: the register is refused: {number} at line {line}");
 }
 
-fn print_refusal(rt: &HostRuntime, number: u16, line: u16) {
+fn print_refusal(rt: &HostRuntime, refused: Refused) {
     let mut out = [0u8; OUT];
+    let number = refused.refusal.number();
+    let line = refused.line;
     let at = reply_lines::put_refused_line(&mut out, number, line);
     printing::print_line(rt, &out, at);
     tell_refusal(rt, number, line);
@@ -27,21 +28,18 @@ fn print_refusal(rt: &HostRuntime, number: u16, line: u16) {
 
 // ---- The program
 
-// Publishes the register and prints the text of all days, or its refusal and no day.
-fn stand(rt: &HostRuntime, text: &[u8]) -> Days
-    ensures { PrintedOf text.now result.next result.whole }
+// Publishes the register and prints the text of all days, or its refusal and no day; where not all days are printed, the day on which what
+// is left begins.
+fn stand(rt: &HostRuntime, text: &[u8]) -> Result<(), u16>
+    ensures { PrintedOf text.now (next_in result) (whole_in result) }
 {
     let mut index = [0u16; INDEX];
     let started = service::read(text, &mut index);
-    if started.refusal != 0 {
-        print_refusal(rt, started.refusal, started.line);
-        return Days {
-            next: 1,
-            whole: false,
-        };
+    if let Err(refused) = started.outcome {
+        print_refusal(rt, refused);
+        return Err(1);
     }
-    let service = started.service;
-    service::publish(service, 1, &mut index);
+    service::publish(started.service, 1, &mut index);
     printing::print_days(rt, &index)
 }
 
@@ -53,7 +51,7 @@ fn main(rt: HostRuntime) {
         b"usage: stand < REGISTER\nReads a register on standard input and prints a line for each day on which somebody stands: the day, how many\nstand, the looks that the question took and the spell numbers, parted by tabs.\n",
         b"stand: standard input",
     );
-    if let Input::Read(n) = got {
-        stand(&rt, &text[0..n]);
+    if let Ok(n) = got {
+        let _ = stand(&rt, &text[..n]);
     }
 }

@@ -7,8 +7,6 @@ ghost use Rattle.stand_text.specs.Report.{DayEnds, PartStands};
 use stabbing::INDEX;
 use stand_text::{LAST_DAY, LINE, PART, Part};
 
-const TAB: u8 = 9;
-
 // The bytes of a part that has room for one line more.
 const ROOMY: usize = PART - LINE;
 
@@ -20,14 +18,13 @@ pub fn day_line(index: &[u16; INDEX], d: u16, buf: &mut [u8; LINE]) -> usize
     let mut numbers = [0u16; 1024];
     let o = questions::day(index, d, &mut numbers);
     let k = o.count;
-    let comparisons = o.comparisons;
     let at_numbers = decimals::put_numbers(buf, LINE, &numbers[..k]);
     if k == 0 {
         return at_numbers;
     }
-    let at_comparisons = decimals::put_number(buf, at_numbers, comparisons as u16, TAB);
-    let at_count = decimals::put_number(buf, at_comparisons, k as u16, TAB);
-    decimals::put_number(buf, at_count, d, TAB)
+    let at_comparisons = decimals::put_number(buf, at_numbers, o.comparisons as u16, b'\t');
+    let at_count = decimals::put_number(buf, at_comparisons, k as u16, b'\t');
+    decimals::put_number(buf, at_count, d, b'\t')
 }
 
 // The next part of the text of all days: the lines from day `from` on, as long as there is room for one more.

@@ -1,6 +1,6 @@
 -- A day's line: what the answer to the day says of the published list that an index shows, and the line put into a buffer from its last
 -- number to the day. Assumes nothing.
-use Rattle.basis.proofs.Prelude.{◌≡◌, ap, refl, ◌*◌, ◌<◌, ◌≤◌, ℕ, List, [], ◌∷◌, map, false, true, leb, length, take, take-append_seam, arith, le-leb, leb-true, both, by_cases, by_test, clash}
+use Rattle.basis.proofs.Prelude.{◌≡◌, ap, refl, ◌*◌, ◌<◌, ◌≤◌, ℕ, List, [], ◌∷◌, map, false, leb, length, take, take-append_seam, arith, le-leb, leb-true, both, by_cases, by_test, clash}
 use Rattle.spell.{specs.{declared.Spell.Spell, Listing.{Each, Sound}}, proofs.Entered.entered}
 use Rattle.calendar.specs.Calendar.{is_day}
 use Rattle.fields.specs.{Fields.{number_text, numbers_text}, Answers.Puts}

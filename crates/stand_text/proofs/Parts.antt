@@ -1,5 +1,5 @@
 -- The lines of days put one after the other into a part, and the parts one after another into the whole text. Assumes nothing.
-use Rattle.basis.proofs.Prelude.{◌∙◌, ◌≡◌, ap, refl, ◌+◌, ◌-◌, ◌<◌, ◌≤◌, suc, zero, ℕ, List, [], ◌++◌, append_assoc, append-nil, Bool, false, true, ◌⊎◌, ⊎_elim, leb, drop, length, add-one, add-zero, zero-add, arith, by_cases, le-leb, leb-false, leb-true, clash}
+use Rattle.basis.proofs.Prelude.{◌∙◌, ◌≡◌, ap, refl, subst, ◌+◌, ◌-◌, ◌<◌, ◌≤◌, suc, zero, ℕ, List, [], ◌++◌, append_assoc, append-nil, Bool, false, true, ◌⊎◌, ⊎_elim, leb, drop, length, add-one, add-zero, zero-add, arith, by_cases, le-leb, leb-false, leb-true, clash}
 use Rattle.spell.specs.declared.Spell.{Spell}
 use Rattle.register.specs.Text.{read_text}
 use Rattle.model.specs.{declared.Call.TheVariants.Publish, Effects.settle, Publishing.published_of, Model.{begun, refusal_in, effect_of, step}}
@@ -7,7 +7,7 @@ use Rattle.outcomes.specs.Outcomes.{asking}
 use Rattle.published_index.specs.Index.{Shows, Published}
 use Rattle.replies.proofs.Sending.{sends_bytes, sends_put}
 use Rattle.gathering.{specs.Gathering.{Appends, Appended}, proofs.Gathering.{appended_room, appends_on}}
-use Rattle.stand_text.specs.{declared.Part.Part, Report.{day_line, lines_of, text_of, taken, part_days, part_of, next_of, Come, none, more, Reached, Printed, PrintedOn, PrintedOf, DayEnds, Stands, PartStands}}
+use Rattle.stand_text.specs.{declared.Part.Part, Report.{day_line, lines_of, text_of, taken, part_days, part_of, next_of, Come, none, more, Reached, Printed, PrintedOn, PrintedOf, DayEnds, PartStands}}
 
 -- ---- Lines
 
@@ -115,6 +115,9 @@ module _ {ix : List ℕ} {d : ℕ} (f : Printing ix d) where
 
   pub printing_all : 4000 < d → PrintedOn ix d true
   printing_all h p shows = record { reached = f p shows; all = λ _. omega (arith, (come_to (f p shows).come).0) }
+
+  pub printing_whole : 4000 < d → PrintedOn ix 4001 true
+  printing_whole h p shows = let s = printing_all h p shows in record { reached = subst (λ (n : ℕ). Reached p n) (s.all refl) s.reached; all = λ _. refl }
 
   pub printing_some : PrintedOn ix d false
   printing_some p shows = record { reached = f p shows; all = λ e. absurd (clash e refl) }

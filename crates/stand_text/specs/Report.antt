@@ -1,6 +1,6 @@
 -- The lines that the program `stand` prints, and where its buffer holds them (document 01, "The program `stand`"). Assumes
 -- nothing.
-use Rattle.std.specs.Prelude.{ℕ, zero, suc, ◌+◌, ◌-◌, ◌≤◌, ◌<◌, ◌≡◌, Bool, true, cond, List, [], ◌∷◌, ◌++◌, leb, length, take, drop}
+use Rattle.std.specs.Prelude.{ℕ, zero, suc, ◌+◌, ◌-◌, ◌≤◌, ◌<◌, ◌≡◌, Bool, true, false, Result, Ok, Err, cond, List, [], ◌∷◌, ◌++◌, leb, length, drop}
 use Rattle.fields.specs.Fields.{numbers_text}
 use Rattle.spell.specs.declared.Spell.{Spell}
 use Rattle.register.specs.Text.{good, read_text}
@@ -83,6 +83,15 @@ pub record Reached (p : List Spell) (d : ℕ) : Type 0 where
 pub record Printed (p : List Spell) (next : ℕ) (whole : Bool) : Type 0 where
   pub reached : Reached p next
   pub all : whole ≡ true → next ≡ 4001
+
+-- what the program answers: that all days are printed, or the day on which a part begins that is not
+abbrev pub next_in : {A : Type 0} → Result A ℕ → ℕ
+next_in (Ok _) = 4001
+next_in (Err d) = d
+
+abbrev pub whole_in : {A : Type 0} → Result A ℕ → Bool
+whole_in (Ok _) = true
+whole_in (Err _) = false
 
 -- of whatever published list the index shows
 abbrev pub PrintedOn : List ℕ → ℕ → Bool → Type 0

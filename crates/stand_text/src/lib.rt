@@ -11,7 +11,7 @@ pub const PART: usize = 65536;
 pub const LAST_DAY: u16 = 4000;
 
 // Whole lines in the first places of a list: how many bytes they have, and the day to go on with.
-#[derive(Clone, Copy)]
+#[derive(Clone, Copy, Debug, PartialEq, Eq)]
 pub struct Part {
     pub bytes: usize,
     pub next: u16,

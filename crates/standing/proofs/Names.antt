@@ -13,7 +13,7 @@ pub use Rattle.journal.{proofs.{Journal.pop, Past.{goods_take, length_past, past
 unfoldable pub use Rattle.journal.specs.Words.{entry_of, entry_words}
 pub use Rattle.spell_places.{proofs.{Found.insert_remove, Changing.counted_is}, specs.{List.{changing, counted_of, putting, without}, Search.{found_in, stands_at}, declared.Located.Located}}
 unfoldable pub use Rattle.spell_places.specs.Search.{lead}
-pub use Rattle.plans.{specs.{Plans.{deeper_by, no_plan, plan_amend, plan_back, plan_enter, plan_strike}, declared.Plan.Plan}, proofs.Plans.{Makes, Undoes, amend_idles, amend_leaves, amend_makes, back_leaves, back_undoes, deeper_noted, enter_leaves, enter_makes, none_keeps, strike_leaves, strike_makes}}
+pub use Rattle.plans.{specs.{Plans.{Decides, Decision, deeper_by, no_plan, plan_by, plan_amend, plan_back, plan_enter, plan_strike}, declared.Plan.Plan}, proofs.Plans.{Makes, Undoes, amend_idles, amend_leaves, amend_makes, back_leaves, back_undoes, deeper_noted, enter_leaves, enter_makes, none_keeps, strike_leaves, strike_makes}}
 unfoldable pub use Rattle.plans.specs.Plans.{number_of, plan_of, Takes}
-pub use Rattle.standing.specs.{Plans.plan_for, Packed.{Packs, array_in, assembled, journal_in}, Places.{entering, fresh_standing, holding, loaded_of, noted, relisted, replacing}, Standing.{Edits, Fresh, TakesBack, Wf, after_edit, after_reading, after_take_back, entries, list_of, makes, pasts, Keeps}, declared.{Edited.Edited, Standing.Standing}}
+pub use Rattle.standing.specs.{Plans.plan_for, Packed.{Packs, array_in, assembled, journal_in}, Places.{entering, fresh_standing, holding, loaded_of, noted, relisted, replacing}, Standing.{After, Edits, Fresh, TakesBack, Wf, after_edit, after_reading, after_take_back, entries, list_of, makes, pasts, Keeps}, declared.Standing.Standing}
 unfoldable pub use Rattle.standing.specs.{Packed.{packed, unpacked}, Standing.{Does, Goods, past_of, undo}}

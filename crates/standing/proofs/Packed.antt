@@ -1,5 +1,5 @@
 -- A standing list's words in their parts: the array, the journal, the count and the depth; and that they read back as it. Assumes nothing.
-use Rattle.basis.proofs.Prelude.{◌∙◌, ◌≡◌, ap, ◌+◌, ◌≤◌, ℕ, List, [], ◌++◌, ◌∷◌, append_assoc, append-nil, drop, drop-append-le, drop_of_length-le, get_or, length, length-append, length-drop, length-take, List·getD-append, map, set, take, drop_at, get_or_at, get_or-append-add, sets-eq, take_at, arith, le-leb}
+use Rattle.basis.proofs.Prelude.{◌∙◌, ◌≡◌, ap, ◌≤◌, ℕ, List, [], ◌++◌, ◌∷◌, append_assoc, append-nil, drop, drop-append-le, drop_of_length-le, get_or, length, length-append, length-drop, length-take, List·getD-append, map, set, drop_at, get_or_at, get_or-append-add, sets-eq, take_at, arith, le-leb}
 use Rattle.standing.proofs.Names.{Every, Narrow, Wf, entry_back, every_same, spell_back, array_in, assembled, journal_in, spell_width, entry_width, spells_length, journal_length, count_place, depth_place, standing_length, written, parts, PutAll, spell_words, spell_of, spell_near, put_first, put_long, written_length, read_back, spell_long, Standing, entry_words, entry_of, entry_long, packed, unpacked, Packs}
 
 -- the words after an entry's own are not read

@@ -3,7 +3,7 @@ use Rattle.std.specs.Prelude.{List, reverse, length, replicate}
 use Rattle.buffer.specs.Buffer.{over}
 use Rattle.spell.specs.declared.Spell.{Spell}
 use Rattle.spell.specs.Blank.{blank}
-use Rattle.register.specs.declared.Reading.{Reading}
+use Rattle.register.specs.Answers.{Read}
 use Rattle.journal.specs.declared.Undo.{Undo}
 use Rattle.journal.specs.Journal.{blank_entry}
 use Rattle.standing.specs.declared.Standing.{Standing}
@@ -31,5 +31,5 @@ abbrev pub fresh_standing : Standing
 fresh_standing = record { spells = replicate 1024 blank; count = 0; journal = replicate 64 blank_entry; depth = 0 }
 
 -- the spells of a reading, over a fresh start
-abbrev pub loaded_of : Reading → Standing
+abbrev pub loaded_of : Read → Standing
 loaded_of g = record { spells = g.spells; count = g.count; journal = fresh_standing.journal; depth = 0 }

@@ -11,6 +11,7 @@ use Rattle.journal.specs.Journal.{newest_first}
 unfoldable pub use Rattle.journal.specs.Past.{undo, past_of, Goods}
 use Rattle.standing.specs.declared.Standing.{Standing}
 use Rattle.standing.specs.declared.Edited.{Edited}
+use Rattle.refusal.specs.Numbers.{number_in}
 use Rattle.standing.specs.Places.{holding, fresh_standing, noted, entering, replacing}
 use Rattle.register.specs.Text.{Register}
 use Rattle.model.specs.Model.{begun}
@@ -40,6 +41,14 @@ pub record Wf (st : Standing) : Type 0 where
 
 -- ---- What each call gives
 
+-- the standing list after a call, and what the call is told: the refusal's number, or 0
+pub record After : Type 0 where
+  pub standing : Standing
+  pub refusal : ℕ
+
+abbrev pub after_of : Edited → After
+after_of e = record { standing = e.standing; refusal = number_in e.outcome }
+
 -- a fresh start: nothing stands, and there is no past; every place is blank
 pub record Fresh (r : Standing) : Type 0 where
   pub wf : Wf r
@@ -57,7 +66,7 @@ after_edit st idle n l' e = cond (makes idle n) (holding st l' (noted e (entries
 
 -- an edit that is refused with the number n, or, at 0, makes the standing list l' and remembers the former one; refused or idle, it changes
 -- nothing
-pub record Edits (st : Standing) (r : Edited) (idle : Bool) (n : ℕ) (l' : List Spell) (e : Undo) : Type 0 where
+pub record Edits (st : Standing) (r : After) (idle : Bool) (n : ℕ) (l' : List Spell) (e : Undo) : Type 0 where
   pub refusal : r.refusal ≡ n
   pub wf : Wf r.standing
   pub list : list_of r.standing ≡ cond (makes idle n) l' (list_of st)
@@ -70,7 +79,7 @@ abbrev pub after_take_back : Standing → Standing
 after_take_back st = holding st (front_or (list_of st) (pasts st)) (drop 1 (entries st))
 
 -- take back: the standing list becomes the front of the past, which loses it
-pub record TakesBack (st : Standing) (r : Edited) : Type 0 where
+pub record TakesBack (st : Standing) (r : After) : Type 0 where
   pub refusal : r.refusal ≡ take_back_refusal (pasts st)
   pub wf : Wf r.standing
   pub list : list_of r.standing ≡ front_or (list_of st) (pasts st)
@@ -79,11 +88,11 @@ pub record TakesBack (st : Standing) (r : Edited) : Type 0 where
   pub whole : r.standing ≡ after_take_back st
 
 -- a call that is no edit
-abbrev pub Keeps : Standing → Edited → Type 0
+abbrev pub Keeps : Standing → After → Type 0
 Keeps st r = r ≡ record { standing = st; refusal = accepted }
 
 -- any call: an edit, a take back, or one that leaves the standing list as it was
-unfoldable pub Does : Standing → Call → Edited → Type 0
+unfoldable pub Does : Standing → Call → After → Type 0
 Does st (Enter s) r = Edits st r false (enter_refusal (list_of st) s) (insert s (list_of st)) (entering s)
 Does st (Amend s) r = Edits st r (idle (list_of st) s) (amend_refusal (list_of st) s) (replace s (list_of st)) (replacing s.number (list_of st))
 Does st (Strike k) r = Edits st r false (strike_refusal (list_of st) k) (remove k (list_of st)) (replacing k (list_of st))

@@ -16,10 +16,8 @@ fn put_standing(st: Standing, out: &mut [u16])
     requires out_len { length out.old ≡ standing_length }
     ensures { Packs st out.new }
 {
-    let spells = st.spells;
-    let journal = st.journal;
-    packing::put_spells(spells, &mut out[0..SPELLS]);
-    standing_journal::put_journal(journal, &mut out[SPELLS..COUNT]);
+    packing::put_all(&st.spells, &mut out[0..SPELLS]);
+    packing::put_all(&st.journal, &mut out[SPELLS..COUNT]);
     out[COUNT] = st.count as u16;
     out[DEPTH] = st.depth as u16;
 }
@@ -28,13 +26,11 @@ fn standing_at(words: &[u16]) -> Standing
     requires { length words.now ≡ standing_length }
     ensures { result ≡ unpacked words.now }
 {
-    let spells = packing::spells_at(&words[0..SPELLS]);
-    let journal = standing_journal::journal_at(&words[SPELLS..COUNT]);
     Standing {
-        spells,
-        count: words[COUNT] as usize,
-        journal,
-        depth: words[DEPTH] as usize,
+        spells: packing::all_at(&words[0..SPELLS]),
+        count: usize::from(words[COUNT]),
+        journal: packing::all_at(&words[SPELLS..COUNT]),
+        depth: usize::from(words[DEPTH]),
     }
 }
 

@@ -1,2 +1,1 @@
-pub mod Entries
 mod Names

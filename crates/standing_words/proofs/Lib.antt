@@ -1,4 +1,3 @@
-pub mod Moves
 pub mod Values
 pub mod Reading
 pub mod Changing

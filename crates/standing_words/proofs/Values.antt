@@ -1,7 +1,7 @@
 -- Words that hold values, k words each: cut and joined at whole values they hold the values cut and joined. Assumes nothing.
-use Rattle.basis.proofs.Prelude.{◌∙◌, ◌≡◌, ap, refl, sym, ◌*◌, ◌+◌, ◌-◌, ◌<◌, ◌≤◌, suc, ℕ, List, [], ◌++◌, ◌∷◌, append_assoc, append-nil, append_snoc, drop, length, length-append, length-drop, length-take, take, take-append-drop, drop_at, length-take-le, slice, set, set_split, sets, sets-eq, add-one, take_at, take-take, mul-le-mul_right, suc-mul, arith}
-use lib.Seq.{take-append-le}
-use Rattle.standing_words.proofs.Names.{raised, put_sets, Holds, add-mul, closed, front, lowered, opened, over, parts, parts_length, parts_near, parts_part, put, written, written_append, written_length}
+use Rattle.basis.proofs.Prelude.{◌∙◌, ◌≡◌, ap, refl, sym, ◌*◌, ◌+◌, ◌-◌, ◌<◌, ◌≤◌, suc, ℕ, List, [], ◌++◌, ◌∷◌, append-nil, append_snoc, drop, length, length-append, length-drop, take, take-append-drop, drop_at, length-take-le, slice, set, set_split, sets-eq, add-one, take_at, mul-le-mul_right, suc-mul, arith}
+use Rattle.std.specs.List.{copy_within}
+use Rattle.standing_words.proofs.Names.{put_sets, Holds, add-mul, copied, parts, parts_length, parts_near, parts_part, put, written, written_append, written_length}
 
 module _ {A : Type 0} (k : ℕ) (f : A → List ℕ) (g : List ℕ → A) (wide : (x : A) → length (f x) ≡ k) (near : (x r : List ℕ) → k ≤ length x → g (x ++ r) ≡ g x) (L : Type 0) where
   abbrev Are : ℕ → List ℕ → List A → Type 0
@@ -45,19 +45,12 @@ module _ {A : Type 0} (k : ℕ) (f : A → List ℕ) (g : List ℕ → A) (wide 
         let all : (i + m) + (n - (i + m)) ≡ n = omega arith in
         rw all at (join (join (cut i (n - i) (omega arith) v).0 q) (cut (i + m) (n - (i + m)) (omega arith) v).1)
 
-    -- a value is taken out: those after it, up to the value i, move down
-    pub lowers : (p i : ℕ) → p ≤ i → i < n → Are n (lowered k (p * k) (i * k) x) (closed p i a)
-    unfolding closed front
-    lowers p i h b =
-        let least : suc i - suc p ≡ i - p = omega arith in
-        let all : p + (i - p) ≡ i = omega arith in
-        rw all at (puts_many p (i - p) (rw (suc-mul p k, suc-mul i k, least) at (some (suc p) (suc i) (omega arith) (omega arith))) (omega arith))
-
-    -- those from the value q on, up to the value m, move up
-    pub raises : (q m : ℕ) → q ≤ m → m < n → Are n (raised k (q * k) (m * k) x) (take (suc q) a ++ slice q m a ++ drop (suc m) a)
-    raises q m h b =
-        let all : suc q + (m - q) ≡ suc m = omega arith in
-        rw (suc-mul q k, all, suc-mul m k) at (puts_many (suc q) (m - q) (some q m h (omega arith)) (omega arith))
+    -- the values i to j - 1 are copied to the value d on
+    pub copies : (i j d : ℕ) → i ≤ j → j ≤ n → d + (j - i) ≤ n → Are n (copy_within x (i * k) (j * k) (d * k)) (copy_within a i j d)
+    copies i j d h b fits =
+        let all : i + (j - i) ≡ j = omega arith in
+        let end : d * k + (j * k - i * k) ≡ (d + (j - i)) * k = omega (arith, add-mul d (j - i) k, rw all at (add-mul i (j - i) k)) in
+        rw (copied i j d a h, copied (i * k) (j * k) (d * k) x (mul-le-mul_right k h), end) (puts_many d (j - i) (some i j h b) fits)
 
     -- a value is put over the value i
     pub puts_over : (i : ℕ) (s : A) → g (f s) ≡ s → i < n → Are n (put (i * k) (f s) x) (set a i s)
@@ -65,13 +58,3 @@ module _ {A : Type 0} (k : ℕ) (f : A → List ℕ) (g : List ℕ → A) (wide 
         let room : i * k + length (f s) ≤ length x = omega (arith, wide s, v.long, suc-mul i k, mul-le-mul_right k b) in
         let end : i * k + length (f s) ≡ (i + 1) * k = omega (arith, wide s, add-mul i 1 k) in
         rw (← put_sets (i * k) (f s) x room, sets-eq (f s) x (i * k) room, end, set_split a i s (omega (arith, ap length v.read, parts_length k g n x)), ← append_snoc (take i a) s (drop (suc i) a), ← add-one i) (puts_many i 1 (one s back) (omega arith))
-
--- s put over the value q where those from there on have moved up
-pub opened_is : {A : Type 0} (a : List A) (q m : ℕ) (s : A) → q ≤ m → m < length a → set (take (suc q) a ++ slice q m a ++ drop (suc m) a) q s ≡ over (opened q s (take m a)) a
-opened_is a q m s h b =
-    let rest = slice q m a ++ drop (suc m) a in
-    let first = length-take-le (suc q) a (omega arith) in
-    let many : length (opened q s (take m a)) ≡ suc m = simp (length-append, length-take, length-drop) (omega arith) in
-    rw (many, append_assoc (take (suc q) a) (slice q m a) (drop (suc m) a), set_split (take (suc q) a ++ rest) q s (omega (arith, length-append (take (suc q) a) rest)))
-    (rw (drop_at (take (suc q) a) rest (suc q) first, take-append-le q (take (suc q) a) rest (omega arith), take-take q (suc q) a (omega arith), take-take q m a h)
-    (sym (append_assoc (take q a) (s ∷ slice q m a) (drop (suc m) a))))

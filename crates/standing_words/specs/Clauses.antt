@@ -1,5 +1,7 @@
 -- What the private functions give. Assumes nothing.
-use Rattle.std.specs.Prelude.{ℕ, ◌*◌, ◌≡◌, Bool, cond, List, length, take}
+use Rattle.std.specs.Prelude.{ℕ, ◌*◌, ◌≡◌, Bool, cond, List, length, take, Result}
+use Rattle.refusal.specs.declared.Refusal.{Refusal}
+use Rattle.refusal.specs.Numbers.{number_in}
 use Rattle.buffer.specs.Buffer.{over}
 use Rattle.spell.specs.declared.Spell.{Spell}
 use Rattle.packing.specs.Layout.{spell_width, entry_width, standing_length}
@@ -8,7 +10,7 @@ use Rattle.packing.specs.Words.{spell_words, spell_of}
 use Rattle.spell_places.specs.List.{without, putting, changing}
 use Rattle.model.specs.declared.Call.{Call}
 use Rattle.plans.specs.declared.Plan.{Plan}
-use Rattle.plans.specs.Plans.{Takes}
+use Rattle.plans.specs.Plans.{Decides, Takes}
 use Rattle.standing.specs.Standing.{Wf}
 use Rattle.standing.specs.Plans.{plan_for}
 use Rattle.standing.specs.Packed.{unpacked}
@@ -50,9 +52,9 @@ Notes d notes e y y' = Holds entry_width entry_words entry_of (written entry_wor
 
 -- ---- The plan
 
--- the plan p of the call c, on words that the calls gave
-pub record Planned (x : List ℕ) (c : Call) (p : Plan) : Type 0 where
+-- the answer r to the call c, on words that the calls gave
+pub record Planned (x : List ℕ) (c : Call) (r : Result Plan Refusal) : Type 0 where
   pub whole : length x ≡ standing_length
   pub wf : Wf (unpacked x)
-  pub is : p ≡ plan_for (unpacked x) c
-  pub takes : Takes c p.refusal
+  pub is : let st = unpacked x in Decides st.depth (plan_for st c) r
+  pub takes : Takes c (number_in r)

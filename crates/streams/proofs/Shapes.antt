@@ -3,7 +3,7 @@ use Rattle.basis.proofs.Prelude.{◌∙◌, ◌≡◌, ap, refl, ◌+◌, ◌-�
 use Rattle.requests.specs.Requests.{malformed, asked_of, following}
 use Rattle.streams.specs.Stream.{in_line, kept, wants, settled, line_fed, feed, onward, cut_from, cut, Plain}
 
-kept_take : (most : ℕ) (s : List ℕ) (b : ℕ) → kept most (take most s) b ≡ take most (s ++ b ∷ [])
+pub kept_take : (most : ℕ) (s : List ℕ) (b : ℕ) → kept most (take most s) b ≡ take most (s ++ b ∷ [])
 unfolding kept
 kept_take zero s b = refl
 kept_take (suc most) [] b = refl

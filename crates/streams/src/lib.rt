@@ -10,7 +10,7 @@ pub const TEXT: usize = 65536;
 // A request that has come in part: so many bytes are kept of its line and of the text after it, and so many of the text are still
 // wanted; none while the line is not whole.
 #[repr(C)]
-#[derive(Clone, Copy)]
+#[derive(Clone, Copy, Debug, PartialEq, Eq)]
 pub struct Frame {
     pub line: usize,
     pub payload: usize,
@@ -18,7 +18,7 @@ pub struct Frame {
 }
 
 // A whole request: so many bytes of its line and of its text, and the place after it. Or a part of one, where all bytes are taken.
-#[derive(Clone, Copy)]
+#[derive(Clone, Copy, Debug, PartialEq, Eq)]
 pub enum Framed {
     Whole(usize, usize, usize),
     Part(Frame),
@@ -28,7 +28,7 @@ pub enum Framed {
 // part of one: the frame to go on with. Outcome 2 refuses a frame that no call gave and a place that is not there: all else is 0, and
 // both lists are as they were.
 #[repr(C)]
-#[derive(Clone, Copy)]
+#[derive(Clone, Copy, Debug, PartialEq, Eq)]
 pub struct Advanced {
     pub outcome: u32,
     pub line: usize,

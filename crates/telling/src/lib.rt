@@ -2,15 +2,17 @@
 #![tactic(auto)]
 
 ghost use Rattle.std.specs.Prelude.{◌≡◌};
+ghost use Rattle.refusal.specs.Numbers.{number_in};
+ghost use Rattle.register.specs.Answers.{written_in};
+ghost use Rattle.stabbing.specs.Answer.{told_in};
 ghost use Rattle.outcomes.specs.Outcomes.{told_of, found_of, wrote_of, ticking_of};
 
 use outcomes::Outcome;
-use refusal::ACCEPTED;
-use register::Written;
+use refusal::Refusal;
 use stabbing::Listed;
 
-// A number and no more: the refusal's, or 0.
-pub fn told(number: u16) -> Outcome
+// A number and no more: a refusal's, or 0.
+pub fn numbered(number: u16) -> Outcome
     ensures { result ≡ told_of number }
 {
     Outcome {
@@ -22,29 +24,37 @@ pub fn told(number: u16) -> Outcome
     }
 }
 
-// What a question found in the index.
-pub fn found(l: Listed) -> Outcome
-    ensures { result ≡ found_of l }
+// Whether a call was accepted, and no more.
+pub fn told(answer: Result<(), Refusal>) -> Outcome
+    ensures { result ≡ told_of (number_in answer) }
 {
-    Outcome {
-        refusal: l.refusal,
-        count: l.count,
-        comparisons: l.comparisons,
-        length: 0,
-        ticked: 0,
+    numbered(refusal::number_in(answer))
+}
+
+// What a question found in the index.
+pub fn found(answer: Result<Listed, Refusal>) -> Outcome
+    ensures { result ≡ found_of (told_in answer) }
+{
+    match answer {
+        Ok(l) => Outcome {
+            count: l.count,
+            comparisons: l.comparisons,
+            ..told(Ok(()))
+        },
+        Err(refusal) => told(Err(refusal)),
     }
 }
 
-// What was written of a text.
-pub fn wrote(w: Written) -> Outcome
-    ensures { result ≡ wrote_of w }
+// What was written of a text: its length.
+pub fn wrote(answer: Result<usize, Refusal>) -> Outcome
+    ensures { result ≡ wrote_of (written_in answer) }
 {
-    Outcome {
-        refusal: w.refusal,
-        count: 0,
-        comparisons: 0,
-        length: w.length,
-        ticked: 0,
+    match answer {
+        Ok(length) => Outcome {
+            length,
+            ..told(Ok(()))
+        },
+        Err(refusal) => told(Err(refusal)),
     }
 }
 
@@ -52,14 +62,9 @@ pub fn wrote(w: Written) -> Outcome
 pub fn ticking(o: Outcome, n: usize) -> Outcome
     ensures { result ≡ ticking_of o n }
 {
-    if o.refusal != ACCEPTED {
-        return o;
-    }
-    Outcome {
-        refusal: o.refusal,
-        count: o.count,
-        comparisons: o.comparisons,
-        length: o.length,
-        ticked: n,
+    if o.refusal == 0 {
+        Outcome { ticked: n, ..o }
+    } else {
+        o
     }
 }

@@ -10,7 +10,7 @@ ghost use Rattle.service.specs.Service.{blocks, Given};
 
 use conversations::{Answered, DAYS, ROOM, Wanted};
 use model::Call;
-use refusal::{ACCEPTED, MALFORMED};
+use refusal::Refusal;
 use replies::OUT;
 use service::Service;
 use stabbing::INDEX;
@@ -34,13 +34,10 @@ fn call_turn(
     ensures { CallTurn service (blocks index.old) (asking call days.now numbers.old text.old) room out.old result (blocks index.new) numbers.new text.new out.new }
 {
     let r = service::step(service, index, call, days, numbers, text);
-    let next = r.service;
-    let outcome = r.outcome;
-    let place = reply_calls::put_reply(out, call, outcome, numbers, text);
     Answered {
-        service: next,
+        service: r.service,
         room,
-        place,
+        place: reply_calls::put_reply(out, call, r.outcome, numbers, text),
     }
 }
 
@@ -83,29 +80,23 @@ pub fn restart(
 ) -> Answered
     ensures { Restarted (room_of room) length payload.now out.old result (blocks index.new) out.new }
 {
-    let room = buffer::least(room, ROOM);
+    let room = room.min(ROOM);
     if length > LONGEST_TEXT {
-        let service = service::fresh(index);
-        let place = reply_lines::put_refused_line(out, MALFORMED, 0);
         return Answered {
-            service,
+            service: service::fresh(index),
             room,
-            place,
+            place: reply_lines::put_refused_line(out, Refusal::Malformed.number(), 0),
         };
     }
     let r = service::read(payload, index);
-    let service = r.service;
-    if r.refusal != ACCEPTED {
-        let place = reply_lines::put_refused_line(out, r.refusal, r.line);
-        return Answered {
-            service,
-            room,
-            place,
-        };
-    }
-    let place = reply_lines::put_ok(out);
+    let place = match r.outcome {
+        Ok(()) => reply_lines::put_ok(out),
+        Err(refused) => {
+            reply_lines::put_refused_line(out, refused.refusal.number(), refused.line)
+        }
+    };
     Answered {
-        service,
+        service: r.service,
         room,
         place,
     }
@@ -128,8 +119,8 @@ pub fn carry(
 {
     match wanted {
         Wanted::Call(call, k) => {
-            let lent = buffer::least(room, ROOM);
-            let few = buffer::least(k, DAYS);
+            let lent = room.min(ROOM);
+            let few = k.min(DAYS);
             carry_call(service, index, lent, call, few, days, numbers, text, out)
         }
         Wanted::Read(n) => restart(index, room, n, payload, out),

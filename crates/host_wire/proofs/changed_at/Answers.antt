@@ -1,19 +1,19 @@
 -- `host_wire::changed_at` meets its contract. Assumes nothing.
-use Rattle.host_wire.proofs.Names.{changed_no, changed_yes, changed_at, eq-eqb, ne_eqb}
+use Rattle.host_wire.proofs.Names.{◌≡◌, refl, Bool, true, false, cond, changed_at, from_bool}
 use Rattle.host_wire.proofs.changed_at.Goals as goal
 
-pub returns-then-power-eq0 : goal.returns-then-power-eq0
-unfolding changed_at
-returns-then-power-eq0 c = search eq-eqb
+bit_of : (b : Bool) → from_bool b ≡ cond b 1 0
+bit_of true = refl
+bit_of false = refl
 
-pub returns-then-power-eq2 : goal.returns-then-power-eq2
+pub returns-in-Reads : goal.returns-in-Reads
 unfolding changed_at
-returns-then-power-eq2 c = search (eq-eqb, ne_eqb)
+returns-in-Reads c = rw c.in-Reads.is
 
-pub returns-then-is_at : goal.returns-then-is_at
+pub returns-in-Changes : goal.returns-in-Changes
 unfolding changed_at
-returns-then-is_at c = search changed_yes
+returns-in-Changes c = rw (c.in-Changes.is, ← c.is_at.ensures) (bit_of c.is_at.result)
 
-pub returns : goal.returns
+pub returns-in-Replaces : goal.returns-in-Replaces
 unfolding changed_at
-returns c = search changed_no
+returns-in-Replaces c = rw c.in-Replaces.is

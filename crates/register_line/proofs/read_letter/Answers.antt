@@ -1,29 +1,24 @@
 -- `register_line::read_letter` meets its contract. Assumes nothing.
-use Rattle.basis.proofs.Prelude.{◌∙◌, sym, arith}
-use Rattle.fields.proofs.Places.{at_inside}
-use Rattle.register_line.proofs.Places.{letter_past, letter_other, letter_alone, letter_there}
+use Rattle.basis.proofs.Prelude.{◌∙◌, sym}
+use Rattle.register_line.proofs.Places.{letter_alone, letter_is, letter_other, letter_past, letter_there}
 use Rattle.register_line.proofs.read_letter.Goals as goal
 
-pub returns-then-text-at : goal.returns-then-text-at
-returns-then-text-at c = search letter_past
+pub returns-in_err-b : goal.returns-in_err-b
+returns-in_err-b c = rw c.from_residual.ensures (letter_past _ _ c.in_err-b.ensures.lookup.3)
 
-pub is_letter-requires : goal.is_letter-requires
-is_letter-requires c = tt
-
-pub returns-then-not-is_letter : goal.returns-then-not-is_letter
-returns-then-not-is_letter c = search letter_other
-
-pub is_at-requires : goal.is_at-requires
-is_at-requires c = tt
+pub returns-then-b-ne67 : goal.returns-then-b-ne67
+returns-then-b-ne67 c =
+    let at = c.in_ok-b.ensures.lookup.3 in
+    letter_other _ _ at.0 (rw (at.1 0) at c.if-b-ne71.true) (rw (at.1 0) at c.if-b-ne67.true)
 
 pub returns-then-not-is_at : goal.returns-then-not-is_at
-returns-then-not-is_at c = search letter_alone
-
-pub overflow_cast-result : goal.overflow_cast-result
-overflow_cast-result c = omega (arith, c.shared_slice_known-2-1.given c.args.at)
-
-pub overflow_add-result : goal.overflow_add-result
-overflow_add-result c = let t = sym c.is_at.ensures ∙ c.if-not-is_at.false in omega (arith, at_inside)
+returns-then-not-is_at c =
+    let at = c.in_ok-b.ensures.lookup.3 in
+    let letter = rw (at.1 0) at (letter_is _ c.else-b-ne71.either) in
+    letter_alone _ _ at.0 letter (sym c.is_at.ensures ∙ c.if-not-is_at.true)
 
 pub returns : goal.returns
-returns c = search letter_there
+returns c =
+    let at = c.in_ok-b.ensures.lookup.3 in
+    let letter = rw (at.1 0) at (letter_is _ c.else-b-ne71.either) in
+    rw (at.1 0) (letter_there _ _ at.0 letter (sym c.is_at.ensures ∙ c.if-not-is_at.false))

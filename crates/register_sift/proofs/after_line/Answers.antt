@@ -1,16 +1,9 @@
--- `register_sift::after_line` meets its contract: what follows the line is what follows it from the place i on. Assumes nothing.
-use Rattle.basis.proofs.Prelude.{◌-◌, arith}
-use Rattle.register_sift.proofs.Judging.{ends_here, goes_on, ends_text}
+-- `register_sift::after_line` meets its contract. Assumes nothing.
+use Rattle.register_sift.proofs.Judging.{ends_at, ends_text}
 use Rattle.register_sift.proofs.after_line.Goals as goal
 
-pub loop-i-init : goal.loop-i-init
-loop-i-init c = search arith
+pub returns-in-Some : goal.returns-in-Some
+returns-in-Some c = let first = c.in-Some.ensures in search ends_at
 
-pub returns-then-b-eq-LF : goal.returns-then-b-eq-LF
-returns-then-b-eq-LF c = search ends_here
-
-pub loop-i-preserved : goal.loop-i-preserved
-loop-i-preserved c = search (goes_on, arith)
-
-pub returns : goal.returns
-returns c = search ends_text
+pub returns-in-None : goal.returns-in-None
+returns-in-None c = let none = c.in-None.ensures in search ends_text

@@ -1,13 +1,13 @@
--- `register_write::write` meets its contract. The invariant is `Back`: the text of the spells from i on stands at the end. Assumes nothing.
+-- `register_write::write` meets its contract. The invariant is `Back`: the text of the spells that were passed stands at the end. Assumes nothing.
 use Rattle.basis.proofs.Prelude.{rules, unmapped}
 use Rattle.register_write.proofs.Backward.{back_start, back_room, back_step}
 use Rattle.register_write.proofs.write.Goals as goal
 
-pub loop-i-init : goal.loop-i-init
-loop-i-init c = search (back_start, unmapped, rules)
+pub loop-s-init : goal.loop-s-init
+loop-s-init c = search (back_start, unmapped, rules)
 
 pub put_line-at-requires : goal.put_line-at-requires
-put_line-at-requires c = search back_room
+put_line-at-requires c = let last = c.in-Some.ensures.steps in search back_room
 
-pub loop-i-preserved : goal.loop-i-preserved
-loop-i-preserved c = search back_step
+pub loop-s-preserved : goal.loop-s-preserved
+loop-s-preserved c = let last = c.in-Some.ensures.steps in search back_step

@@ -1,6 +1,7 @@
 -- `reply_calls::put_fitting` meets its contract: a refused call, and each shape. Assumes nothing.
 use Rattle.basis.proofs.Prelude.{sym, length-take-le, rules}
 use Rattle.replies.specs.Replies.{shape_text}
+use Rattle.reply_calls.proofs.Counted.{listed_counted, several_counted}
 use Rattle.reply_calls.proofs.Shapes.{few, sends_refused, sends_shape}
 use Rattle.reply_calls.proofs.put_fitting.Goals as goal
 
@@ -24,13 +25,13 @@ pub put_listed-requires : goal.put_listed-requires
 unfolding shape_text
 put_listed-requires c = search (few, rules)
 
-pub slice_bounds-put_several-end : goal.slice_bounds-put_several-end
+pub slice_bounds-put_listed-end-in-Several : goal.slice_bounds-put_listed-end-in-Several
 unfolding shape_text
-slice_bounds-put_several-end c = sym (search length-take-le)
+slice_bounds-put_listed-end-in-Several c = sym (search length-take-le)
 
-pub put_several-requires : goal.put_several-requires
+pub put_listed-requires-in-Several : goal.put_listed-requires-in-Several
 unfolding shape_text
-put_several-requires c = search (few, rules)
+put_listed-requires-in-Several c = search (few, rules)
 
 pub slice_bounds-put_ticked-end : goal.slice_bounds-put_ticked-end
 unfolding shape_text
@@ -50,11 +51,11 @@ returns-in-Text c = search sends_shape
 
 pub returns-in-Listed : goal.returns-in-Listed
 unfolding shape_text
-returns-in-Listed c = search sends_shape
+returns-in-Listed c = let s = rw listed_counted at c.put_listed.ensures in search sends_shape
 
 pub returns-in-Several : goal.returns-in-Several
 unfolding shape_text
-returns-in-Several c = search sends_shape
+returns-in-Several c = let s = rw several_counted at c.put_listed-in-Several.ensures in search sends_shape
 
 pub returns-in-Ticked : goal.returns-in-Ticked
 unfolding shape_text

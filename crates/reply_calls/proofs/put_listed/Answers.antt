@@ -1,7 +1,7 @@
 -- `reply_calls::put_listed` meets its contract. Assumes nothing.
-use Rattle.replies.{specs.Replies.listed_text, proofs.Sending.placing}
+use Rattle.replies.proofs.Sending.{placing}
+use Rattle.reply_calls.proofs.Counted.{placed_counted}
 use Rattle.reply_calls.proofs.put_listed.Goals as goal
 
 pub returns : goal.returns
-unfolding listed_text
-returns c = search placing depth 9
+returns c = search (placing, placed_counted) depth 8

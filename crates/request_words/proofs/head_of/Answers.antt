@@ -1,7 +1,9 @@
--- `request_words::head_of` meets its contract. Assumes nothing.
-use Rattle.requests.specs.Words.{head_of, table}
+-- `request_words::head_of` meets its contract: the rows of the program's table are those of the protocol's. Assumes nothing.
+use Rattle.basis.proofs.Prelude.{◌∙◌}
+use Rattle.requests.specs.Words.{table}
+use Rattle.request_words.proofs.Words.{head_is}
 use Rattle.request_words.proofs.head_of.Goals as goal
 
 pub returns : goal.returns
-unfolding head_of table
-returns c = rw (c.head_or.ensures, c.head_or-h.ensures, c.head_or_three-h-4.ensures, c.head_or_three-h-3.ensures, c.head_or_three-h-2.ensures, c.head_or_three-h.ensures)
+unfolding table
+returns c = c.head_among.ensures ∙ head_is table _

@@ -1,25 +1,15 @@
--- `stabbing_days::skip` meets its contract: each need is a step of `proofs/Skipping.antt`. Assumes nothing.
-use Rattle.basis.proofs.Prelude.{refl, ◌-◌, zero-le, arith}
-use Rattle.stabbing_days.proofs.Skipping.{all_new, begins, old, new, ends}
+-- `stabbing_days::skip` meets its contract: each goal is a step of `proofs/Skipping.antt`. Assumes nothing.
+use Rattle.basis.proofs.Prelude.{rules}
+use Rattle.std.proofs.lemmas.List.Sorted.{IsPartitionPoint-from_clause}
+use Rattle.stabbing_days.proofs.Skipping.{none_found, early, all_old, parted_at}
 use Rattle.stabbing_days.proofs.skip.Goals as goal
 
-pub returns-then-m-eq0 : goal.returns-then-m-eq0
-returns-then-m-eq0 c = search all_new
-
-pub returns-then-n-eq0 : goal.returns-then-n-eq0
-returns-then-n-eq0 c = ends (begins _ _ _ (search)) refl (omega arith)
+pub returns-in_default : goal.returns-in_default
+returns-in_default c = none_found _ _ c.in_default.ensures.cases
 
 pub returns-then-find-m : goal.returns-then-find-m
-returns-then-find-m c = ends (old (begins _ _ _ (search)) zero-le (omega arith) c.find.ensures.value (omega arith)) (omega arith) (omega arith)
-
-pub loop-lo-init : goal.loop-lo-init
-loop-lo-init c = new (begins _ _ _ (search)) zero-le (omega arith) c.find.ensures.value (omega arith)
-
-pub loop-lo-preserved-then-find-m-2 : goal.loop-lo-preserved-then-find-m-2
-loop-lo-preserved-then-find-m-2 c = old c.loop-lo.invariant (omega arith) (omega arith) c.find-in-loop-lo.ensures.value c.if-find-m-2.true
-
-pub loop-lo-preserved : goal.loop-lo-preserved
-loop-lo-preserved c = new c.loop-lo.invariant (omega arith) (omega arith) c.find-in-loop-lo.ensures.value (omega arith)
+returns-then-find-m c = all_old c.requires _ _ c.in-Some.ensures.cases c.find.ensures.value c.if-find-m.true
 
 pub returns : goal.returns
-returns c = ends c.loop-lo.invariant refl (omega arith)
+returns c = parted_at c.requires _ _ c.in-Some.ensures.cases c.find.ensures.value c.if-find-m.false c.partition_point.ensures.bound
+    (λ z. IsPartitionPoint-from_clause (early c.args.index.now c.args.m) _ _ c.partition_point.ensures.partitioned z (λ a r f' k. search rules))

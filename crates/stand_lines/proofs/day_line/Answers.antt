@@ -12,8 +12,8 @@ slice_bounds-put_numbers-end-2 c = sym (length-take-le _ _ (omega (arith, day_kn
 pub returns-then-k-eq0 : goal.returns-then-k-eq0
 returns-then-k-eq0 c = day_none (search) (c.day-o.ensures []) (omega arith) (search rules) (search) (search)
 
-pub overflow_cast-comparisons : goal.overflow_cast-comparisons
-overflow_cast-comparisons c = omega (arith, day_known c.requires (c.day-o.ensures []) (omega arith))
+pub overflow_cast-o : goal.overflow_cast-o
+overflow_cast-o c = omega (arith, day_known c.requires (c.day-o.ensures []) (omega arith))
 
 pub overflow_cast-k : goal.overflow_cast-k
 overflow_cast-k c = omega (arith, day_known c.requires (c.day-o.ensures []) (omega arith))

@@ -3,4 +3,4 @@ use Rattle.standing.proofs.{Loading.fresh_is}
 use Rattle.standing.proofs.fresh.Goals as goal
 
 pub returns : goal.returns
-returns c = rw (c.blank-none.ensures, c.none-entry.ensures) fresh_is
+returns c = rw (c.blank.ensures, c.none.ensures) fresh_is

@@ -1,9 +1,7 @@
-use Rattle.basis.proofs.Prelude.{◌≡◌, ◌+◌, ◌-◌, ◌≤◌, drop, take}
-use Rattle.standing_words.proofs.Names.{lead, passes, spells_of, stands_at}
+use Rattle.basis.proofs.Prelude.{◌≡◌, ◌<◌, ℕ, get_or, true}
+use Rattle.standing_words.proofs.{Names.{blank, spells_of}, Reading.{passes}}
 use Rattle.standing_words.proofs.find.Given as goal
 
+-- no spell before the place i has the number
 abbrev pub invariant-loop-i : goal.invariant-loop-i
-invariant-loop-i l = (l.i ≤ l.n) × (stands_at l.k (take l.n (spells_of l.words)) ≡ l.i + lead (passes l.k) (drop l.i (take l.n (spells_of l.words))))
-
-abbrev pub decreases-loop-i : goal.decreases-loop-i
-decreases-loop-i l = l.n - l.i
+invariant-loop-i l = (j : ℕ) → j < l.i → passes l.k (get_or (spells_of l.words) j blank) ≡ true

@@ -1,7 +1,0 @@
--- `phayaklit::phayaklit_cover` meets its contract. Assumes nothing.
-use Rattle.basis.proofs.Prelude.{rules}
-use Rattle.hosting.proofs.Host.{told_asked}
-use Rattle.phayaklit.proofs.phayaklit_cover.{Statement.statement, Tie.{close, spec}}
-
-pub phayaklit_cover_spec : {M : Type 1} → statement M
-phayaklit_cover_spec = close (spec (λ c. search rules) (λ c. search rules) (λ c. search rules) (λ c. search told_asked))
