@@ -1,158 +1,75 @@
 -- The laws that the code follows: a byte put into its place, a byte of a line, a byte of a text. Assumes nothing.
-use Rattle.framing.proofs.Names.{Advanced, Advances, Bool, Frame, Framed, HostAdvances, Kept, List, Part, PlaceIn, Keeps, TakesLine, TakesText, Whole, [], ◌++◌, ◌+◌, ◌-◌, ◌<◌, ◌∙◌, ◌∷◌, ◌≡◌, ◌≤◌, advanced_of, after, arith, drop, drop-drop, false, feed, going, in_line, length, length-append, length-drop, length-take-le, line_fed, line_in, next, not, not-false, not-true, part_of, partial_of, progress_of, ready, refl, refused_frame, settled, suc, sym, take, take_all, take-append-add, taken_of, through, true, wants, ℕ, is_line_feed, Option, Some, None, min, position, position_or_len, put_mid, Post-is, Plain, kept_take, append_assoc, append-nil, ap, zero-add, by_test, by_cases, leb, leb-true, leb-false, ltb, ltb-true, ltb-false, eqb, eqb-true, subst, take_at, drop_at, take-append-drop, take-length, drop-length, drop_of_length-le}
+use Rattle.framing.proofs.Names.{Advanced, Advances, Bool, Frame, Framed, HostAdvances, Keeps, Kept, List, None, Option, Part, Partial, PlaceIn, Progress, Some, TakesLine, TakesText, Whole, [], ◌++◌, ◌+◌, ◌-◌, ◌<◌, ◌∙◌, ◌∷◌, ◌≡◌, ◌≤◌, add-one, advanced_of, after, ap, arith, by_test, done, drop, drop-cons, drop-drop, drop-length, drop_of_length-le, drop-set-lt, eq-eqb, false, feed, get_or, going, in_line, kept, leb, leb-false, leb-true, length, length-append, length-set, length-take, length-take-le, line_fed, line_in, min, ne_eqb, next, not, not-false, not-true, part_of, partial_of, progress_of, ready, refl, refused_frame, sent_of, set, settled, suc, sym, take, take_all, take-append_seam, take-length, take-suc-set, taken_of, through, true, wants, ℕ}
 
--- ---- Bytes put after others
+-- ---- A byte put after others
 
-pub bytes_put : (l s : List ℕ) (n c : ℕ) (part : List ℕ) → n ≤ length l → c ≡ min (length s) (length l - n) → part ≡ take c s
-    → Keeps l n s (n + c) (put_mid n (n + c - n) l part)
-bytes_put l s n c part h is whole =
-    let front : length (take n l) ≡ n = length-take-le n l h in
-    let some : length (take c s) ≡ c = length-take-le c s (omega arith) in
-    let same : put_mid n (n + c - n) l part ≡ take n l ++ (take c s ++ drop (n + c) l) = rw (whole, Post-is n (n + c) l (omega arith)) refl in
-    let both : length (take n l ++ take c s) ≡ n + c = omega (arith, length-append (take n l) (take c s)) in
-    let room : take (length l - n) s ≡ take c s
-    = by_test (leb (length s) (length l - n))
-    (λ e. take_all _ s (leb-true _ _ e) ∙ sym (take_all c s (omega (arith, leb-true _ _ e))))
-    (λ e. let z : c ≡ length l - n = omega (arith, leb-false _ _ e) in rw z refl) in
-    let ends : length l ≡ length (take n l) + (length l - n) = omega arith in
-    let all : take (length l) (take n l ++ s) ≡ take n l ++ take c s
-    = ap (λ (k : ℕ). take k (take n l ++ s)) ends ∙ take-append-add (take n l) s (length l - n) ∙ ap (λ (t : List ℕ). take n l ++ t) room in
-    rw (same, ← append_assoc) (record {
-      sized = omega (arith, length-append (take n l ++ take c s) (drop (n + c) l), length-drop (n + c) l);
-      within = omega arith;
-      bytes_kept = take_at (take n l ++ take c s) (drop (n + c) l) (n + c) both ∙ sym all;
-      rest = drop_at (take n l ++ take c s) (drop (n + c) l) (n + c) both;
-    })
+pub byte_put : (l : List ℕ) (n b : ℕ) → n < length l → Keeps l n (b ∷ []) (n + 1) (set l n b)
+byte_put l n b h = record {
+  sized = length-set l n b;
+  within = omega arith;
+  bytes_kept = rw (add-one, take-suc-set) (sym (take_all (length l) (take n l ++ b ∷ []) (omega (arith, length-append (take n l) (b ∷ []), length-take-le n l (omega arith)))));
+  rest = drop-set-lt (n + 1) l n b (omega arith);
+}
 
--- ---- What bytes make. Those of a line, none of them LF
+-- where there is no room
+pub byte_passed : (l : List ℕ) (n b : ℕ) → length l ≤ n → n ≤ length l → Keeps l n (b ∷ []) n l
+byte_passed l n b h k =
+    let e : n ≡ length l = omega arith in
+    record { sized = refl; within = k; bytes_kept = rw (e, take-length, take-append_seam); rest = refl }
 
-line_on : (k s t : List ℕ) → Plain s → next (in_line (take 65537 k)) (s ++ t) ≡ next (in_line (take 65537 (k ++ s))) t
-unfolding next feed line_fed through
-line_on k [] t h = rw append-nil
-line_on k (b ∷ s) t h =
-    rw h.0 (ap (λ (l : List ℕ). next (in_line l) (s ++ t)) (kept_take 65537 k b) ∙ rw append_assoc at (line_on (k ++ b ∷ []) s t h.1))
+-- no fewer bytes than before
+more : {l l' s : List ℕ} {n r : ℕ} → n ≤ length l → Keeps l n s r l' → n ≤ r
+more {l} {l'} {s} {n} {r} h k =
+    omega (arith, ap length k.bytes_kept, k.within, k.sized, length-take r l', length-take (length l) (take n l ++ s), length-append (take n l) s, length-take n l)
 
--- a line that is not whole, and one that ends
-line_part : (k s : List ℕ) → Plain s → next (in_line (take 65537 k)) s ≡ going (in_line (take 65537 (k ++ s)))
+-- the places past it keep what they held
+pub kept_on : (l₀ : List ℕ) {l l' s : List ℕ} {n r : ℕ} → Keeps l n s r l' → n ≤ length l → Kept n l₀ l → Kept r l₀ l'
+kept_on l₀ {l} {n = n} {r} p h e =
+    let k : r ≡ n + (r - n) = omega (arith, more h p) in
+    p.rest ∙ rw (k, ← drop-drop (r - n) n l, ← drop-drop (r - n) n l₀, e)
+
+-- ---- A byte taken. What the bytes from a place on make is P
+
+pub next_end : {p : Partial} (a : List ℕ) (at : ℕ) {P : Progress} → length a ≤ at → next p (drop at a) ≡ P → going p ≡ P
 unfolding next
-line_part k s h = rw append-nil at (line_on k s [] h)
+next_end a at h e = rw drop_of_length-le at e
 
-line_ends : (k s t : List ℕ) → Plain s → let line = take 65537 (k ++ (s ++ 10 ∷ [])) in next (in_line (take 65537 k)) (s ++ 10 ∷ t) ≡ after (settled line [] (wants line)) t
-unfolding next feed line_fed
-line_ends k s t h = line_on k s (10 ∷ t) h ∙ rw (kept_take 65537 (k ++ s) 10, append_assoc)
+module _ (a : List ℕ) (at : ℕ) {l l' : List ℕ} {n r : ℕ} (h : at < length a) (p : Keeps l n (get_or a at 0 ∷ []) r l') {P : Progress} where
+  module _ (long : length l ≡ 65537) (e : next (in_line (take n l)) (drop at a) ≡ P) where
+    fed : after (line_fed (take r l') (get_or a at 0)) (drop (at + 1) a) ≡ P
+    unfolding next feed kept
+    fed = rw (p.bytes_kept, long, add-one) (rw (drop-cons a at 0) at e)
 
--- those of a text, after which n are still wanted
-text_on : (line q p t : List ℕ) (n : ℕ) → after (settled line (take 65536 q) (length p + n)) (p ++ t) ≡ after (settled line (take 65536 (q ++ p)) n) t
-unfolding next feed settled through
-text_on line q [] t n = rw (zero-add, append-nil)
-text_on line q (b ∷ p) t n = let z : suc (length p) + n ≡ suc (length p + n) = omega arith in rw (z, kept_take 65536 q b, text_on line (q ++ b ∷ []) p t n, append_assoc)
+    pub line_on : (get_or a at 0 ≡ 10 → ⊥) → next (in_line (take r l')) (drop (at + 1) a) ≡ P
+    unfolding line_fed through
+    line_on k = rw (ne_eqb (get_or a at 0) 10 k) at fed
 
--- ---- The first LF: the bytes before it are none, and it stands there
+    pub line_ends : get_or a at 0 ≡ 10 → after (settled (take r l') [] (wants (take r l'))) (drop (at + 1) a) ≡ P
+    unfolding line_fed
+    line_ends k = rw (eq-eqb (get_or a at 0) 10 k) at fed
 
--- LF stands at the place i
-pub record Ends (i : ℕ) (s : List ℕ) : Type 0 where
-  pub taken : take (suc i) s ≡ take i s ++ 10 ∷ []
-  pub left : drop i s ≡ 10 ∷ drop (suc i) s
+-- ---- A text. What the bytes make, whatever line of n bytes they come after, with m bytes of the text kept and w wanted
 
-first_lf : (s : List ℕ) → Plain (take (position_or_len is_line_feed s) s) × (position_or_len is_line_feed s ≤ length s)
-    × (position_or_len is_line_feed s < length s → Ends (position_or_len is_line_feed s) s)
-first_lf [] = (tt, omega arith, λ h. absurd (omega arith))
-first_lf (b ∷ s) =
-    let so = first_lf s in
-    let one : 1 + position_or_len is_line_feed s ≡ suc (position_or_len is_line_feed s) = omega arith in
-    let P : ℕ → Type 0 = λ m. Plain (take m (b ∷ s)) × (m ≤ suc (length s)) × (m < suc (length s) → Ends m (b ∷ s)) in
-    by_cases P (not (eqb b 10))
-    (λ e. rw one ((not-true (eqb b 10) e, so.0), omega arith, λ h. let n = so.2 (omega arith) in record { taken = ap (λ (l : List ℕ). b ∷ l) n.taken; left = n.left }))
-    (λ e. let is : b ≡ 10 = eqb-true b 10 (not-false (eqb b 10) e) in (tt, omega arith, λ h. record { taken = rw is refl; left = rw is refl }))
+abbrev pub made : ℕ → List ℕ → List ℕ → ℕ → List ℕ → ℕ → ℕ → Progress
+made n line p m a w at = after (settled (take n line) (take m p) w) (drop at a)
 
-pub lf_some : (s : List ℕ) (i : ℕ) → Some i ≡ position is_line_feed s → Plain (take i s) × (i < length s) × Ends i s
-lf_some s i e =
-    let q = position_or_len is_line_feed s in
-    let so = first_lf s in
-    let P : ℕ → Type 0 = λ m. Plain (take m s) × (m < length s) × Ends m s in
-    by_test (ltb q (length s))
-    (λ t. let is : q ≡ i = (let f : Some i ≡ Some q = rw t at e in cc) in subst P is (so.0, ltb-true _ _ t, so.2 (ltb-true _ _ t)))
-    (λ t. let f : Some i ≡ None = rw t at e in cc)
+module _ (n m m₀ w w₀ at from : ℕ) (a p p₀ : List ℕ) (e : (line : List ℕ) → made n line p m a w at ≡ made n line p₀ m₀ a w₀ from) where
+  pub text_on : at < length a → 0 < w → length p ≡ 65536 → {r : ℕ} {p' : List ℕ} → Keeps p m (get_or a at 0 ∷ []) r p'
+      → (line : List ℕ) → made n line p' r a (w - 1) (at + 1) ≡ made n line p₀ m₀ a w₀ from
+  unfolding settled through feed next kept
+  text_on h k long q line =
+      let s : w ≡ suc (w - 1) = omega arith in
+      rw (q.bytes_kept, long, add-one) (rw (s, drop-cons a at 0) at (e line))
 
-pub lf_none : (s : List ℕ) → None ≡ position is_line_feed s → Plain s
-lf_none s e =
-    let q = position_or_len is_line_feed s in
-    let so = first_lf s in
-    by_test (ltb q (length s))
-    (λ t. let f : None ≡ Some q = rw t at e in cc)
-    (λ t. let is : take q s ≡ s = take_all q s (ltb-false _ _ t) in rw is at so.0)
-
--- ---- A line taken, from as much of it as has come
-
-kept_all : (most n : ℕ) (l : List ℕ) → n ≤ most → n ≤ length l → take most (take n l) ≡ take n l
-kept_all most n l h k = take_all most (take n l) (omega (arith, length-take-le n l k))
-
--- what has arrived from a place on
-pub rest_is : (a : List ℕ) (from : ℕ) → take (length a - from) (drop from a) ≡ drop from a
-rest_is a from = take_all _ (drop from a) (omega (arith, length-drop from a))
-
-module _ (n : ℕ) (a : List ℕ) (from : ℕ) {s line line' : List ℕ} {r : ℕ} (here : s ≡ drop from a) (long : length line ≡ 65537) (few : n ≤ 65537) where
-  pub line_taken : (i : ℕ) → Some i ≡ position is_line_feed s → Keeps line n (take (i + 1) s) r line' → TakesLine n a from line (r, Some (from + i + 1)) line'
-  line_taken i e k =
-      let f = lf_some s i e in
-      let front = take n line in
-      let on : i + 1 ≡ suc i = omega arith in
-      let at : from + i + 1 ≡ from + suc i = omega arith in
-      let taken : take r line' ≡ take 65537 (front ++ (take i s ++ 10 ∷ [])) = k.bytes_kept ∙ rw (long, on, f.2.taken) refl in
-      let left : drop (from + i + 1) a ≡ drop (suc i) s = rw (at, here) (sym (drop-drop (suc i) from a)) in
-      let whole : take i s ++ 10 ∷ drop (suc i) s ≡ s = rw (← f.2.left) (take-append-drop i s) in
-      let ends = line_ends front (take i s) (drop (suc i) s) f.0 in
-      let ends' = rw (whole, kept_all 65537 n line few (omega arith)) at ends in
-      record {
-        progress = rw (taken, left, ← here) (sym ends');
-        within = omega (arith, k.within);
-        inside = omega (arith, f.1, ap length here, length-drop from a);
-        rest = k.rest;
-      }
-
-  pub line_left : None ≡ position is_line_feed s → Keeps line n s r line' → TakesLine n a from line (r, None) line'
-  line_left e k =
-      let front = take n line in
-      let taken : take r line' ≡ take 65537 (front ++ s) = k.bytes_kept ∙ rw long refl in
-      let part = rw (kept_all 65537 n line few (omega arith)) at (line_part front s (lf_none s e)) in
-      record { progress = rw (taken, ← here) (sym part); within = omega (arith, k.within); inside = tt; rest = k.rest }
-
--- ---- A text taken
-
-module _ (n m w : ℕ) (a : List ℕ) (from c : ℕ) {s p p' : List ℕ} {r : ℕ} (here : s ≡ drop from a) (long : length p ≡ 65536) (few : m ≤ 65536)
-    (is : c ≡ min (length s) w) (k : Keeps p m (take c s) r p') where
-  text_goes_on : (line : List ℕ) → after (settled (take n line) (take r p') (w - c)) (drop (from + c) a) ≡ after (settled (take n line) (take m p) w) (drop from a)
-  text_goes_on line =
-      let taken : take r p' ≡ take 65536 (take m p ++ take c s) = k.bytes_kept ∙ rw long refl in
-      let left : drop (from + c) a ≡ drop c s = rw here (sym (drop-drop c from a)) in
-      let some : length (take c s) ≡ c = length-take-le c s (omega arith) in
-      let sum : length (take c s) + (w - c) ≡ w = omega arith in
-      let on = text_on (take n line) (take m p) (take c s) (drop c s) (w - c) in
-      let on' = rw (sum, take-append-drop c s, kept_all 65536 m p few (omega arith)) at on in
-      rw (taken, left, ← here) (sym on')
-
-  pub text_part : n ≤ 65537 → 0 < w - c → TakesText n m w a from p (Part (record { line = n; payload = r; wanted = w - c })) p'
+  pub text_part : length a ≤ at → 0 < w → (line : List ℕ) → going (part_of (take n line) (take m p) w) ≡ made n line p₀ m₀ a w₀ from
   unfolding settled through part_of next
-  text_part f h =
-      let more : w - c ≡ suc (w - c - 1) = omega arith in
-      let none : drop (from + c) a ≡ [] = drop_of_length-le a {i = from + c} (omega (arith, ap length here, length-drop from a)) in
-      record {
-        progress = λ line. rw more (rw (more, none) at (text_goes_on line));
-        within = record { fits = record { line = f; payload = omega (arith, k.within) }; bare = λ e. absurd (omega arith) };
-        line = refl;
-        rest = k.rest;
-      }
+  text_part h k line =
+      let s : w ≡ suc (w - 1) = omega arith in
+      rw s (rw (s, drop_of_length-le a {i = at}) at (e line))
 
-  pub text_whole : n ≤ 65537 → from ≤ length a → w - c ≤ 0 → TakesText n m w a from p (Whole n r (from + c)) p'
+  pub text_whole : w ≤ 0 → (line : List ℕ) → done (sent_of n m line p) (drop at a) ≡ made n line p₀ m₀ a w₀ from
   unfolding settled through
-  text_whole f g h =
-      let none : w - c ≡ 0 = omega arith in
-      record {
-        progress = λ line. rw none at (text_goes_on line);
-        within = (record { line = f; payload = omega (arith, k.within) }, omega (arith, ap length here, length-drop from a));
-        line = refl;
-        rest = k.rest;
-      }
+  text_whole k line = let z : w ≡ 0 = omega arith in rw z at (e line)
 
 -- ---- A request, from as much of both lists as there is and a place of what has arrived
 

@@ -1,5 +1,5 @@
 -- The contracts of the private functions. Assumes nothing.
-use Rattle.std.specs.Prelude.{ℕ, ◌≤◌, ◌≡◌, ◌==◌, Bool, Option, Some, None, IfSome, List, [], ◌++◌, length, take, drop}
+use Rattle.std.specs.Prelude.{ℕ, ◌≤◌, ◌≡◌, Option, Some, None, IfSome, List, [], ◌++◌, length, take, drop}
 use Rattle.streams.specs.declared.Framed.{Framed}
 use Rattle.streams.specs.Stream.{in_line, wants, settled}
 use Rattle.streams.specs.Advancing.{Progress, going, next, after, progress_of, Within, Kept, line_in, text_in}
@@ -10,10 +10,6 @@ pub record Keeps (into : List ℕ) (n : ℕ) (bytes : List ℕ) (r : ℕ) (into'
   pub within : r ≤ length into
   pub bytes_kept : take r into' ≡ take (length into) (take n into ++ bytes)
   pub rest : Kept r into into'
-
--- LF
-abbrev pub is_line_feed : ℕ → Bool
-is_line_feed b = b == 10
 
 -- r is the place n of a list, or its end where it has fewer places: the same stands before it, and the same from it on
 pub record PlaceIn (l : List ℕ) (n r : ℕ) : Type 0 where

@@ -1,11 +1,11 @@
 // The bytes that are sent to `serve`, cut into requests as they arrive.
 #![tactic(auto)]
 
-ghost use Rattle.std.specs.Prelude.{◌≡◌, ◌≤◌, length, take, position};
+ghost use Rattle.std.specs.Prelude.{◌≡◌, ◌≤◌, ◌∷◌, [], length, take};
 ghost use Rattle.streams.specs.Stream.{wants};
 ghost use Rattle.streams.specs.Advancing.{Fits, Advances, ready, refused_frame, HostAdvances};
 ghost use Rattle.streams.specs.History.{opened};
-ghost use Rattle.framing.specs.Clauses.{Keeps, is_line_feed, TakesLine, TakesText};
+ghost use Rattle.framing.specs.Clauses.{Keeps, TakesLine, TakesText};
 
 use streams::{Advanced, Frame, Framed, LINE, TEXT};
 
@@ -20,35 +20,34 @@ pub fn opened() -> Frame
     }
 }
 
-// The bytes put after the first n of a list, as many as there is room for: how many it has then.
-fn keep(into: &mut [u8], n: usize, bytes: &[u8]) -> usize
+// The byte put after the first n of a list, where there is room for it: how many bytes it has then.
+fn put(into: &mut [u8], n: usize, b: u8) -> usize
     requires { n ≤ length into.old }
-    ensures { Keeps into.old n bytes.now result into.new }
+    ensures { Keeps into.old n (b ∷ []) result into.new }
 {
-    let count = bytes.len().min(into.len() - n);
-    let end = n + count;
-    into[n..end].copy_from_slice(&bytes[..count]);
-    end
-}
-
-// The place of the first LF.
-fn line_feed(bytes: &[u8]) -> Option<usize>
-    ensures { result ≡ position is_line_feed bytes.now }
-{
-    bytes.iter().position(|b| *b == b'\n')
+    if n < into.len() {
+        into[n] = b;
+        return n + 1;
+    }
+    n
 }
 
 // Takes bytes from the place `from` on up to the next LF: how many bytes the line has, n before, and the place after its LF, where this has
-// come.
+// come. Each byte is looked at and put in one step: bytes often come one at a time, and a copy of several asks the archive for C to find
+// `memmove`.
 fn take_line(n: usize, arrived: &[u8], from: usize, line: &mut [u8; LINE]) -> (usize, Option<usize>)
     requires { (n ≤ 65537) × (from ≤ length arrived.now) }
     ensures { TakesLine n arrived.now from line.old result line.new }
 {
-    let rest = &arrived[from..];
-    match line_feed(rest) {
-        Some(i) => (keep(line, n, &rest[..i + 1]), Some(from + i + 1)),
-        None => (keep(line, n, rest), None),
+    let mut n = n;
+    for at in from..arrived.len() {
+        let b = arrived[at];
+        n = put(line, n, b);
+        if b == b'\n' {
+            return (n, Some(at + 1));
+        }
     }
+    (n, None)
 }
 
 // Takes bytes from the place `from` on, as many as are wanted: the line of n bytes is whole, and the text has m bytes already.
@@ -63,18 +62,22 @@ fn take_text(
     requires { (Fits n m) × (from ≤ length arrived.now) }
     ensures { TakesText n m wanted arrived.now from payload.old result payload.new }
 {
-    let rest = &arrived[from..];
-    let count = rest.len().min(wanted as usize);
-    let m = keep(payload, m, &rest[..count]);
-    let left = wanted - count as u64;
-    if left > 0 {
-        return Framed::Part(Frame {
-            line: n,
-            payload: m,
-            wanted: left,
-        });
+    let mut m = m;
+    let mut left = wanted;
+    let mut at = from;
+    for _ in 0..wanted {
+        if arrived.len() <= at {
+            return Framed::Part(Frame {
+                line: n,
+                payload: m,
+                wanted: left,
+            });
+        }
+        m = put(payload, m, arrived[at]);
+        at += 1;
+        left -= 1;
     }
-    Framed::Whole(n, m, from + count)
+    Framed::Whole(n, m, at)
 }
 
 // How many bytes follow the line of n bytes.

@@ -125,7 +125,8 @@ pub fn put_all<T: Packed>(values: &[T], out: &mut [u16])
 pub fn all_at<T: Packed, const N: usize>(words: &[u16]) -> [T; N]
     ensures { result ≡ parts T.WIDTH T.of_words N words.now }
 {
-    let mut values = [T::at(words, 0); N];
+    // Until it is read each place holds the value of no words, which is one for all words: filling the places then costs no copy of them.
+    let mut values = [T::at(&[], 0); N];
     for (i, x) in values.iter_mut().enumerate() {
         *x = T::at(words, T::WIDTH.saturating_mul(i));
     }

@@ -1,43 +1,32 @@
--- One line: where it ends, and what it meets, at each way out of the judge. Assumes nothing.
-use Rattle.basis.proofs.Prelude.{take, take_all, ◌-◌, add-one, add_assoc, drop-drop, length-drop, ltb, ltb-true, ltb-false, ◌∙◌, ◌≡◌, ap, refl, sym, ◌+◌, ◌<◌, ◌≤◌, ℕ, List, [], ◌∷◌, Bool, false, true, by_test, eqb, drop, drop_of_length-le, get_or, length, arith, le-ltb, ne_eqb}
-use Rattle.std.specs.List.{position, position_or_len}
+-- One line: where it ends, byte by byte, and what it meets, at each way out of the judge. Assumes nothing.
+use Rattle.basis.proofs.Prelude.{◌∙◌, ◌≡◌, ap, sym, ◌+◌, ◌-◌, ◌<◌, ◌≤◌, ℕ, List, [], ◌∷◌, Bool, false, true, by_test, eqb, drop, drop_of_length-le, get_or, length, arith, le-ltb, ne_eqb}
 use Rattle.std.specs.Prelude.{Option, Some, None, Ok, Err}
 use Rattle.refusal.{specs.{declared.Refusal.Refusal, Numbers.{number_of}}, proofs.Numbers.refused}
 use Rattle.fields.specs.Answers.{Reads as Answers}
-use Rattle.register_sift.proofs.Names.{Spell, refusal_of, Found, said, read_line, after_line, verdict, verdict_none, Past, Marks, Judges}
+use Rattle.register_sift.proofs.Names.{Spell, refusal_of, Found, here, said, read_line, after_line, byte_passed, verdict, verdict_none, Past, Marks, Judges}
 
--- ---- Its end, at the first LF
+-- ---- Its end: what follows the line is what follows it from the place before `next` on
 
--- the first place of an LF, or the length
-abbrev lf_place : List ℕ → ℕ
-lf_place t = position_or_len (λ b. eqb b 10) t
-
-after_lf : (t : List ℕ) → after_line t ≡ drop (lf_place t + 1) t
+-- after the last byte nothing follows, whatever it is
+last : (b : ℕ) → after_line (b ∷ []) ≡ []
 unfolding after_line
-after_lf [] = refl
-after_lf (b ∷ t) = by_test (eqb b 10) (λ e. rw e) (λ e. rw (e, add-one) (after_lf t ∙ ap (λ (n : ℕ). drop n t) (omega arith)))
+last b = by_test (eqb b 10) (λ e. rw e) (λ e. rw e)
 
-module _ (text : List ℕ) (at : ℕ) (h : at < length text) where
-  rest_whole : take (length text - at) (drop at text) ≡ drop at text
-  rest_whole = take_all (length text - at) (drop at text) (omega (arith, length-drop at text))
+module _ (text : List ℕ) (at next : ℕ) (e : after_line (drop at text) ≡ after_line (drop (next - 1) text)) (l : at < next) where
+  on : next - 1 + 1 ≡ next
+  on = omega arith
 
-  pub ends_at : (i : ℕ) → Some i ≡ position (λ b. eqb b 10) (take (length text - at) (drop at text)) → Past text at (at + i + 1)
-  ends_at i e = by_test (ltb (lf_place (drop at text)) (length (drop at text)))
-      (λ l.
-      let here : i ≡ lf_place (drop at text) = cc (rw (rest_whole, l) at e) in
-      let rest : drop (at + i + 1) text ≡ after_line (drop at text) = rw (here, after_lf (drop at text), drop-drop, ← add_assoc) in
-      let inside : at + i + 1 ≤ length text = omega (arith, ltb-true _ _ l, length-drop at text) in
-      search arith)
-      (λ l. absurd (cc (rw (rest_whole, l) at e)))
+  pub ends_here : next < length text → get_or text (next - 1) 0 ≡ 10 → Past text at next
+  ends_here h b = unfold after_line in let rest : after_line (drop at text) ≡ drop next text = e ∙ rw (here text (next - 1) (omega arith), b, on) in search arith
 
-  pub ends_text : None ≡ position (λ b. eqb b 10) (take (length text - at) (drop at text)) → Past text at (length text)
-  ends_text e = by_test (ltb (lf_place (drop at text)) (length (drop at text)))
-      (λ l. absurd (cc (rw (rest_whole, l) at e)))
-      (λ l.
-      let over : length text ≤ at + (lf_place (drop at text) + 1) = omega (arith, ltb-false _ _ l, length-drop at text) in
-      let none : after_line (drop at text) ≡ [] = after_lf (drop at text) ∙ drop-drop (lf_place (drop at text) + 1) at text ∙ drop_of_length-le text over in
-      let rest : drop (length text) text ≡ after_line (drop at text) = rw none (drop_of_length-le text (omega arith)) in
-      search arith)
+  pub goes_on : next < length text → (get_or text (next - 1) 0 ≡ 10 → ⊥) → after_line (drop at text) ≡ after_line (drop (next + 1 - 1) text)
+  goes_on h n = let z : next - 1 + 1 ≡ next + 1 - 1 = omega arith in
+      e ∙ ap after_line (here text (next - 1) (omega arith)) ∙ byte_passed (get_or text (next - 1) 0) (drop (next - 1 + 1) text) n ∙ ap (λ (i : ℕ). after_line (drop i text)) z
+
+  pub ends_text : at < length text → next ≡ length text → Past text at (length text)
+  ends_text k h = let none : drop next text ≡ [] = drop_of_length-le text {i = next} (omega arith) in
+      let after : after_line (drop at text) ≡ [] = e ∙ ap after_line (here text (next - 1) (omega arith)) ∙ rw (on, none) (last (get_or text (next - 1) 0)) in
+      let rest : drop (length text) text ≡ after_line (drop at text) = rw (after, ← h) none in search arith
 
 -- ---- What it meets
 

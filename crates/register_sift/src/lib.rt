@@ -1,7 +1,7 @@
 // The lines of a damaged register text gone through from the top, each kept or dropped.
 #![tactic(auto)]
 
-ghost use Rattle.std.specs.Prelude.{◌≡◌, ◌==◌, ◌≤◌, ◌<◌, length, position};
+ghost use Rattle.std.specs.Prelude.{◌≤◌, ◌<◌, length};
 ghost use Rattle.register_sift.specs.Sifting.{within_limit, Sifts};
 ghost use Rattle.register_sift.specs.Clauses.{Past, Judges};
 
@@ -13,22 +13,17 @@ pub const TEXT: usize = 65536;
 
 // ---- A line
 
-// The place of the first LF.
-fn first_lf(text: &[u8]) -> Option<usize>
-    ensures { result ≡ position (λ b. b == 10) text.now }
-{
-    text.iter().position(|b| *b == b'\n')
-}
-
-// The place where the next line begins, or the end.
+// The place where the next line begins, or the end. The last byte is not looked at: the end follows it, whatever it is.
 fn after_line(text: &[u8], at: usize) -> usize
     requires { at < length text.now }
     ensures { Past text.now at result }
 {
-    match first_lf(&text[at..]) {
-        Some(i) => at + i + 1,
-        None => text.len(),
+    for next in at + 1..text.len() {
+        if text[next - 1] == b'\n' {
+            return next;
+        }
     }
+    text.len()
 }
 
 // The line at `at`, after `count` kept ones, whose numbers are marked: its spell, or what it met, 12, 1 to 5, 6, 8.

@@ -1,5 +1,5 @@
 -- The steps of the days question, apart from the code. Assumes nothing.
-use Rattle.basis.proofs.Prelude.{◌∙◌, ◌≡◌, ap, sym, ◌*◌, ◌+◌, ◌-◌, ◌<◌, ◌≤◌, zero-le, ℕ, List, [], ◌++◌, ◌∷◌, append_assoc, append-nil, map-append, Bool, false, true, ltb, drop, drop_of_length-le, get_or, length, length-append, length-drop, length-map, take, take-append-drop, drop_at, drop-cons, length-take-le, take_all, take_at, add-one, arith, le-ltb, lt-ltb, ltb-true, both, not, length-take}
+use Rattle.basis.proofs.Prelude.{◌∙◌, ◌≡◌, ap, sym, ◌*◌, ◌+◌, ◌-◌, ◌<◌, ◌≤◌, zero-le, ℕ, List, [], ◌++◌, ◌∷◌, append_assoc, append-nil, map-append, Bool, false, true, ltb, drop, drop_of_length-le, get_or, length, length-append, length-drop, length-map, take, take-append-drop, drop_at, drop-cons, length-replicate, replicate, length-take-le, take_all, take_at, add-one, arith, le-ltb, lt-ltb, ltb-true, both, not, length-take}
 use Rattle.std.specs.Prelude.{Result, Ok, Err, IsOk, MatchBool, zero, suc, refl}
 use Rattle.std.specs.List.{AllWithin, HoldsAt}
 use mathlib.Core.Bool.{and-false}
@@ -233,3 +233,8 @@ module _ (ix ds : List ℕ) {t : Bool} (e : t ≡ days_ok ds) (f : not t ≡ fal
       result = rw a.count;
       out = z ∙ rw a.first (overlaid_all (days_from ix 0 ds) out (rw a.count at h));
     })
+
+  -- of no days nothing is gathered
+  pub none_asked : length ds ≤ 0 → (out : List ℕ) → Gave (record { refusal = 0; count = 0; comparisons = 0 }) out (days_in ix ds out)
+  none_asked h out = let none : Gathered ix ds (replicate 2048 0) (replicate 2048 0) 0 = ends (begins (asks_gather (length-replicate {A = ℕ} 2048 0))) h in
+      all_written none out zero-le (sym (overlaid_all [] out zero-le))

@@ -95,7 +95,8 @@ fn gather(index: &[u16; INDEX], days: &[u16], answer: &mut [u16]) -> usize
     at
 }
 
-// The days, strictly rising: the spells that contain at least one of them. No comparisons are reported.
+// The days, strictly rising: the spells that contain at least one of them. No comparisons are reported. Of no days there are none, and no
+// answer is laid out.
 pub fn days(index: &[u16; INDEX], days: &[u16], out: &mut [u16]) -> Result<Listed, Refusal>
     requires { Built index.now }
     ensures { Gave (told_in result) out.new (days_in index.now days.now out.old) }
@@ -105,6 +106,12 @@ pub fn days(index: &[u16; INDEX], days: &[u16], out: &mut [u16]) -> Result<Liste
     }
     if !in_order(days) {
         return Err(Refusal::UnsortedDays);
+    }
+    if days.is_empty() {
+        return Ok(Listed {
+            count: 0,
+            comparisons: 0,
+        });
     }
     let mut answer = [0u16; 2048];
     let n = gather(index, days, &mut answer);

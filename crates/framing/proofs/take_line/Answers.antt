@@ -1,9 +1,12 @@
 -- `framing::take_line` meets its contract. Assumes nothing.
-use Rattle.framing.proofs.{Names.arith, Steps.{rest_is, line_taken, line_left}}
+use Rattle.framing.proofs.{Names.{arith}, Steps.{kept_on, line_ends, line_on, next_end}}
 use Rattle.framing.proofs.take_line.Goals as goal
 
-pub returns-in-Some : goal.returns-in-Some
-returns-in-Some c = search (rest_is, line_taken, arith)
+pub returns-then-b-eq10 : goal.returns-then-b-eq10
+returns-then-b-eq10 c = search (line_ends, kept_on, arith)
 
-pub returns-in-None : goal.returns-in-None
-returns-in-None c = search (rest_is, line_left, arith)
+pub loop-at-preserved : goal.loop-at-preserved
+loop-at-preserved c = search (line_on, kept_on, arith)
+
+pub returns : goal.returns
+returns c = search (next_end, arith)
