@@ -31,17 +31,34 @@ pub fn told(answer: Result<(), Refusal>) -> Outcome
     numbered(refusal::number_in(answer))
 }
 
+// What a question found in the index, by its numbers: a refusal's, or 0, how many are listed, and the comparisons.
+pub fn listing(number: u16, count: usize, comparisons: usize) -> Outcome
+    ensures { result ≡ found_of record { refusal = number; count = count; comparisons = comparisons } }
+{
+    Outcome {
+        count,
+        comparisons,
+        ..numbered(number)
+    }
+}
+
 // What a question found in the index.
 pub fn found(answer: Result<Listed, Refusal>) -> Outcome
     ensures { result ≡ found_of (told_in answer) }
 {
     match answer {
-        Ok(l) => Outcome {
-            count: l.count,
-            comparisons: l.comparisons,
-            ..told(Ok(()))
-        },
+        Ok(l) => listing(0, l.count, l.comparisons),
         Err(refusal) => told(Err(refusal)),
+    }
+}
+
+// What was written of a text, by its numbers: a refusal's, or 0, and the length.
+pub fn writing(number: u16, length: usize) -> Outcome
+    ensures { result ≡ wrote_of record { refusal = number; length = length } }
+{
+    Outcome {
+        length,
+        ..numbered(number)
     }
 }
 
@@ -50,10 +67,7 @@ pub fn wrote(answer: Result<usize, Refusal>) -> Outcome
     ensures { result ≡ wrote_of (written_in answer) }
 {
     match answer {
-        Ok(length) => Outcome {
-            length,
-            ..told(Ok(()))
-        },
+        Ok(length) => writing(0, length),
         Err(refusal) => told(Err(refusal)),
     }
 }
