@@ -199,6 +199,9 @@ fn change(
     }
 }
 
+// The words below this one and from 16 on are edits, which are made on the words of the service where they lie.
+const AFTER_EDITS: u32 = 20;
+
 // What is wanted of the service, where its word does no more than is allowed.
 fn carry(
     words: &mut [u16; SERVICE],
@@ -221,7 +224,9 @@ fn carry(
         return held_back(word, room);
     }
     match wanted {
-        Wanted::Call(call, _) if word < 20 => edit(words, room, word, call, numbers, text, out),
+        Wanted::Call(call, _) if word < AFTER_EDITS => edit(
+            words, room, word, call, numbers, text, out,
+        ),
         _ => change(
             words, index, room, word, power, wanted, payload, days, numbers, text, out,
         ),

@@ -8,11 +8,14 @@ ghost use Rattle.register.specs.Answers.{reading_in, reading_of};
 use refusal::Refusal;
 use register::{Reading, Refused};
 
+// The most bytes of a text.
+const TEXT: usize = 65536;
+
 // The spells of a text, or the first refusal. `seen` marks the numbers of the lines so far.
 pub fn read(text: &[u8]) -> Result<Reading, Refused>
     ensures { reading_in result ≡ reading_of (read_text text.now) }
 {
-    if text.len() > 65536 {
+    if text.len() > TEXT {
         return Err(Refused {
             refusal: Refusal::Malformed,
             line: 0,

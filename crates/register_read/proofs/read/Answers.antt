@@ -4,8 +4,8 @@ use Rattle.refusal.proofs.Numbers.{refused}
 use Rattle.register_read.proofs.Progress.{text_long, begin, is_malformed, refuses_entry, refuses_taken, refuses_misplaced, refuses_full, goes_on, gives}
 use Rattle.register_read.proofs.read.Goals as goal
 
-pub returns-then-text-gt65536 : goal.returns-then-text-gt65536
-returns-then-text-gt65536 c = search text_long
+pub returns-then-text-gt-TEXT : goal.returns-then-text-gt-TEXT
+returns-then-text-gt-TEXT c = search text_long
 
 pub loop-at-init : goal.loop-at-init
 loop-at-init c = search begin
