@@ -84,8 +84,9 @@ def is_public(tokens: Sequence[Token], at: int) -> bool:
 def function_at(tokens: Sequence[Token], at: int, module: str) -> Function:
     """The public function whose `fn` stands at this place."""
     begin = at
-    while tokens[begin].text != "pub":
-        begin -= 1
+    if is_public(tokens, at):
+        while tokens[begin].text != "pub":
+            begin -= 1
     name = tokens[at + 1].text
     while tokens[at].text not in CLAUSES and tokens[at].text not in "{;":
         at = closing(tokens, at) + 1 if tokens[at].text in OPENING else at + 1
@@ -103,25 +104,44 @@ def function_at(tokens: Sequence[Token], at: int, module: str) -> Function:
     return Function("%s::%s" % (module, name), signature, requires)
 
 
-def holders(tokens: Sequence[Token]) -> Iterator[tuple]:
-    """The blocks `impl NAME { .. }` and `mod NAME { .. }`: the name, where each begins and where it ends."""
+class Block(NamedTuple):
+    """A block that holds functions: its name, where it begins and where it ends, and whether it is of a trait, all of whose methods are public."""
+
+    name: str
+    begin: int
+    end: int
+    of_trait: bool
+
+
+def holders(tokens: Sequence[Token]) -> Iterator[Block]:
+    """The blocks `impl NAME { .. }`, `impl TRAIT for NAME { .. }`, `trait NAME { .. }` and `mod NAME { .. }`, each named by what stands before its bracket."""
     for at, token in enumerate(tokens):
-        if token.text in ("impl", "mod") and tokens[at + 2].text == "{":
-            yield tokens[at + 1].text, at, closing(tokens, at + 2)
+        if token.text in ("impl", "trait", "mod"):
+            words = []
+            for word in tokens[at + 1 :]:
+                if word.text in "{;" or (token.text == "trait" and word.text == ":"):
+                    break
+                words.append(word)
+            opening = next(place for place in range(at, len(tokens)) if tokens[place].text in "{;")
+            if words and tokens[opening].text == "{":
+                yield Block(text_of(words), at, closing(tokens, opening), token.text == "trait" or any(word.text == "for" for word in words))
+
+
+def public_functions(tokens: Sequence[Token], modules: List[str]) -> List[Function]:
+    """The public functions among the tokens, in their order: those that are marked so, and the methods of traits."""
+    blocks = list(holders(tokens))
+    found = []
+    for at, token in enumerate(tokens):
+        within = [block for block in blocks if block.begin < at < block.end]
+        if token.text == "fn" and (is_public(tokens, at) or any(block.of_trait for block in within)):
+            found.append(function_at(tokens, at, "::".join(modules + [block.name for block in within])))
+    return found
 
 
 def functions_in(path: Path) -> List[Function]:
     """The public functions of a source, in their order."""
-    source = path.read_text()
-    tokens = tokens_of(source)
     crate, inner = path.relative_to(CRATES).parts[0], path.relative_to(CRATES).with_suffix("").parts[2:]
-    blocks = list(holders(tokens))
-    found = []
-    for at, token in enumerate(tokens):
-        if token.text == "fn" and is_public(tokens, at):
-            module = [crate] + [part for part in inner if part not in ("lib", "main", "mod")] + [name for name, begin, end in blocks if begin < at < end]
-            found.append(function_at(tokens, at, "::".join(module)))
-    return found
+    return public_functions(tokens_of(path.read_text()), [crate] + [part for part in inner if part not in ("lib", "main", "mod")])
 
 
 def listing() -> str:
@@ -157,22 +177,29 @@ pub fn long(
 pub extern "C" fn exported(n: usize)
     ensures { a }
 { }
-impl Pair { pub fn swap(self) -> Pair requires { y } { self } }
+impl Pair { pub fn swap(self) -> Pair requires { y } { self } fn inner(self) { } }
+pub trait Packed: Copy {
+    const WIDTH: usize;
+    fn at(words: &[u16], at: usize) -> Self
+        requires { at ≤ length words.now }
+        ensures { true };
+}
+impl From<Pair> for u16 { fn from(p: Pair) -> u16 requires { z } { p.a } }
 '''
 
 READ = [
     "m::plain\n    pub fn plain(a: u16) -> bool\n",
     "m::long\n    pub fn long(a: &[u8; 4], b: u8) -> [u16; 3]\n    requires named { f record { a = 1 } }\n    requires small { x ≤ 3 }\n",
     'm::exported\n    pub extern "C" fn exported(n: usize)\n',
-    "m::swap\n    pub fn swap(self) -> Pair\n    requires { y }\n",
+    "m::Pair::swap\n    pub fn swap(self) -> Pair\n    requires { y }\n",
+    "m::Packed::at\n    fn at(words: &[u16], at: usize) -> Self\n    requires { at ≤ length words.now }\n",
+    "m::From<Pair> for u16::from\n    fn from(p: Pair) -> u16\n    requires { z }\n",
 ]
 
 
 def self_test() -> None:
-    tokens = tokens_of(SHAPES)
-    read = [function_at(tokens, at, "m").block() for at, token in enumerate(tokens) if token.text == "fn" and is_public(tokens, at)]
+    read = [function.block() for function in public_functions(tokens_of(SHAPES), ["m"])]
     assert read == READ, read
-    assert [name for name, _, _ in holders(tokens)] == ["Pair"]
 
 
 def main(arguments: Sequence[str]) -> int:
